@@ -1,0 +1,99 @@
+-- Document 01's marked edge readings, as one table under a single statement. Assumes nothing.
+use mathlib.Core.Path.{_≡_, refl}
+use mathlib.Core.List.{List, [], _∷_, map}
+use Prim.Native.Nat.{ℕ, _*_}
+use Rattle.lists.specs.Words.{lowest}
+use Rattle.rules.specs.Numbers.{down, up, tagAt}
+use Rattle.rules.specs.Tables.{Settings, Request, Table, idle}
+use Rattle.rules.specs.Answers.{Printed, shown}
+use Rattle.rules.specs.Sound.{counted, settled, ranges, distinct, lawful, kept, orderly, sound}
+use Rattle.rules.specs.Choice.{dueAt, openAt, passes, sending, earlier, sooner, dropped, byWeight, byReservation, room, choice}
+use Rattle.rules.specs.Events.{Event, arrival, completion, tick, shifted, shiftedNext, adjusted, shareTag, stamped, following, placed, arriveAs, arrive, complete, wait, enter}
+use Rattle.rules.specs.Refusals.{eventTests}
+use Rattle.rules.specs.Run.{decided, step, after, answers, fresh}
+
+-- milliseconds
+abbrev ms : ℕ → ℕ
+ms n = n * 1000000
+
+abbrev settings : (reservation limit shares : ℕ) → Settings
+settings r l s = record { reservation = r; limit = l; shares = s }
+
+-- an arrival and a completion of guest g, and their times in ms
+abbrev comes : (g i : ℕ) → ℕ → Event
+comes g i n = arrival (record { guest = g; id = i }) (ms n)
+
+abbrev ends : (g i : ℕ) → ℕ → Event
+ends g i n = completion (record { guest = g; id = i }) (ms n)
+
+-- how the paper prints a line: nothing, by reservation, by weight, refused
+abbrev - : Printed
+- = record { letter = 45; values = [] }
+
+abbrev R : ℕ → ℕ → Printed
+R g i = record { letter = 82; values = g ∷ i ∷ [] }
+
+abbrev W : ℕ → ℕ → Printed
+W g i = record { letter = 87; values = g ∷ i ∷ [] }
+
+abbrev X : ℕ → Printed
+X n = record { letter = 88; values = n ∷ [] }
+
+-- "depth 4, one guest (reservation 100, limit 250, shares 1), capacity 8"
+abbrev one : Table
+one = fresh 4 8 (settings 100 250 1 ∷ [])
+
+-- "arrivals of ids 1, 2, 3, 4 at 0; ticks at 4, 8, 10, 9; completion of id 1 at 10, twice"
+abbrev ten : List Event
+ten =
+    comes 0 1 0 ∷ comes 0 2 0 ∷ comes 0 3 0 ∷ comes 0 4 0
+    ∷ tick (ms 4) ∷ tick (ms 8) ∷ tick (ms 10) ∷ tick (ms 9)
+    ∷ ends 0 1 10 ∷ ends 0 1 10 ∷ []
+
+-- "Depth 1, two guests without reservation or limit, A with shares 1, B with shares 2."
+abbrev two : Table
+two = fresh 1 8 (settings 0 0 1 ∷ settings 0 0 2 ∷ [])
+
+-- "A's ids 1, 2, 3 at 0", and then
+abbrev three : List Event → List Event
+three es = comes 0 1 0 ∷ comes 0 2 0 ∷ comes 0 3 0 ∷ es
+
+-- the share tags that wait after a run
+abbrev tags : Table → List Event → List ℕ
+tags t es = map Request.stag ((after t es) .waiting)
+
+-- what is printed of a run
+abbrev lines : Table → List Event → List Printed
+lines t es = map shown (answers t es)
+
+pub record Readings : Type 0 where
+  pub reservation-3 : down 3 ≡ 333333333
+  pub limit-3 : up 3 ≡ 333333334
+  pub shares-300 : down 300 ≡ 3333333
+  pub shares-1000000 : down 1000000 ≡ 1000
+  pub next-at : tagAt 10 10 ≡ 10
+  pub next-before : tagAt 9 10 ≡ 10
+  pub next-after : tagAt 11 10 ≡ 11
+  pub ten-answers : lines one ten ≡ R 0 1 ∷ - ∷ - ∷ - ∷ W 0 2 ∷ W 0 3 ∷ R 0 4 ∷ X 6 ∷ - ∷ X 10 ∷ []
+  pub first-tags : tags two (three []) ≡ ms 1000 ∷ ms 2000 ∷ []
+  pub moved-down : tags two (three (comes 1 1 100 ∷ [])) ≡ ms 100 ∷ ms 1100 ∷ ms 100 ∷ []
+  pub tie-to-the-earlier : lines two (three (comes 1 1 100 ∷ ends 0 1 100 ∷ ends 0 2 100 ∷ [])) ≡ W 0 1 ∷ - ∷ - ∷ - ∷ W 0 2 ∷ W 1 1 ∷ []
+  pub moved-up : tags two (three (comes 1 1 1500 ∷ [])) ≡ ms 1500 ∷ ms 2500 ∷ ms 1500 ∷ []
+
+pub readings : Readings
+unfolding down up lowest idle counted settled ranges distinct lawful kept orderly sound dueAt openAt passes sending earlier sooner dropped byWeight byReservation room choice shifted shiftedNext adjusted shareTag stamped following placed arriveAs arrive complete wait enter eventTests decided step after answers fresh
+readings =
+    record {
+      reservation-3 = refl;
+      limit-3 = refl;
+      shares-300 = refl;
+      shares-1000000 = refl;
+      next-at = refl;
+      next-before = refl;
+      next-after = refl;
+      ten-answers = refl;
+      first-tags = refl;
+      moved-down = refl;
+      tie-to-the-earlier = refl;
+      moved-up = refl;
+    }

@@ -1,0 +1,43 @@
+-- Document 01, "Refusal numbers" and the printed lines: the paper's number and values for each case of an answer.
+use mathlib.Core.List.{List, [], _∷_}
+use Prim.Native.Nat.{ℕ}
+use Rattle.rules.specs.declared.Phase.{Phase}
+use Rattle.rules.specs.declared.Phase.the-variants.{Reservation, Weight}
+use Rattle.rules.specs.declared.Refusal.{Refusal}
+use Rattle.rules.specs.declared.Refusal.the-variants.{BadSetting, ShortTable, Unsound, UnknownGuest, TimeAboveCeiling, TimeBeforeLast, IdInUse, NoRoom, TagAboveCeiling, NotInFlight, BadMark, BadVersion, HeaderCut, BadEvent, EventCut}
+use Rattle.rules.specs.declared.Answer.{Answer}
+use Rattle.rules.specs.declared.Answer.the-variants.{Nothing, Sent, Refused}
+
+-- the number of a refusal, from the paper's table
+abbrev pub numberOf : Refusal → ℕ
+numberOf BadSetting = 1
+numberOf ShortTable = 2
+numberOf Unsound = 3
+numberOf UnknownGuest = 4
+numberOf TimeAboveCeiling = 5
+numberOf TimeBeforeLast = 6
+numberOf IdInUse = 7
+numberOf NoRoom = 8
+numberOf TagAboveCeiling = 9
+numberOf NotInFlight = 10
+numberOf BadMark = 11
+numberOf BadVersion = 12
+numberOf HeaderCut = 13
+numberOf BadEvent = 14
+numberOf EventCut = 15
+
+-- "`R` or `W` (phase)": the letter of a phase, as its byte
+abbrev pub letterOf : Phase → ℕ
+letterOf Reservation = 82
+letterOf Weight = 87
+
+-- what the paper shows of an answer: its letter, and the numbers behind it
+pub record Printed : Type 0 where
+  pub letter : ℕ
+  pub values : List ℕ
+
+-- "`-` (accepted, nothing sent), or `R` or `W` (phase) with guest and id sent, or `X` and the refusal number"
+abbrev pub shown : Answer → Printed
+shown Nothing = record { letter = 45; values = [] }
+shown (Sent p g i) = record { letter = letterOf p; values = g ∷ i ∷ [] }
+shown (Refused r) = record { letter = 88; values = numberOf r ∷ [] }

@@ -1,0 +1,101 @@
+-- Document 01, "The choice".
+use mathlib.Core.Bool.{Bool, true, false, not, _&&_, _||_}
+use mathlib.Core.List.{List, [], _∷_, _++_, map}
+use Prim.Native.Nat.{ℕ, _-_}
+use lib.Dec.{ltb, leb}
+use lib.ListN.{length, set}
+use Rattle.lists.specs.Words.{if_then_else_}
+use Rattle.rules.specs.Tables.{Settings, Guest, Request, Table, reserved, limited, rspacing, owner, settingsOf, of, name}
+use Rattle.rules.specs.declared.Phase.the-variants.{Reservation, Weight}
+use Rattle.rules.specs.declared.Answer.{Answer}
+use Rattle.rules.specs.declared.Answer.the-variants.{Nothing, Sent}
+
+-- the table after a choice or an event, and the answer
+pub record Result : Type 0 where
+  pub table : Table
+  pub answer : Answer
+
+-- a request picked from a list, and the others in their order
+pub data Pick : Type 0 where
+  nobody : Pick
+  picked : Request → List Request → Pick
+
+-- q stands in front of the list that the pick is from
+abbrev pub behind : Request → Pick → Pick
+behind q nobody = nobody
+behind q (picked p v) = picked p (q ∷ v)
+
+-- q, in front of w, against the pick from w: the smaller tag wins, "ties to the earlier accepted"
+abbrev pub against : (Request → ℕ) → Request → List Request → Pick → Pick
+against tag q w nobody = picked q w
+against tag q w (picked p v) = if leb (tag q) (tag p) then picked q w else picked p (q ∷ v)
+
+-- of the requests that are ok, "the one with the smallest, ties to the earlier accepted"
+abbrev pub least : (ok : Request → Bool) (tag : Request → ℕ) → List Request → Pick
+least ok tag [] = nobody
+least ok tag (q ∷ w) = if ok q then against tag q w (least ok tag w) else behind q (least ok tag w)
+
+-- "the waiting requests with a reservation tag at or before t"; "Equal counts as due."
+unfoldable pub dueAt : Settings → (now : ℕ) → Request → Bool
+dueAt s now q = reserved s && leb (q .rtag) now
+
+-- "those that are unlimited or have a limit tag at or before t"
+unfoldable pub openAt : Settings → (now : ℕ) → Request → Bool
+openAt s now q = not (limited s) || leb (q .ltag) now
+
+-- what else the reservation phase asks of a request: nothing, "The limit is not looked at."
+unfoldable pub passes : Table → Request → Bool
+passes t q = true
+
+-- what the reservation phase chooses from
+abbrev pub due : Table → Request → Bool
+due t q = dueAt (settingsOf (t .guests) q) (t .time) q && passes t q
+
+-- what the weight phase chooses from
+abbrev pub open? : Table → Request → Bool
+open? t q = openAt (settingsOf (t .guests) q) (t .time) q
+
+-- "when one is sent, the requests behind it move down one place. Requests in flight stand in order of sending": q goes, w stays waiting
+unfoldable pub sending : Table → Request → List Request → Table
+sending t q w = record { setup = t .setup; time = t .time; guests = t .guests; waiting = w; flight = t .flight ++ (name q ∷ []) }
+
+-- a reservation tag drops by d
+unfoldable pub earlier : ℕ → Request → Request
+earlier d q = record { guest = q .guest; id = q .id; rtag = q .rtag - d; ltag = q .ltag; stag = q .stag }
+
+-- a next reservation number drops by d
+unfoldable pub sooner : ℕ → Guest → Guest
+sooner d h = record { settings = h .settings; rnext = h .rnext - d; lnext = h .lnext; snext = h .snext }
+
+-- by how much the drop after a weight send of q is: "its reservation spacing, if it has one", else 0
+abbrev pub dropOf : Table → Request → ℕ
+dropOf t q = rspacing (settingsOf (t .guests) q) q
+
+-- "every reservation tag still waiting of that guest, and its next reservation number, drops", where q was sent
+unfoldable pub dropped : Request → Table → Table
+dropped q t =
+    record {
+      setup = t .setup;
+      time = t .time;
+      guests = set (t .guests) (q .guest) (sooner (dropOf t q) (owner (t .guests) (q .guest)));
+      waiting = map (λ p. if of (q .guest) p then earlier (dropOf t q) p else p) (t .waiting);
+      flight = t .flight;
+    }
+
+-- "Else weight phase .. Else nothing."
+unfoldable pub byWeight : Table → Pick → Result
+byWeight t nobody = record { table = t; answer = Nothing }
+byWeight t (picked q w) = record { table = dropped q (sending t q w); answer = Sent Weight (q .guest) (q .id) }
+
+-- "Reservation phase .. Else weight phase"
+unfoldable pub byReservation : Table → Pick → Result
+byReservation t nobody = byWeight t (least (open? t) Request.stag (t .waiting))
+byReservation t (picked q w) = record { table = sending t q w; answer = Sent Reservation (q .guest) (q .id) }
+
+-- a place is free at the array
+unfoldable pub room : Table → Bool
+room t = ltb (length (t .flight)) (t .setup .depth)
+
+-- "If in flight equals depth, nothing is sent. Otherwise at most one"
+unfoldable pub choice : Table → Result
+choice t = if room t then byReservation t (least (due t) Request.rtag (t .waiting)) else record { table = t; answer = Nothing }

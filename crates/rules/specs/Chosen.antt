@@ -1,0 +1,57 @@
+-- What the choice is, described without computing it: document 01, "The choice", as facts about places.
+use mathlib.Core.Path.{_≡_}
+use mathlib.Core.Bool.{Bool, true, false}
+use mathlib.Core.List.{List}
+use Prim.Native.Nat.{ℕ, _≤_, _<_}
+use lib.ListN.{length, getD}
+use Rattle.lists.specs.Tab.{removeAt}
+use Rattle.rules.specs.Tables.{Request, Table}
+use Rattle.rules.specs.Choice.{Result, due, open?, sending, dropped}
+use Rattle.rules.specs.declared.Phase.the-variants.{Reservation, Weight}
+use Rattle.rules.specs.declared.Answer.the-variants.{Nothing, Sent}
+
+-- the request that stands where there is none
+abbrev pub blank : Request
+blank = record { guest = 0; id = 0; rtag = 0; ltag = 0; stag = 0 }
+
+-- the request at place i, places counted from 0 in order of acceptance
+abbrev pub at : List Request → ℕ → Request
+at w i = getD w i blank
+
+-- of the requests that are ok, place i has the one with the smallest tag, and no earlier one has a tag as small
+pub record Foremost (ok : Request → Bool) (tag : Request → ℕ) (w : List Request) (i : ℕ) : Type 0 where
+  pub inside : i < length w
+  pub good : ok (at w i) ≡ true
+  pub smallest : (j : ℕ) → j < length w → ok (at w j) ≡ true → tag (at w i) ≤ tag (at w j)
+  pub earliest : (j : ℕ) → j < i → ok (at w j) ≡ true → tag (at w i) < tag (at w j)
+
+-- no request is ok
+abbrev pub NoneOf : (Request → Bool) → List Request → Type 0
+NoneOf ok w = (j : ℕ) → j < length w → ok (at w j) ≡ false
+
+-- nothing is sent and nothing changes
+abbrev pub unsent : Table → Result
+unsent t = record { table = t; answer = Nothing }
+
+-- the request at place i is sent by reservation
+abbrev pub sentByReservationAt : Table → ℕ → Result
+sentByReservationAt t i =
+    record {
+      table = sending t (at (t .waiting) i) (removeAt i (t .waiting));
+      answer = Sent Reservation ((at (t .waiting) i) .guest) ((at (t .waiting) i) .id);
+    }
+
+-- the request at place i is sent by weight, and its guest's reservation tags drop
+abbrev pub sentByWeightAt : Table → ℕ → Result
+sentByWeightAt t i =
+    record {
+      table = dropped (at (t .waiting) i) (sending t (at (t .waiting) i) (removeAt i (t .waiting)));
+      answer = Sent Weight ((at (t .waiting) i) .guest) ((at (t .waiting) i) .id);
+    }
+
+-- r is what the choice at the table t must be
+pub data Chosen (t : Table) (r : Result) : Type 0 where
+  full : t .setup .depth ≤ length (t .flight) → r ≡ unsent t → Chosen t r
+  reservation : (i : ℕ) → length (t .flight) < t .setup .depth → Foremost (due t) Request.rtag (t .waiting) i → r ≡ sentByReservationAt t i → Chosen t r
+  weight : (i : ℕ) → length (t .flight) < t .setup .depth → NoneOf (due t) (t .waiting) → Foremost (open? t) Request.stag (t .waiting) i → r ≡ sentByWeightAt t i → Chosen t r
+  nothing : length (t .flight) < t .setup .depth → NoneOf (due t) (t .waiting) → NoneOf (open? t) (t .waiting) → r ≡ unsent t → Chosen t r

@@ -1,0 +1,120 @@
+-- Document 01, "Arrival at time t", with completion and tick: what an event does before the choice is made.
+use mathlib.Core.Bool.{Bool, true, false}
+use mathlib.Core.List.{List, [], _∷_, _++_, map}
+use Prim.Native.Nat.{ℕ, _+_, _-_}
+use lib.ListN.{set}
+use Rattle.lists.specs.Words.{if_then_else_, each, lowest, without}
+use Rattle.rules.specs.Numbers.{tagAt}
+use Rattle.rules.specs.Tables.{Settings, Guest, Request, Flight, Table, reserved, limited, rspacing, lspacing, sspacing, owner, idle, same}
+
+-- what an arrival brings: whose request, and its id
+pub record Arriving : Type 0 where
+  pub guest : ℕ
+  pub id : ℕ
+
+-- "Events: an arrival (guest, 32-bit id, time), a completion (guest, id, time), a tick (time)."
+pub data Event : Type 0 where
+  arrival : Arriving → (now : ℕ) → Event
+  completion : Flight → (now : ℕ) → Event
+  tick : (now : ℕ) → Event
+
+-- the time of an event
+abbrev pub moment : Event → ℕ
+moment (arrival a now) = now
+moment (completion f now) = now
+moment (tick now) = now
+
+-- the name of the request that arrives
+abbrev pub calledBy : Arriving → Flight
+calledBy a = record { guest = a .guest; id = a .id }
+
+-- "let m be the smallest share tag waiting"
+abbrev pub smallest : Table → ℕ
+smallest t = lowest (map Request.stag (t .waiting))
+
+-- a share tag moves by now − m, up or down
+unfoldable pub shifted : (now m : ℕ) → Request → Request
+shifted now m q = record { guest = q .guest; id = q .id; rtag = q .rtag; ltag = q .ltag; stag = q .stag + now - m }
+
+-- a next share number moves by now − m, up or down
+unfoldable pub shiftedNext : (now m : ℕ) → Guest → Guest
+shiftedNext now m h = record { settings = h .settings; rnext = h .rnext; lnext = h .lnext; snext = h .snext + now - m }
+
+-- "If the guest is idle and others have requests waiting .. Every waiting share tag, and the next share number of every guest with
+-- something waiting, moves by t − m (up or down)." Where nothing waits, nothing moves.
+unfoldable pub adjusted : (idle : Bool) (now : ℕ) → Table → Table
+adjusted false now t = t
+adjusted true now t =
+    record {
+      setup = t .setup;
+      time = t .time;
+      guests = each (λ i h. if idle t i then h else shiftedNext now (smallest t) h) 0 (t .guests);
+      waiting = map (shifted now (smallest t)) (t .waiting);
+      flight = t .flight;
+    }
+
+-- a tag of a kind that the guest has; one that it lacks is 0
+abbrev pub tagIf : (has : Bool) (now next : ℕ) → ℕ
+tagIf has now next = if has then tagAt now next else 0
+
+-- the share tag of a request of the guest h
+unfoldable pub shareTag : (idle : Bool) (now : ℕ) → Guest → ℕ
+shareTag idle now h = tagAt now (h .snext)
+
+-- "Each tag it has is the larger of the next number and t."
+unfoldable pub stamped : (idle : Bool) (now : ℕ) → Arriving → Guest → Request
+stamped idle now a h =
+    record {
+      guest = a .guest;
+      id = a .id;
+      rtag = tagIf (reserved (h .settings)) now (h .rnext);
+      ltag = tagIf (limited (h .settings)) now (h .lnext);
+      stag = shareTag idle now h;
+    }
+
+-- "Each next number becomes that tag plus the spacing", where q is the last request of the guest h; of a kind that it lacks this is 0
+unfoldable pub following : Request → Guest → Guest
+following q h =
+    record {
+      settings = h .settings;
+      rnext = q .rtag + rspacing (h .settings) q;
+      lnext = q .ltag + lspacing (h .settings) q;
+      snext = q .stag + sspacing (h .settings) q;
+    }
+
+-- "The request is placed last among the waiting"
+unfoldable pub placed : (now : ℕ) → Request → Table → Table
+placed now q t =
+    record {
+      setup = t .setup;
+      time = now;
+      guests = set (t .guests) (q .guest) (following q (owner (t .guests) (q .guest)));
+      waiting = t .waiting ++ (q ∷ []);
+      flight = t .flight;
+    }
+
+-- the request that arrives, with its tags: "The arriving guest's own next number is not moved."
+abbrev pub stampedFor : (idle : Bool) (now : ℕ) → Arriving → Table → Request
+stampedFor idle now a t = stamped idle now a (owner (t .guests) (a .guest))
+
+-- the steps of an arrival at a guest that is idle or not
+unfoldable pub arriveAs : (idle : Bool) (now : ℕ) → Arriving → Table → Table
+arriveAs idle now a t = placed now (stampedFor idle now a t) (adjusted idle now t)
+
+-- an arrival
+unfoldable pub arrive : (now : ℕ) → Arriving → Table → Table
+arrive now a t = arriveAs (idle t (a .guest)) now a t
+
+-- "A completion takes the named request out of flight"; "close up in the same way"
+unfoldable pub complete : (now : ℕ) → Flight → Table → Table
+complete now f t = record { setup = t .setup; time = now; guests = t .guests; waiting = t .waiting; flight = without (same f) (t .flight) }
+
+-- "A tick only sets the time"
+unfoldable pub wait : (now : ℕ) → Table → Table
+wait now t = record { setup = t .setup; time = now; guests = t .guests; waiting = t .waiting; flight = t .flight }
+
+-- the table as the choice finds it
+unfoldable pub enter : Table → Event → Table
+enter t (arrival a now) = arrive now a t
+enter t (completion f now) = complete now f t
+enter t (tick now) = wait now t

@@ -1,0 +1,11 @@
+pub mod Numbers
+pub mod Tables
+pub mod Answers
+pub mod Sound
+pub mod Choice
+pub mod Events
+pub mod Refusals
+pub mod Run
+pub mod Chosen
+pub mod Order
+pub mod Turn

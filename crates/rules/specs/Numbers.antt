@@ -1,0 +1,32 @@
+-- Document 01, "Numbers": the ceiling, the ranges, the spacings, and the tag that a next number and the time give.
+use mathlib.Core.Bool.{Bool, _&&_}
+use Prim.Native.Nat.{ℕ, _+_, _-_, _/_, max}
+use lib.Dec.{leb}
+
+-- "Time and tags are whole nanoseconds, 0 to 4,611,686,018,427,387,903 (2^62 − 1, the ceiling)."
+abbrev pub ceiling : ℕ
+ceiling = 4611686018427387903
+
+-- a second in nanoseconds
+abbrev pub second : ℕ
+second = 1000000000
+
+-- n lies from a to b, both counted
+abbrev pub within : ℕ → ℕ → ℕ → Bool
+within a b n = leb a n && leb n b
+
+-- "1,000,000,000 / r rounded down"; 0 where n is 0, so that a guest without a reservation has no spacing of it
+unfoldable pub down : ℕ → ℕ
+down n = second / n
+
+-- "1,000,000,000 / l rounded up"; 0 where n is 0
+unfoldable pub up : ℕ → ℕ
+up n = (second + n - 1) / n
+
+-- "Each tag it has is the larger of the next number and t."
+abbrev pub tagAt : ℕ → ℕ → ℕ
+tagAt now next = max next now
+
+-- "for an idle guest it is at most the ceiling plus 1,000,000,000"
+abbrev pub idleBound : ℕ
+idleBound = ceiling + second

@@ -1,0 +1,76 @@
+-- Document 01, "A table is sound when": its rules, in its order.
+use mathlib.Core.Bool.{Bool, true, false, not, _&&_, _||_}
+use mathlib.Core.List.{List, [], _∷_, _++_, map}
+use Prim.Native.Nat.{ℕ, _+_}
+use lib.Dec.{ltb, leb, eqb}
+use lib.ListN.{length}
+use Rattle.lists.specs.Words.{all, below}
+use Rattle.rules.specs.Numbers.{ceiling, within, idleBound}
+use Rattle.rules.specs.Tables.{Settings, Guest, Request, Flight, Table, reserved, limited, rspacing, lspacing, sspacing, owner, mine, lacks, names}
+
+-- "Depth .. 1 to 64", "1 to 64 guests", "Capacity .. 1 to 1,024"
+unfoldable pub counted : (depth guests capacity : ℕ) → Bool
+counted d n c = within 1 64 d && within 1 64 n && within 1 1024 c
+
+-- "reservation 0 to 1,000,000 .. limit 0 to 1,000,000 .. shares 1 to 1,000,000. A reservation above a non-zero limit is bad; equal is good."
+unfoldable pub settled : Settings → Bool
+settled s =
+    leb (s .reservation) 1000000 && leb (s .limit) 1000000 && within 1 1000000 (s .shares)
+    && (not (limited s) || leb (s .reservation) (s .limit))
+
+-- "settings lie in the ranges"
+unfoldable pub ranges : Table → Bool
+ranges t = counted (t .setup .depth) (length (t .guests)) (t .setup .capacity) && all (λ h. settled (h .settings)) (t .guests)
+
+-- "counts do not exceed capacity and depth"
+abbrev pub roomy : Table → Bool
+roomy t = leb (length (t .waiting)) (t .setup .capacity) && leb (length (t .flight)) (t .setup .depth)
+
+-- "the time is at most the ceiling"
+abbrev pub timely : Table → Bool
+timely t = leb (t .time) ceiling
+
+-- "every entry's guest exists"
+abbrev pub known : Table → Bool
+known t = all (λ f. ltb (f .guest) (length (t .guests))) (names t)
+
+-- "no guest has one id twice among waiting and in flight"
+unfoldable pub distinct : List Flight → Bool
+distinct [] = true
+distinct (a ∷ l) = lacks a l && distinct l
+
+-- "tags are at most the ceiling"
+unfoldable pub lawful : Request → Bool
+lawful q = leb (q .rtag) ceiling && leb (q .ltag) ceiling && leb (q .stag) ceiling
+
+-- "each later waiting request's tag .. is at least the earlier one's plus the spacing": the gap is asked between neighbours
+abbrev pub apart : (tag gap : Request → ℕ) → List Request → Bool
+apart tag gap [] = true
+apart tag gap (q ∷ []) = true
+apart tag gap (q ∷ p ∷ l) = leb (tag q + gap q) (tag p) && apart tag gap (p ∷ l)
+
+-- "for a guest with something waiting, each next number it has is its last waiting tag plus the spacing; for an idle guest" it is bounded
+abbrev pub follows : (tag spacing : Request → ℕ) → List Request → ℕ → Bool
+follows tag spacing [] n = leb n idleBound
+follows tag spacing (q ∷ []) n = eqb n (tag q + spacing q)
+follows tag spacing (q ∷ p ∷ l) n = follows tag spacing (p ∷ l) n
+
+-- one kind of tag of what waits of a guest, and the next number of that kind; of a kind that it lacks, "meaningless numbers .. are zero"
+unfoldable pub kept : (has : Bool) (tag gap spacing : Request → ℕ) → List Request → (next : ℕ) → Bool
+kept true tag gap spacing l n = apart tag gap l && follows tag spacing l n
+kept false tag gap spacing l n = eqb n 0 && all (λ q. eqb (tag q) 0) l
+
+-- the three kinds of a guest, of which l waits
+unfoldable pub orderly : Guest → List Request → Bool
+orderly h l =
+    kept (reserved (h .settings)) Request.rtag (rspacing (h .settings)) (rspacing (h .settings)) l (h .rnext)
+    && kept (limited (h .settings)) Request.ltag (lspacing (h .settings)) (lspacing (h .settings)) l (h .lnext)
+    && kept true Request.stag (sspacing (h .settings)) (sspacing (h .settings)) l (h .snext)
+
+-- every guest's numbers are in order
+abbrev pub ordered : Table → Bool
+ordered t = below (length (t .guests)) (λ g. orderly (owner (t .guests) g) (mine g (t .waiting)))
+
+-- "A table is sound when": all of it. That unused places are zero is a rule of the lent numbers, beside their view.
+unfoldable pub sound : Table → Bool
+sound t = ranges t && roomy t && timely t && known t && distinct (names t) && all lawful (t .waiting) && ordered t

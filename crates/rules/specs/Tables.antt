@@ -1,0 +1,105 @@
+-- Document 01, "The tables": guests, waiting requests, requests in flight, and the words about them.
+use mathlib.Core.Bool.{Bool, not, _&&_}
+use mathlib.Core.List.{List, [], _∷_, _++_, map}
+use Prim.Native.Nat.{ℕ}
+use lib.Dec.{ltb, eqb}
+use lib.ListN.{getD}
+use Rattle.lists.specs.Words.{all, filter, empty}
+use Rattle.rules.specs.Numbers.{down, up}
+
+-- "Per guest: reservation .. 0 meaning none; limit .. 0 meaning unlimited; shares"
+pub record Settings : Type 0 where
+  pub reservation : ℕ
+  pub limit : ℕ
+  pub shares : ℕ
+
+-- "A guest record holds its settings and three next numbers: the tag its next request would get were time not looked at."
+pub record Guest : Type 0 where
+  pub settings : Settings
+  pub rnext : ℕ
+  pub lnext : ℕ
+  pub snext : ℕ
+
+-- a waiting request: whose, its id, and its reservation, limit and share tag
+pub record Request : Type 0 where
+  pub guest : ℕ
+  pub id : ℕ
+  pub rtag : ℕ
+  pub ltag : ℕ
+  pub stag : ℕ
+
+-- a request in flight, and the name of any request: whose, and its id
+pub record Flight : Type 0 where
+  pub guest : ℕ
+  pub id : ℕ
+
+-- what is chosen at opening for the whole array
+pub record Setup : Type 0 where
+  pub depth : ℕ
+  pub capacity : ℕ
+
+-- "Waiting requests stand in order of acceptance .. Requests in flight stand in order of sending"
+pub record Table : Type 0 where
+  pub setup : Setup
+  pub time : ℕ
+  pub guests : List Guest
+  pub waiting : List Request
+  pub flight : List Flight
+
+-- "A guest with no reservation has reservation tags .. that mean nothing"
+abbrev pub reserved : Settings → Bool
+reserved s = ltb 0 (s .reservation)
+
+-- "so for the limit of an unlimited guest"
+abbrev pub limited : Settings → Bool
+limited s = ltb 0 (s .limit)
+
+-- how far the next reservation, limit and share tag of a guest with these settings lies past those of its request q
+abbrev pub rspacing : Settings → Request → ℕ
+rspacing s q = down (s .reservation)
+
+abbrev pub lspacing : Settings → Request → ℕ
+lspacing s q = up (s .limit)
+
+abbrev pub sspacing : Settings → Request → ℕ
+sspacing s q = down (s .shares)
+
+-- the guest that stands where there is none
+abbrev pub nobodys : Guest
+nobodys = record { settings = record { reservation = 0; limit = 0; shares = 0 }; rnext = 0; lnext = 0; snext = 0 }
+
+-- guest number g
+abbrev pub owner : List Guest → ℕ → Guest
+owner gs g = getD gs g nobodys
+
+-- the settings of the guest whose request q is
+abbrev pub settingsOf : List Guest → Request → Settings
+settingsOf gs q = (owner gs (q .guest)) .settings
+
+-- q is a request of guest g
+abbrev pub of : ℕ → Request → Bool
+of g q = eqb (q .guest) g
+
+-- what waits of guest g, in order of acceptance
+abbrev pub mine : ℕ → List Request → List Request
+mine g w = filter (of g) w
+
+-- "A guest is idle when nothing of it waits; requests in flight do not count."
+unfoldable pub idle : Table → ℕ → Bool
+idle t g = empty (mine g (t .waiting))
+
+-- the name of a waiting request
+abbrev pub name : Request → Flight
+name q = record { guest = q .guest; id = q .id }
+
+-- the same guest and the same id
+abbrev pub same : Flight → Flight → Bool
+same a b = eqb (a .guest) (b .guest) && eqb (a .id) (b .id)
+
+-- no entry of the list has the name a
+abbrev pub lacks : Flight → List Flight → Bool
+lacks a l = all (λ b. not (same a b)) l
+
+-- the names of all requests, waiting and then in flight
+abbrev pub names : Table → List Flight
+names t = map name (t .waiting) ++ t .flight

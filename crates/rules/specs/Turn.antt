@@ -1,0 +1,46 @@
+-- What demand 3 speaks of: who stands before a request by reservation tag, and the events that find a place free.
+use mathlib.Core.Path.{_≡_}
+use mathlib.Core.Bool.{Bool, _&&_}
+use mathlib.Core.List.{List, [], _∷_, _++_}
+use Prim.Native.Nat.{ℕ, _<_}
+use lib.Dec.{ltb, leb}
+use lib.ListN.{length, getD}
+use Rattle.lists.specs.Words.{if_then_else_, filter}
+use Rattle.rules.specs.Tables.{Request, Table, reserved, settingsOf}
+use Rattle.rules.specs.Choice.{dueAt, room}
+use Rattle.rules.specs.Events.{Event, enter}
+use Rattle.rules.specs.Refusals.{accepted}
+use Rattle.rules.specs.Run.{step}
+use Rattle.rules.specs.declared.Phase.the-variants.{Reservation}
+use Rattle.rules.specs.declared.Answer.{Answer}
+use Rattle.rules.specs.declared.Answer.the-variants.{Nothing, Sent}
+
+-- "requests of guests without a reservation have no such tag"
+abbrev pub tagged : Table → Request → Bool
+tagged t q = reserved (settingsOf (t .guests) q)
+
+-- "a waiting request whose reservation tag is at or before that time"
+abbrev pub isDue : Table → Request → Bool
+isDue t q = dueAt (settingsOf (t .guests) q) (t .time) q
+
+-- the waiting requests that "stand before it by reservation tag, equal tags by order of acceptance", where those of a were accepted before x and those of b after it
+abbrev pub ahead : Table → Request → (a b : List Request) → List Request
+ahead t x a b = filter (λ q. tagged t q && leb (q .rtag) (x .rtag)) a ++ filter (λ q. tagged t q && ltb (q .rtag) (x .rtag)) b
+
+-- "the accepted events that find a place free at the array (a completion frees its own first)"
+abbrev pub findsRoom : Table → Event → Bool
+findsRoom t e = accepted t e && room (enter t e)
+
+-- the answers to those events of a run, in order
+unfoldable pub atFree : Table → List Event → List Answer
+atFree t [] = []
+atFree t (e ∷ es) = if findsRoom t e then step t e .answer ∷ atFree (step t e .table) es else atFree (step t e .table) es
+
+-- q is sent "by reservation"
+abbrev pub sentByReservation : Request → Answer
+sentByReservation q = Sent Reservation (q .guest) (q .id)
+
+-- the answers "send exactly those k first, then this request at the (k+1)th, each by reservation", as far as there are answers
+pub record InTurn (those : List Request) (x : Request) (got : List Answer) : Type 0 where
+  pub those-first : (n : ℕ) → n < length those → n < length got → getD got n Nothing ≡ sentByReservation (getD those n x)
+  pub then-this : length those < length got → getD got (length those) Nothing ≡ sentByReservation x

@@ -1,0 +1,59 @@
+// The types that the code and the definitions of document 01 share. What each case means to the paper is in specs/Answers.antt.
+
+// One guest of the lent table of records: its settings and its three next numbers.
+pub struct Guest {
+    pub reservation: u64,
+    pub limit: u64,
+    pub shares: u64,
+    pub rnext: u64,
+    pub lnext: u64,
+    pub snext: u64,
+}
+
+// The settings and the counts of an open table, and its last accepted time.
+pub struct Gate {
+    pub depth: u64,
+    pub guests: u64,
+    pub capacity: u64,
+    pub time: u64,
+    pub waiting: u64,
+    pub flight: u64,
+}
+
+// The phase of the choice that sent a request.
+pub enum Phase {
+    Reservation,
+    Weight,
+}
+
+// Why a call or a trace is refused, in the order of the paper's numbers, 1 to 15.
+pub enum Refusal {
+    BadSetting,
+    ShortTable,
+    Unsound,
+    UnknownGuest,
+    TimeAboveCeiling,
+    TimeBeforeLast,
+    IdInUse,
+    NoRoom,
+    TagAboveCeiling,
+    NotInFlight,
+    BadMark,
+    BadVersion,
+    HeaderCut,
+    BadEvent,
+    EventCut,
+}
+
+// What a call answers: nothing is sent, a request is sent, or the call is refused.
+pub enum Answer {
+    Nothing,
+    Sent { phase: Phase, guest: u64, id: u32 },
+    Refused(Refusal),
+}
+
+// The gate after a call, and the call's answer.
+pub struct Outcome {
+    pub gate: Gate,
+    pub answer: Answer,
+}
