@@ -5,3 +5,5 @@ pub mod Stores
 pub mod Parts
 pub mod Lines
 pub mod LinesLaws
+pub mod Rows
+pub mod RowsLaws

@@ -1,0 +1,128 @@
+-- The lent numbers as a table of document 01, and a table written over the numbers. Six numbers a guest, five a waiting request, two a request in flight.
+use Prim.Native.Nat.{ℕ, _*_, _-_, _≤_}
+use mathlib.Core.Path.{_≡_}
+use mathlib.Core.Bool.{Bool, true, _&&_, _||_}
+use mathlib.Core.List.{List, [], _∷_}
+use lib.Dec.{ltb, eqb}
+use lib.ListN.{length, getD, take, drop}
+use Rattle.lists.specs.Words.{all}
+use Rattle.lists.specs.Rows.{Form, rowsOf, overRows, Unused}
+use Rattle.rules.specs.Tables.{Settings, Guest, Request, Flight, Table, names}
+use Rattle.rules.specs.Sound.{counted, sound}
+use Rattle.rules.specs.Choice.{Result}
+use Rattle.rules.specs.declared.Gate.{Gate}
+use Rattle.rules.specs.declared.Outcome.{Outcome}
+
+-- a guest's settings as three numbers
+abbrev pub settingsForm : Form Settings
+settingsForm =
+    record {
+      wide = 3;
+      read = λ v. record { reservation = getD v 0 0; limit = getD v 1 0; shares = getD v 2 0 };
+      line = λ s. s .reservation ∷ s .limit ∷ s .shares ∷ [];
+    }
+
+-- a guest as six numbers: its settings, then its next numbers
+abbrev pub guestForm : Form Guest
+guestForm =
+    record {
+      wide = 6;
+      read = λ v. record { settings = record { reservation = getD v 0 0; limit = getD v 1 0; shares = getD v 2 0 }; rnext = getD v 3 0; lnext = getD v 4 0; snext = getD v 5 0 };
+      line = λ h. h .settings .reservation ∷ h .settings .limit ∷ h .settings .shares ∷ h .rnext ∷ h .lnext ∷ h .snext ∷ [];
+    }
+
+-- a waiting request as five numbers
+abbrev pub requestForm : Form Request
+requestForm =
+    record {
+      wide = 5;
+      read = λ v. record { guest = getD v 0 0; id = getD v 1 0; rtag = getD v 2 0; ltag = getD v 3 0; stag = getD v 4 0 };
+      line = λ q. q .guest ∷ q .id ∷ q .rtag ∷ q .ltag ∷ q .stag ∷ [];
+    }
+
+-- a request in flight as two numbers
+abbrev pub flightForm : Form Flight
+flightForm = record { wide = 2; read = λ v. record { guest = getD v 0 0; id = getD v 1 0 }; line = λ f. f .guest ∷ f .id ∷ [] }
+
+-- the first n entries of each lent table
+abbrev pub guestsOf : List ℕ → ℕ → List Guest
+guestsOf = rowsOf guestForm
+
+abbrev pub waitingOf : List ℕ → ℕ → List Request
+waitingOf = rowsOf requestForm
+
+abbrev pub flightsOf : List ℕ → ℕ → List Flight
+flightsOf = rowsOf flightForm
+
+-- THE VIEW: the table that a gate and three lent lists show
+abbrev pub tableOf : Gate → (gs ws fs : List ℕ) → Table
+tableOf g gs ws fs =
+    record {
+      setup = record { depth = g .depth; capacity = g .capacity };
+      time = g .time;
+      guests = guestsOf gs (g .guests);
+      waiting = waitingOf ws (g .waiting);
+      flight = flightsOf fs (g .flight);
+    }
+
+-- the gate of a table: its settings, its time and its counts
+abbrev pub gateOf : Table → Gate
+gateOf t =
+    record {
+      depth = t .setup .depth;
+      guests = length (t .guests);
+      capacity = t .setup .capacity;
+      time = t .time;
+      waiting = length (t .waiting);
+      flight = length (t .flight);
+    }
+
+-- an outcome and the three lent tables as a call hands them back
+abbrev pub Handed : Type 0
+Handed = Outcome × List ℕ × List ℕ × List ℕ
+
+-- THE WAY BACK: a table and an answer written over what was lent; places beyond what the settings need stay as they were
+unfoldable pub handed : (gs ws fs : List ℕ) → Result → Handed
+handed gs ws fs r = (
+  record { gate = gateOf (r .table); answer = r .answer },
+  overRows guestForm (length (r .table .guests)) (r .table .guests) gs,
+  overRows requestForm (r .table .setup .capacity) (r .table .waiting) ws,
+  overRows flightForm (r .table .setup .depth) (r .table .flight) fs,
+)
+
+-- guests, depth and capacity are in range, so that the lengths needed are known
+abbrev pub countable : Gate → Bool
+countable g = counted (g .depth) (g .guests) (g .capacity)
+
+-- refusal 2: "a lent table .. is shorter than the settings need"; where the counts are out of range nothing is needed, and 3 is given
+unfoldable pub short : Gate → (gs ws fs : List ℕ) → Bool
+short g gs ws fs =
+    countable g && (ltb (length gs) (g .guests * 6) || ltb (length ws) (g .capacity * 5) || ltb (length fs) (g .depth * 2))
+
+-- every id is a number of 32 bits: document 01's ids are, and another number in a place for one is no request
+abbrev pub identified : Table → Bool
+identified t = all (λ f. ltb (f .id) 4294967296) (names t)
+
+-- the places from row n to row cap, of s numbers each, hold zeros
+abbrev pub zeroed : (s cap n : ℕ) → List ℕ → Bool
+zeroed s cap n xs = all (λ x. eqb x 0) (take (cap * s - n * s) (drop (n * s) xs))
+
+-- refusal 3, of lent numbers that suffice: the table is sound, every id has 32 bits, and "unused places are zero"
+unfoldable pub soundNumbers : Gate → (gs ws fs : List ℕ) → Bool
+soundNumbers g gs ws fs =
+    sound (tableOf g gs ws fs) && identified (tableOf g gs ws fs)
+    && zeroed 5 (g .capacity) (g .waiting) ws && zeroed 2 (g .depth) (g .flight) fs
+
+-- the unused places of the waiting table and of the flight table are zero
+pub record Whole (g : Gate) (ws fs : List ℕ) : Type 0 where
+  pub waitingUnused : Unused requestForm (g .capacity) (g .waiting) ws
+  pub flightUnused : Unused flightForm (g .depth) (g .flight) fs
+
+-- what a call may rely on once lengths and soundness were judged
+pub record Known (g : Gate) (gs ws fs : List ℕ) : Type 0 where
+  pub guestRoom : g .guests * 6 ≤ length gs
+  pub waitingRoom : g .capacity * 5 ≤ length ws
+  pub flightRoom : g .depth * 2 ≤ length fs
+  pub isSound : sound (tableOf g gs ws fs) ≡ true
+  pub isIdentified : identified (tableOf g gs ws fs) ≡ true
+  pub whole : Whole g ws fs
