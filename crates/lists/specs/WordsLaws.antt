@@ -2,12 +2,12 @@
 use mathlib.Core.Path.{_≡_, refl, sym, ap, ap₂, _∙_}
 use mathlib.Core.Bool.{Bool, true, false, not, _&&_, false≢true}
 use mathlib.Core.List.{List, [], _∷_, _++_, map}
-use Prim.Native.Nat.{ℕ, zero, suc, _≤_, _<_, _+_}
+use Prim.Native.Nat.{ℕ, zero, suc, min, _≤_, _<_, _+_}
 use native.Mathlib.Omega.{arith}
-use lib.Dec.{eqb}
+use lib.Dec.{leb, eqb}
 use lib.ListN.{length, getD}
-use borrow.Author.Tests.{eqb-true, eqb-false, eq-eqb, ne-eqb}
-use Rattle.lists.specs.Words.{if_then_else_, all, filter, each, below}
+use borrow.Author.Tests.{le-leb, eqb-true, eqb-false, eq-eqb, ne-eqb}
+use Rattle.lists.specs.Words.{if_then_else_, all, filter, without, each, below, lowest}
 
 -- TWO TESTS
 
@@ -53,6 +53,68 @@ pub at-below : (n : ℕ) (f : ℕ → Bool) → ((g : ℕ) → g < n → f g ≡
 at-below zero f h = refl
 at-below (suc n) f h = join (h n (omega arith)) (at-below n f (λ g k. h g (omega arith)))
 
+-- a test of both parts
+pub all-parts : {A : Type 0} (f : A → Bool) (a b : List A) → all f (a ++ b) ≡ true → (all f a ≡ true) × (all f b ≡ true)
+all-parts f [] b h = (refl, h)
+all-parts f (x ∷ a) b h = let c = both (f x) (all f (a ++ b)) h in let d = all-parts f a b (c .1) in (join (c .0) (d .0), d .1)
+
+-- the entry at a place
+pub all-at : {A : Type 0} (f : A → Bool) (l : List A) (d : A) → all f l ≡ true → (j : ℕ) → j < length l → f (getD l j d) ≡ true
+all-at f [] d h j k = absurd (omega arith)
+all-at f (x ∷ l) d h zero k = both (f x) (all f l) h .0
+all-at f (x ∷ l) d h (suc j) k = all-at f l d (both (f x) (all f l) h .1) j (omega arith)
+
+-- what passes is among all
+pub all-filter : {A : Type 0} (f k : A → Bool) (l : List A) → all f l ≡ true → all f (filter k l) ≡ true
+all-filter f k [] h = refl
+all-filter f k (x ∷ l) h =
+    let c = both (f x) (all f l) h in
+    let i = all-filter f k l (c .1) in
+    elim (k x) as (λ z. all f (if z then x ∷ filter k l else filter k l) ≡ true) [ true ↦ join (c .0) i | false ↦ i ]
+
+-- and passes
+pub filter-passes : {A : Type 0} (f : A → Bool) (l : List A) → all f (filter f l) ≡ true
+filter-passes f [] = refl
+filter-passes f (x ∷ l) = go (f x) refl (filter-passes f l)
+  where
+    go : (b : Bool) → f x ≡ b → all f (filter f l) ≡ true → all f (if b then x ∷ filter f l else filter f l) ≡ true
+    go true e h = join e h
+    go false e h = h
+
+-- what passes, by its place among all
+pub all-passing-at : {A : Type 0} (f k : A → Bool) (l : List A) (d : A) → all f (filter k l) ≡ true → (j : ℕ) → j < length l → k (getD l j d) ≡ true → f (getD l j d) ≡ true
+all-passing-at f k [] d h j l e = absurd (omega arith)
+all-passing-at f k (x ∷ xs) d h zero l e =
+    let c : f x && all f (filter k xs) ≡ true = rw e at h in
+    both (f x) (all f (filter k xs)) c .0
+all-passing-at f k (x ∷ xs) d h (suc j) l e = all-passing-at f k xs d (go (k x) h) j (omega arith) e
+  where
+    go : (b : Bool) → all f (if b then x ∷ filter k xs else filter k xs) ≡ true → all f (filter k xs) ≡ true
+    go true h = both (f x) (all f (filter k xs)) h .1
+    go false h = h
+
+-- what is left without one is among all
+pub all-without : {A : Type 0} (f k : A → Bool) (l : List A) → all f l ≡ true → all f (without k l) ≡ true
+all-without f k [] h = refl
+all-without f k (x ∷ l) h =
+    let c = both (f x) (all f l) h in
+    let i = all-without f k l (c .1) in
+    elim (k x) as (λ z. all f (if z then l else x ∷ without k l) ≡ true) [ true ↦ c .1 | false ↦ join (c .0) i ]
+
+-- and no longer
+pub length-without : {A : Type 0} (k : A → Bool) (l : List A) → length (without k l) ≤ length l
+length-without k [] = omega arith
+length-without k (x ∷ l) =
+    let h = length-without k l in
+    elim (k x) as (λ z. length (if z then l else x ∷ without k l) ≤ suc (length l)) [ true ↦ omega arith | false ↦ omega arith ]
+
+-- no entry is below the smallest
+pub lowest-all : (l : List ℕ) (m : ℕ) → m ≤ lowest l → all (leb m) l ≡ true
+unfolding lowest
+lowest-all [] m h = refl
+lowest-all (x ∷ []) m h = join (le-leb m x h) refl
+lowest-all (x ∷ y ∷ l) m h = join (le-leb m x (omega arith)) (lowest-all (y ∷ l) m (omega arith))
+
 -- MAPS
 
 pub map-append : {A B : Type 0} (f : A → B) (a b : List A) → map f (a ++ b) ≡ map f a ++ map f b
@@ -69,6 +131,30 @@ pub all-same : {A : Type 0} (f : A → Bool) (k : A → A) → ((x : A) → f (k
 all-same f k h [] = refl
 all-same f k h (x ∷ l) = ap₂ _&&_ (h x) (all-same f k h l)
 
+-- a test of what a change gives
+pub all-of-map : {A B : Type 0} (f : B → Bool) (k : A → B) (l : List A) → all f (map k l) ≡ all (λ x. f (k x)) l
+all-of-map f k [] = refl
+all-of-map f k (x ∷ l) = ap (f (k x) &&_) (all-of-map f k l)
+
+-- two changes that are the same where a test holds
+pub map-on : {A B : Type 0} (p : A → Bool) (f k : A → B) → ((x : A) → p x ≡ true → f x ≡ k x) → (l : List A) → all p l ≡ true → map f l ≡ map k l
+map-on p f k h [] a = refl
+map-on p f k h (x ∷ l) a = let c = both (p x) (all p l) a in ap₂ _∷_ (h x (c .0)) (map-on p f k h l (c .1))
+
+-- no change
+pub map-id : {A : Type 0} (l : List A) → map (λ x. x) l ≡ l
+map-id [] = refl
+map-id (x ∷ l) = ap (x ∷_) (map-id l)
+
+-- what passes after a change that the test does not see
+pub filter-map : {A : Type 0} (f : A → Bool) (k : A → A) → ((x : A) → f (k x) ≡ f x) → (l : List A) → filter f (map k l) ≡ map k (filter f l)
+filter-map f k e [] = refl
+filter-map f k e (x ∷ l) =
+    let h = filter-map f k e l in
+    rw (e x)
+    (elim (f x) as (λ c. (if c then k x ∷ filter f (map k l) else filter f (map k l)) ≡ map k (if c then x ∷ filter f l else filter f l))
+    [ true ↦ ap (k x ∷_) h | false ↦ h ])
+
 pub filter-append : {A : Type 0} (f : A → Bool) (a b : List A) → filter f (a ++ b) ≡ filter f a ++ filter f b
 filter-append f [] b = refl
 filter-append f (x ∷ a) b =
@@ -76,11 +162,27 @@ filter-append f (x ∷ a) b =
     elim (f x) as (λ c. (if c then x ∷ filter f (a ++ b) else filter f (a ++ b)) ≡ (if c then x ∷ filter f a else filter f a) ++ filter f b)
     [ true ↦ ap (x ∷_) h | false ↦ h ]
 
+-- two tests one after the other are both at once
+pub filter-filter : {A : Type 0} (f g : A → Bool) (l : List A) → filter g (filter f l) ≡ filter (λ x. f x && g x) l
+filter-filter f g [] = refl
+filter-filter f g (x ∷ l) = go (f x) refl (g x) refl (filter-filter f g l)
+  where
+    go : (a : Bool) → f x ≡ a → (b : Bool) → g x ≡ b → filter g (filter f l) ≡ filter (λ y. f y && g y) l
+        → filter g (filter f (x ∷ l)) ≡ filter (λ y. f y && g y) (x ∷ l)
+    go true e true i h = rw (e, i) (ap (x ∷_) h)
+    go true e false i h = rw (e, i) h
+    go false e b i h = rw e h
+
 -- EACH
 
 pub length-each : {A B : Type 0} (k : ℕ → A → B) (i : ℕ) (l : List A) → length (each k i l) ≡ length l
 length-each k i [] = refl
 length-each k i (x ∷ l) = ap suc (length-each k (suc i) l)
+
+-- a change by places that a map does not see
+pub map-each : {A B : Type 0} (g : A → B) (k : ℕ → A → A) → ((i : ℕ) (x : A) → g (k i x) ≡ g x) → (i : ℕ) (l : List A) → map g (each k i l) ≡ map g l
+map-each g k h i [] = refl
+map-each g k h i (x ∷ l) = ap₂ _∷_ (h i x) (map-each g k h (suc i) l)
 
 pub getD-each : {A : Type 0} (k : ℕ → A → A) (i : ℕ) (l : List A) (g : ℕ) (d : A) → g < length l → getD (each k i l) g d ≡ k (i + g) (getD l g d)
 getD-each k i [] g d h = absurd (omega arith)

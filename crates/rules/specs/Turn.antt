@@ -27,6 +27,16 @@ isDue t q = dueAt (settingsOf (t .guests) q) (t .time) q
 abbrev pub ahead : Table → Request → (a b : List Request) → List Request
 ahead t x a b = filter (λ q. tagged t q && leb (q .rtag) (x .rtag)) a ++ filter (λ q. tagged t q && ltb (q .rtag) (x .rtag)) b
 
+-- q stands in front of the first whose reservation tag is not smaller than its own
+abbrev pub insert : Request → List Request → List Request
+insert q [] = q ∷ []
+insert q (p ∷ l) = if leb (q .rtag) (p .rtag) then q ∷ p ∷ l else p ∷ insert q l
+
+-- requests that stand in order of acceptance, now "by reservation tag, equal tags by order of acceptance"
+abbrev pub sorted : List Request → List Request
+sorted [] = []
+sorted (q ∷ l) = insert q (sorted l)
+
 -- "the accepted events that find a place free at the array (a completion frees its own first)"
 abbrev pub findsRoom : Table → Event → Bool
 findsRoom t e = accepted t e && room (enter t e)

@@ -1,0 +1,176 @@
+-- The choice keeps a table sound. Assumes nothing.
+use mathlib.Core.Path.{_≡_, refl, _∙_}
+use mathlib.Core.Bool.{Bool, true, false}
+use mathlib.Core.List.{List, [], _∷_, _++_, map}
+use Prim.Native.Nat.{ℕ, suc, _≤_, _<_}
+use native.Mathlib.Omega.{arith}
+use lib.Dec.{ltb, leb, eqb}
+use lib.ListN.{length, length-append}
+use borrow.Author.Tests.{ltb-true, le-leb, eqb-true, eq-eqb}
+use Rattle.lists.specs.Words.{if_then_else_, all}
+use Rattle.lists.specs.WordsLaws.{join, all-append, all-mid}
+use Rattle.rules.specs.declared.Answer.the-variants.{Nothing}
+use Rattle.rules.specs.Tables.{Settings, Guest, Request, Flight, Table, reserved, limited, rspacing, lspacing, sspacing, owner, of, mine, name, names}
+use Rattle.rules.specs.Sound.{lawful, kept, orderly}
+use Rattle.rules.specs.Choice.{Pick, nobody, picked, least, due, open?, sending, earlier, sooner, dropOf, dropped, byWeight, byReservation, room, choice}
+use Rattle.rules.proofs.Spacings.{down-le, up-le, no-down}
+use Rattle.rules.proofs.Names.{distinct-last, names-mid, names-sent}
+use Rattle.rules.proofs.Chains.{kept-tail, kept-above, kept-same, kept-drop}
+use Rattle.rules.proofs.Settings.{same-ranges, same-count, sending-settings, dropped-settings}
+use Rattle.rules.proofs.Facts.{Sound, orderly-is, is-orderly, Lawful, lawful-is, waiting-known, any-orderly}
+use Rattle.rules.proofs.Picks.{Goes, due-goes, open-goes}
+use Rattle.rules.proofs.Drops.{dropped-names, dropped-length, dropped-flight, dropped-time, dropped-lawful, dropped-own, dropped-owner, dropped-others, dropped-other}
+
+-- A REQUEST GOES
+
+-- what stays of a guest when its first has gone is in order
+orderly-tail : (h : Guest) (p : Request) (l : List Request) → Lawful p → orderly h (p ∷ l) ≡ true → orderly h l ≡ true
+orderly-tail h p l b e =
+    let s = h .settings in
+    let o = orderly-is h (p ∷ l) e in
+    is-orderly h l
+    (record {
+      reservations = kept-tail Request.rtag (rspacing s) (rspacing s) (reserved s) p l (h .rnext) (omega (arith, down-le (s .reservation))) (o .reservations);
+      limits = kept-tail Request.ltag (lspacing s) (lspacing s) (limited s) p l (h .lnext) (omega (arith, up-le (s .limit))) (o .limits);
+      shares = kept-tail Request.stag (sspacing s) (sspacing s) true p l (h .snext) (omega (arith, down-le (s .shares))) (o .shares);
+    })
+
+module _ (t : Table) (s : Sound t) (p : Request) (v : List Request) (c : Goes t p v) where
+  -- what goes has lawful tags
+  sent-lawful : Lawful p
+  sent-lawful = let k = c .split in lawful-is p (all-mid lawful (k .before) p (k .after) (rw (k .stood) at (s .tags-fit)) .0)
+
+  -- and its guest exists
+  pub sent-known : p .guest < length (t .guests)
+  sent-known =
+      let k = c .split in
+      let f : Request → Bool = λ q. ltb (q .guest) (length (t .guests)) in
+      let a : all f (k .before ++ p ∷ k .after) ≡ true = rw (k .stood) at (waiting-known t s) in
+      ltb-true (p .guest) (length (t .guests)) (all-mid f (k .before) p (k .after) a .0)
+
+  -- what stays of each guest is in order
+  sending-order : (g : ℕ) → orderly (owner (t .guests) g) (mine g v) ≡ true
+  sending-order g =
+      (elim (of g p) as (λ b. orderly (owner (t .guests) g) (if b then p ∷ mine g v else mine g v) ≡ true → orderly (owner (t .guests) g) (mine g v) ≡ true)
+      [ true ↦ orderly-tail (owner (t .guests) g) p (mine g v) sent-lawful | false ↦ λ e. e ])
+      (rw (c .first g) at (any-orderly t s g))
+
+  -- a request that may go leaves the table sound
+  pub sending-sound : room t ≡ true → Sound (sending t p v)
+  unfolding sending room
+  sending-sound r =
+      let k = c .split in
+      let f : Flight → Bool = λ f. ltb (f .guest) (length (t .guests)) in
+      let rest : List Flight = map name (k .before) ++ (map name (k .after) ++ t .flight) in
+      let was : names t ≡ map name (k .before) ++ name p ∷ (map name (k .after) ++ t .flight) = rw (k .stood) (names-mid (k .before) (k .after) p (t .flight)) in
+      let is : map name v ++ (t .flight ++ (name p ∷ [])) ≡ rest ++ (name p ∷ []) = rw (k .stay) (names-sent (k .before) (k .after) p (t .flight)) in
+      let n : length (t .waiting) ≡ suc (length v) = rw (k .stood, k .stay, length-append (k .before) (p ∷ k .after), length-append (k .before) (k .after)) (omega arith) in
+      let kn = all-mid f (map name (k .before)) (name p) (map name (k .after) ++ t .flight) (rw was at (s .guests-known)) in
+      record {
+        in-range = same-ranges (sending t p v) t (sending-settings t p v) ∙ s .in-range;
+        waiting-fits = omega (arith, s .waiting-fits);
+        flight-fits = rw (length-append (t .flight) (name p ∷ [])) (omega (arith, ltb-true (length (t .flight)) (t .setup .depth) r));
+        time-fits = s .time-fits;
+        guests-known = rw is (all-append f rest (name p ∷ []) (kn .1) (join (kn .0) refl));
+        names-once = rw is (distinct-last (map name (k .before)) (name p) (map name (k .after) ++ t .flight) (rw was at (s .names-once)));
+        tags-fit = rw (k .stay) (all-mid lawful (k .before) p (k .after) (rw (k .stood) at (s .tags-fit)) .1);
+        guests-orderly = λ g known. sending-order g;
+      }
+
+-- ITS GUEST'S TAGS DROP
+
+-- the drop after p was sent takes no number below zero
+pub record DropFits (u : Table) (p : Request) : Type 0 where
+  pub next : dropOf u p ≤ (owner (u .guests) (p .guest)) .rnext
+  pub tags : all (λ q. leb (dropOf u p) (q .rtag)) (mine (p .guest) (u .waiting)) ≡ true
+
+-- no tag is below 0
+all-from-zero : (l : List Request) → all (λ q. leb 0 (q .rtag)) l ≡ true
+all-from-zero [] = refl
+all-from-zero (q ∷ l) = join (le-leb 0 (q .rtag) (omega arith)) (all-from-zero l)
+
+-- of a guest with a reservation, or of one without
+low : (s : Settings) (p : Request) (l : List Request) (n : ℕ) (b : Bool) → reserved s ≡ b → kept b Request.rtag (rspacing s) (rspacing s) (p ∷ l) n ≡ true
+    → (all (λ q. leb (rspacing s p) (q .rtag)) l ≡ true) × (rspacing s p ≤ n)
+low s p l n true e k = kept-above Request.rtag (rspacing s) (rspacing s) (rspacing s p) p l n (omega arith) (omega arith) k
+low s p l n false e k = rw (no-down (s .reservation) e) (all-from-zero l, omega arith)
+
+module _ (t : Table) (s : Sound t) (p : Request) (v : List Request) (c : Goes t p v) where
+  -- p is the first that waits of its guest
+  pub sent-first : mine (p .guest) (t .waiting) ≡ p ∷ mine (p .guest) v
+  sent-first = c .first (p .guest) ∙ rw (eq-eqb (p .guest) (p .guest) refl)
+
+  -- nothing falls below zero where p has gone
+  pub drop-fits : DropFits (sending t p v) p
+  unfolding sending
+  drop-fits =
+      let h = owner (t .guests) (p .guest) in
+      let o = orderly-is h (mine (p .guest) (t .waiting)) (any-orderly t s (p .guest)) in
+      let l = low (h .settings) p (mine (p .guest) v) (h .rnext) (reserved (h .settings)) refl (rw sent-first at (o .reservations)) in
+      record { next = l .1; tags = l .0 }
+
+-- a guest's numbers after a drop are in order
+drop-own : (h : Guest) (d : ℕ) (l : List Request) → all (λ q. leb d (q .rtag)) l ≡ true → orderly h l ≡ true → orderly (sooner d h) (map (earlier d) l) ≡ true
+unfolding sooner earlier
+drop-own h d l b e =
+    let s = h .settings in
+    let f = earlier d in
+    let o = orderly-is h l e in
+    is-orderly (sooner d h) (map f l)
+    (record {
+      reservations = kept-drop Request.rtag (rspacing s) (rspacing s) f (λ q. refl) (λ q. refl) d (λ q. refl) (reserved s) l (h .rnext) (λ r. b) (o .reservations);
+      limits = kept-same Request.ltag (lspacing s) (lspacing s) f (λ q. refl) (λ q. refl) (λ q. refl) (limited s) l (h .lnext) ∙ o .limits;
+      shares = kept-same Request.stag (sspacing s) (sspacing s) f (λ q. refl) (λ q. refl) (λ q. refl) true l (h .snext) ∙ o .shares;
+    })
+
+module _ (u : Table) (s : Sound u) (p : Request) (known : p .guest < length (u .guests)) (fits : DropFits u p) where
+  -- the numbers of each guest are in order after the drop
+  dropped-order : (g : ℕ) → orderly (owner ((dropped p u) .guests) g) (mine g ((dropped p u) .waiting)) ≡ true
+  dropped-order g = go (eqb g (p .guest)) refl
+    where
+      go : (b : Bool) → eqb g (p .guest) ≡ b → orderly (owner ((dropped p u) .guests) g) (mine g ((dropped p u) .waiting)) ≡ true
+      go true e =
+          rw (eqb-true g (p .guest) e, dropped-owner p u known, dropped-own p u)
+          (drop-own (owner (u .guests) (p .guest)) (dropOf u p) (mine (p .guest) (u .waiting)) (fits .tags) (any-orderly u s (p .guest)))
+      go false e = rw (dropped-other p u g e, dropped-others p u g e) (any-orderly u s g)
+
+  -- a drop that fits leaves the table sound
+  pub dropped-sound : Sound (dropped p u)
+  dropped-sound =
+      let k = dropped-settings p u in
+      record {
+        in-range = same-ranges (dropped p u) u k ∙ s .in-range;
+        waiting-fits = rw (dropped-length p u, k .setup) (s .waiting-fits);
+        flight-fits = rw (dropped-flight p u, k .setup) (s .flight-fits);
+        time-fits = rw (dropped-time p u) (s .time-fits);
+        guests-known = rw (same-count (dropped p u) u k, dropped-names p u) (s .guests-known);
+        names-once = rw (dropped-names p u) (s .names-once);
+        tags-fit = dropped-lawful p u (s .tags-fit);
+        guests-orderly = λ g known. dropped-order g;
+      }
+
+-- THE CHOICE
+
+-- the weight phase
+weight-sound : (t : Table) → Sound t → room t ≡ true → (k : Pick) → least (open? t) Request.stag (t .waiting) ≡ k → Sound ((byWeight t k) .table)
+unfolding byWeight
+weight-sound t s r nobody e = s
+weight-sound t s r (picked p v) e =
+    let c = open-goes t s p v e in
+    let known : p .guest < length ((sending t p v) .guests) = rw (same-count (sending t p v) t (sending-settings t p v)) (sent-known t s p v c) in
+    dropped-sound (sending t p v) (sending-sound t s p v c r) p known (drop-fits t s p v c)
+
+-- the reservation phase
+reservation-sound : (t : Table) → Sound t → room t ≡ true → (k : Pick) → least (due t) Request.rtag (t .waiting) ≡ k → Sound ((byReservation t k) .table)
+unfolding byReservation
+reservation-sound t s r nobody e = weight-sound t s r (least (open? t) Request.stag (t .waiting)) refl
+reservation-sound t s r (picked p v) e = sending-sound t s p v (due-goes t s p v e) r
+
+-- The choice keeps a table sound.
+pub choice-sound : (t : Table) → Sound t → Sound ((choice t) .table)
+unfolding choice
+choice-sound t s = go (room t) refl
+  where
+    go : (b : Bool) → room t ≡ b → Sound ((if room t then byReservation t (least (due t) Request.rtag (t .waiting)) else record { table = t; answer = Nothing }) .table)
+    go true r = rw r (reservation-sound t s r (least (due t) Request.rtag (t .waiting)) refl)
+    go false r = rw r s

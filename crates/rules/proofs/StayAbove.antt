@@ -1,0 +1,155 @@
+-- "These stay above t": after a weight send the guest's reservation tags, and its next reservation number, are above the time. Assumes nothing.
+use mathlib.Core.Path.{_≡_, refl, sym, ap, _∙_}
+use mathlib.Core.Bool.{true, false, not, and-true}
+use mathlib.Core.List.{List, _∷_, _++_, map}
+use Prim.Native.Nat.{ℕ, suc, _≤_, _<_, _+_, _-_}
+use native.Mathlib.Omega.{arith}
+use lib.Dec.{ltb, leb}
+use lib.ListN.{length}
+use borrow.Author.Tests.{leb-true, leb-false, lt-ltb, ltb-true, not-true}
+use Rattle.lists.specs.Words.{if_then_else_, all}
+use Rattle.lists.specs.WordsLaws.{all-mid, all-at, all-map}
+use Rattle.rules.specs.declared.Phase.{Phase}
+use Rattle.rules.specs.declared.Refusal.{Refusal}
+use Rattle.rules.specs.declared.Phase.the-variants.{Reservation, Weight}
+use Rattle.rules.specs.declared.Answer.the-variants.{Nothing, Sent, Refused}
+use Rattle.rules.specs.Tables.{Request, Table, reserved, rspacing, owner, settingsOf, mine}
+use Rattle.rules.specs.Sound.{sound}
+use Rattle.rules.specs.Choice.{Result, Pick, nobody, picked, least, dueAt, passes, due, open?, sending, earlier, sooner, dropOf, dropped, byWeight, byReservation, room, choice}
+use Rattle.rules.specs.Chosen.{blank, at}
+use Rattle.rules.specs.Events.{Event, moment, enter}
+use Rattle.rules.specs.Refusals.{Verdict, accept, refuse, isAccept, verdict}
+use Rattle.rules.specs.Run.{decided, step}
+use Rattle.rules.proofs.Chains.{kept-above}
+use Rattle.rules.proofs.Settings.{same-owner, enter-settings}
+use Rattle.rules.proofs.Facts.{Sound, sound-is, orderly-is, any-orderly}
+use Rattle.rules.proofs.Firsts.{First, passes-all, first-open}
+use Rattle.rules.proofs.Picks.{Goes, open-goes, none-ok}
+use Rattle.rules.proofs.Drops.{dropped-own, dropped-owner}
+use Rattle.rules.proofs.ChoiceSound.{sent-known, sent-first}
+use Rattle.rules.proofs.EnterSound.{enter-time, enter-sound}
+
+-- every reservation tag that waits of guest g, and its next reservation number, are above now
+pub record Above (now g : ℕ) (u : Table) : Type 0 where
+  pub tags : (j : ℕ) → j < length (mine g (u .waiting)) → now < (at (mine g (u .waiting)) j) .rtag
+  pub next : now < (owner (u .guests) g) .rnext
+
+-- what may go by weight asks nothing more to go by reservation than to be due
+open-passes : (t : Table) (p : Request) → open? t p ≡ true → passes t p ≡ true
+open-passes t p e = passes-all t p
+
+-- a request of a guest with a reservation that is open and not due has its tag after now
+not-due : (t : Table) (p : Request) → reserved (settingsOf (t .guests) p) ≡ true → open? t p ≡ true → due t p ≡ false → t .time < p .rtag
+unfolding dueAt
+not-due t p r o d = leb-false (p .rtag) (t .time) (sym (and-true (leb (p .rtag) (t .time))) ∙ (rw (r, open-passes t p o) at d))
+
+-- p goes by weight, v stays, and the guest of p has a reservation
+record ByWeight (t : Table) (p : Request) (v : List Request) : Type 0 where
+  none-due : least (due t) Request.rtag (t .waiting) ≡ nobody
+  picks : least (open? t) Request.stag (t .waiting) ≡ picked p v
+  has : reserved (settingsOf (t .guests) p) ≡ true
+
+module _ (t : Table) (s : Sound t) (p : Request) (v : List Request) (w : ByWeight t p v) where
+  -- what is sent by weight may go
+  goes : Goes t p v
+  goes = open-goes t s p v (w .picks)
+
+  -- the tag of what is sent by weight is after now, for nothing was due
+  later : t .time < p .rtag
+  later =
+      let k = goes .split in
+      let a : all (λ q. not (due t q)) (k .before ++ p ∷ k .after) ≡ true =
+      ap (all (λ q. not (due t q))) (sym (k .stood)) ∙ none-ok (due t) Request.rtag (t .waiting) (w .none-due) in
+      let o : First (open? t) Request.stag (p .guest) (picked p v) (t .waiting) = rw (w .picks) at (first-open t s (p .guest)) in
+      not-due t p (w .has) (o .1) (not-true (due t p) (all-mid (λ q. not (due t q)) (k .before) p (k .after) a .0))
+
+  -- what stays of its guest is more than a spacing after now
+  far : (all (λ q. leb (suc (t .time + dropOf t p)) (q .rtag)) (mine (p .guest) v) ≡ true)
+      × (suc (t .time + dropOf t p) ≤ (owner (t .guests) (p .guest)) .rnext)
+  far =
+      let h = owner (t .guests) (p .guest) in
+      let g = rspacing (h .settings) in
+      let o = orderly-is h (mine (p .guest) (t .waiting)) (any-orderly t s (p .guest)) in
+      let l = later in
+      kept-above Request.rtag g g (suc (t .time + dropOf t p)) p (mine (p .guest) v) (h .rnext) (omega arith) (omega arith)
+      (rw (sent-first t s p v goes, w .has) at (o .reservations))
+
+  -- and so, a spacing earlier, it is after now
+  weight-above : Above (t .time) (p .guest) (dropped p (sending t p v))
+  unfolding sending earlier sooner
+  weight-above =
+      let g = p .guest in
+      let u = sending t p v in
+      let d = dropOf t p in
+      let h = owner (t .guests) g in
+      let own : mine g ((dropped p u) .waiting) ≡ map (earlier d) (mine g v) = dropped-own p u in
+      let his : owner ((dropped p u) .guests) g ≡ sooner d h = dropped-owner p u (sent-known t s p v goes) in
+      let low : all (λ q. ltb (t .time) (q .rtag)) (map (earlier d) (mine g v)) ≡ true =
+      all-map (λ q. leb (suc (t .time + d)) (q .rtag)) (λ q. ltb (t .time) (q .rtag)) (earlier d)
+      (λ q b. lt-ltb (t .time) (q .rtag - d) (omega (arith, leb-true (suc (t .time + d)) (q .rtag) b))) (mine g v) (far .0)
+      in
+      record {
+        tags = rw own
+            (λ j l. ltb-true (t .time) ((at (map (earlier d) (mine g v)) j) .rtag) (all-at (λ q. ltb (t .time) (q .rtag)) (map (earlier d) (mine g v)) blank low j l));
+        next = rw his (omega (arith, far .1));
+      }
+
+-- THE CHOICE
+
+-- an answer that sends is not "nothing"
+nothing-sent : {p : Phase} {g i : ℕ} → Nothing ≡ Sent p g i → ⊥
+nothing-sent e = let z : _≡_ {A = ℕ} 0 1 = cc in omega arith
+
+-- nor a refusal
+refused-sent : {r : Refusal} {p : Phase} {g i : ℕ} → Refused r ≡ Sent p g i → ⊥
+refused-sent e = let z : _≡_ {A = ℕ} 0 1 = cc in omega arith
+
+-- and the phases differ
+other-phase : {g i h j : ℕ} → Sent Reservation g i ≡ Sent Weight h j → ⊥
+other-phase e = let z : _≡_ {A = ℕ} 0 1 = cc in omega arith
+
+module _ (t : Table) (s : Sound t) (g i : ℕ) (r : reserved ((owner (t .guests) g) .settings) ≡ true) where
+  -- a result that sends by weight leaves guest g above the time
+  abbrev Leaves : Result → Type 0
+  Leaves x = x .answer ≡ Sent Weight g i → Above (t .time) g (x .table)
+
+  -- the weight phase
+  by-weight : least (due t) Request.rtag (t .waiting) ≡ nobody → (k : Pick) → least (open? t) Request.stag (t .waiting) ≡ k → Leaves (byWeight t k)
+  unfolding byWeight
+  by-weight none nobody e a = absurd (nothing-sent a)
+  by-weight none (picked p v) e a =
+      let q : p .guest ≡ g = cc in
+      rw (← q) (weight-above t s p v (record { none-due = none; picks = e; has = rw q r }))
+
+  -- the reservation phase
+  by-reservation : (k : Pick) → least (due t) Request.rtag (t .waiting) ≡ k → Leaves (byReservation t k)
+  unfolding byReservation
+  by-reservation nobody e a = by-weight e (least (open? t) Request.stag (t .waiting)) refl a
+  by-reservation (picked p v) e a = absurd (other-phase a)
+
+  -- the choice
+  choice-above : Leaves (choice t)
+  unfolding choice
+  choice-above =
+      elim (room t) as (λ b. Leaves (if b then byReservation t (least (due t) Request.rtag (t .waiting)) else record { table = t; answer = Nothing }))
+      [ true ↦ by-reservation (least (due t) Request.rtag (t .waiting)) refl | false ↦ λ a. absurd (nothing-sent a) ]
+
+-- After a weight send from a sound table the reservation tags that wait of the guest, and its next reservation number, are above the time.
+pub stay-above : (t : Table) → sound t ≡ true → (g i : ℕ) → (choice t) .answer ≡ Sent Weight g i → reserved ((owner (t .guests) g) .settings) ≡ true
+    → Above (t .time) g ((choice t) .table)
+stay-above t h g i a r = choice-above t (sound-is t h) g i r a
+
+-- AN EVENT
+
+-- After any event, at any table, that sends by weight: the same, above the event's time.
+pub event-stay-above : (t : Table) (e : Event) (g i : ℕ) → (step t e) .answer ≡ Sent Weight g i → reserved ((owner (t .guests) g) .settings) ≡ true
+    → Above (moment e) g ((step t e) .table)
+unfolding step decided
+event-stay-above t e g i a r = go (verdict t e) refl a
+  where
+    go : (v : Verdict) → verdict t e ≡ v → (decided v t e) .answer ≡ Sent Weight g i → Above (moment e) g ((decided v t e) .table)
+    go accept q a =
+        let u = enter t e in
+        rw (← (enter-time t e))
+        (choice-above u (enter-sound t e (ap isAccept q)) g i (ap reserved (same-owner u t (enter-settings t e) g) ∙ r) a)
+    go (refuse x) q a = absurd (refused-sent a)
