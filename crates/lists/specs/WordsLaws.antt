@@ -1,8 +1,9 @@
 -- Laws of the words of Words.antt. Assumes nothing.
 use mathlib.Core.Path.{_≡_, refl, sym, ap, ap₂, _∙_}
-use mathlib.Core.Bool.{Bool, true, false, not, _&&_, false≢true}
-use mathlib.Core.List.{List, [], _∷_, _++_, map}
+use mathlib.Core.Bool.{Bool, true, false, not, _&&_, false≢true, true≢false}
+use mathlib.Core.List.{List, [], _∷_, _++_, map, List·Memᴰ, List·Memᴰ·head, List·Memᴰ·tail}
 use Prim.Native.Nat.{ℕ, zero, suc, min, _≤_, _<_, _+_}
+use mathlib.Core.Logic.{_⊎_, inl, inr}
 use native.Mathlib.Omega.{arith}
 use lib.Dec.{leb, eqb}
 use lib.ListN.{length, getD}
@@ -17,6 +18,18 @@ both false b h = absurd (false≢true h)
 
 pub join : {a b : Bool} → a ≡ true → b ≡ true → a && b ≡ true
 join p q = rw (p, q)
+
+-- two tests that do not both hold
+pub either-fails : (a b : Bool) → a && b ≡ false → (a ≡ false) ⊎ (b ≡ false)
+either-fails true b h = inr h
+either-fails false b h = inl refl
+
+pub left-fails : {a : Bool} (b : Bool) → a ≡ false → a && b ≡ false
+left-fails b p = rw p
+
+pub right-fails : (a : Bool) {b : Bool} → b ≡ false → a && b ≡ false
+right-fails true p = p
+right-fails false p = refl
 
 pub eqb-sym : (a b : ℕ) → eqb a b ≡ eqb b a
 eqb-sym a b = go (eqb a b) refl
@@ -132,6 +145,7 @@ all-same f k h [] = refl
 all-same f k h (x ∷ l) = ap₂ _&&_ (h x) (all-same f k h l)
 
 -- a test of what a change gives
+-- a test on changed entries is a test on the entries
 pub all-of-map : {A B : Type 0} (f : B → Bool) (k : A → B) (l : List A) → all f (map k l) ≡ all (λ x. f (k x)) l
 all-of-map f k [] = refl
 all-of-map f k (x ∷ l) = ap (f (k x) &&_) (all-of-map f k l)
@@ -188,3 +202,32 @@ pub getD-each : {A : Type 0} (k : ℕ → A → A) (i : ℕ) (l : List A) (g : �
 getD-each k i [] g d h = absurd (omega arith)
 getD-each k i (x ∷ l) zero d h = ap (λ n. k n x) (omega arith)
 getD-each k i (x ∷ l) (suc g) d h = getD-each k (suc i) l g d (omega arith) ∙ ap (λ n. k n (getD l g d)) (omega arith)
+
+-- ENTRIES
+
+-- all entries pass: each one does
+pub all-each : {A : Type 0} (f : A → Bool) (l : List A) → all f l ≡ true → (x : A) → List·Memᴰ x l → f x ≡ true
+all-each f l h x (List·Memᴰ·head {x = y} {xs = ys} e) = ap f e ∙ both (f y) (all f ys) h .0
+all-each f l h x (List·Memᴰ·tail {x = y} {xs = ys} m) = all-each f ys (both (f y) (all f ys) h .1) x m
+
+-- each entry passes: all do
+pub each-all : {A : Type 0} (f : A → Bool) (l : List A) → ((x : A) → List·Memᴰ x l → f x ≡ true) → all f l ≡ true
+each-all f [] h = refl
+each-all f (x ∷ l) h = join (h x (List·Memᴰ·head refl)) (each-all f l (λ y m. h y (List·Memᴰ·tail m)))
+
+-- not all entries pass: there is one that does not
+pub all-but : {A : Type 0} (f : A → Bool) (l : List A) → all f l ≡ false → (x : A) × List·Memᴰ x l × (f x ≡ false)
+all-but f [] h = absurd (true≢false h)
+all-but {A} f (x ∷ l) h = go (f x) refl (λ k. all-but f l k)
+  where
+    go : (b : Bool) → f x ≡ b → (all f l ≡ false → (y : A) × List·Memᴰ y l × (f y ≡ false)) → (y : A) × List·Memᴰ y (x ∷ l) × (f y ≡ false)
+    go true e k = let (y, m, n) = k (rw e at h) in (y, List·Memᴰ·tail m, n)
+    go false e k = (x, List·Memᴰ·head refl, e)
+
+-- one entry does not pass: not all do
+pub but-all : {A : Type 0} (f : A → Bool) (l : List A) (x : A) → List·Memᴰ x l → f x ≡ false → all f l ≡ false
+but-all f l x m h = go (all f l) refl
+  where
+    go : (b : Bool) → all f l ≡ b → b ≡ false
+    go true e = absurd (true≢false (sym (all-each f l e x m) ∙ h))
+    go false e = refl

@@ -23,3 +23,10 @@ pub mod InOrder
 pub mod WeightFits
 pub mod StayAbove
 pub mod Bounds
+pub mod Conditions
+pub mod Refused
+pub mod Trials
+pub mod Answered
+pub mod Places
+pub mod Chosen
+pub mod Guards

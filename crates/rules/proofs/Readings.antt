@@ -1,43 +1,12 @@
 -- Document 01's marked edge readings, as one table under a single statement. Assumes nothing.
 use mathlib.Core.Path.{_≡_, refl}
-use mathlib.Core.List.{List, [], _∷_, map}
-use Prim.Native.Nat.{ℕ, _*_}
-use Rattle.lists.specs.Words.{lowest}
+use mathlib.Core.List.{List, [], _∷_}
+use Prim.Native.Nat.{ℕ}
 use Rattle.rules.specs.Numbers.{down, up, tagAt}
-use Rattle.rules.specs.Tables.{Settings, Request, Table, idle}
-use Rattle.rules.specs.Answers.{Printed, shown}
-use Rattle.rules.specs.Sound.{counted, settled, ranges, distinct, lawful, kept, orderly, sound}
-use Rattle.rules.specs.Choice.{dueAt, openAt, passes, sending, earlier, sooner, dropped, byWeight, byReservation, room, choice}
-use Rattle.rules.specs.Events.{Event, arrival, completion, tick, shifted, shiftedNext, adjusted, shareTag, stamped, following, placed, arriveAs, arrive, complete, wait, enter}
-use Rattle.rules.specs.Refusals.{eventTests}
-use Rattle.rules.specs.Run.{decided, step, after, answers, fresh}
-
--- milliseconds
-abbrev ms : ℕ → ℕ
-ms n = n * 1000000
-
-abbrev settings : (reservation limit shares : ℕ) → Settings
-settings r l s = record { reservation = r; limit = l; shares = s }
-
--- an arrival and a completion of guest g, and their times in ms
-abbrev comes : (g i : ℕ) → ℕ → Event
-comes g i n = arrival (record { guest = g; id = i }) (ms n)
-
-abbrev ends : (g i : ℕ) → ℕ → Event
-ends g i n = completion (record { guest = g; id = i }) (ms n)
-
--- how the paper prints a line: nothing, by reservation, by weight, refused
-abbrev - : Printed
-- = record { letter = 45; values = [] }
-
-abbrev R : ℕ → ℕ → Printed
-R g i = record { letter = 82; values = g ∷ i ∷ [] }
-
-abbrev W : ℕ → ℕ → Printed
-W g i = record { letter = 87; values = g ∷ i ∷ [] }
-
-abbrev X : ℕ → Printed
-X n = record { letter = 88; values = n ∷ [] }
+use Rattle.rules.specs.Tables.{Request, Table}
+use Rattle.rules.specs.Events.{Event, tick}
+use Rattle.rules.specs.Run.{fresh}
+use Rattle.rules.proofs.Trials.{ms, settings, comes, ends, -, R, W, X, lines, waitingAfter}
 
 -- "depth 4, one guest (reservation 100, limit 250, shares 1), capacity 8"
 abbrev one : Table
@@ -60,11 +29,7 @@ three es = comes 0 1 0 ∷ comes 0 2 0 ∷ comes 0 3 0 ∷ es
 
 -- the share tags that wait after a run
 abbrev tags : Table → List Event → List ℕ
-tags t es = map Request.stag ((after t es) .waiting)
-
--- what is printed of a run
-abbrev lines : Table → List Event → List Printed
-lines t es = map shown (answers t es)
+tags t es = waitingAfter Request.stag t es
 
 pub record Readings : Type 0 where
   pub reservation-3 : down 3 ≡ 333333333
@@ -81,7 +46,7 @@ pub record Readings : Type 0 where
   pub moved-up : tags two (three (comes 1 1 1500 ∷ [])) ≡ ms 1500 ∷ ms 2500 ∷ ms 1500 ∷ []
 
 pub readings : Readings
-unfolding down up lowest idle counted settled ranges distinct lawful kept orderly sound dueAt openAt passes sending earlier sooner dropped byWeight byReservation room choice shifted shiftedNext adjusted shareTag stamped following placed arriveAs arrive complete wait enter eventTests decided step after answers fresh
+unfolding lines
 readings =
     record {
       reservation-3 = refl;

@@ -5,6 +5,7 @@ pub mod Sound
 pub mod Choice
 pub mod Events
 pub mod Refusals
+pub mod Refused
 pub mod Run
 pub mod Chosen
 pub mod Order

@@ -1,0 +1,97 @@
+-- What a step answers is its verdict: it answers a refusal exactly where that is the verdict, so what is printed follows the paper's list of
+-- each event. Assumes nothing.
+use mathlib.Core.Path.{_≡_, refl, sym, ap, _∙_}
+use mathlib.Core.Bool.{Bool, true, false, not, true≢false, false≢true}
+use mathlib.Core.Logic.{_↔_}
+use Prim.Native.Nat.{ℕ}
+use native.Mathlib.Omega.{arith}
+use lib.ListN.{getD}
+use borrow.Author.Tests.{not-false}
+use Rattle.lists.specs.Words.{if_then_else_}
+use Rattle.rules.specs.Tables.{Request, Table}
+use Rattle.rules.specs.Answers.{Printed, shown}
+use Rattle.rules.specs.Sound.{sound}
+use Rattle.rules.specs.Choice.{Pick, nobody, picked, least, due, open?, room, byWeight, byReservation, choice}
+use Rattle.rules.specs.Events.{Event, arrival, completion, tick, enter}
+use Rattle.rules.specs.Refusals.{Verdict, accept, refuse, verdict, isAccept, accepted}
+use Rattle.rules.specs.Refused.{ArrivalRefused, CompletionRefused, TickRefused}
+use Rattle.rules.specs.Run.{decided, step}
+use Rattle.rules.specs.declared.Phase.the-variants.{Reservation, Weight}
+use Rattle.rules.specs.declared.Refusal.{Refusal}
+use Rattle.rules.specs.declared.Answer.{Answer}
+use Rattle.rules.specs.declared.Answer.the-variants.{Nothing, Sent, Refused}
+use Rattle.rules.proofs.Trials.{X}
+use Rattle.rules.proofs.Judged.{Gives}
+use Rattle.rules.proofs.Refused.{Tells, arrival-refused, completion-refused, tick-refused}
+
+-- the answer is a refusal
+abbrev isRefused : Answer → Bool
+isRefused Nothing = false
+isRefused (Sent p g i) = false
+isRefused (Refused r) = true
+
+-- a choice refuses nothing
+unrefused : (t : Table) → isRefused (choice t .answer) ≡ false
+unfolding choice byReservation byWeight
+unrefused t =
+    elim (room t) as (λ b. isRefused ((if b then byReservation t (least (due t) Request.rtag (t .waiting)) else record { table = t; answer = Nothing }) .answer) ≡ false)
+    [ true ↦ reserve (least (due t) Request.rtag (t .waiting)) | false ↦ refl ]
+  where
+    weigh : (k : Pick) → isRefused (byWeight t k .answer) ≡ false
+    weigh nobody = refl
+    weigh (picked q w) = refl
+
+    reserve : (k : Pick) → isRefused (byReservation t k .answer) ≡ false
+    reserve nobody = weigh (least (open? t) Request.stag (t .waiting))
+    reserve (picked q w) = refl
+
+-- an event is answered with a refusal exactly where that is the verdict on it
+pub step-refused : (t : Table) (e : Event) (r : Refusal) → (step t e .answer ≡ Refused r) ↔ (verdict t e ≡ refuse r)
+unfolding step decided
+step-refused t e r = go (verdict t e)
+  where
+    go : (v : Verdict) → (decided v t e .answer ≡ Refused r) ↔ (v ≡ refuse r)
+    go accept = (λ h. absurd (false≢true (sym (unrefused (enter t e)) ∙ ap isRefused h)), λ h. absurd (true≢false (ap isAccept h)))
+    go (refuse s) = (λ h. cc, λ h. cc)
+
+-- number n is printed exactly where the verdict gives it
+pub step-shows : (t : Table) (e : Event) (n : ℕ) → (shown (step t e .answer) ≡ X n) ↔ Gives (verdict t e) n
+unfolding step decided
+step-shows t e n = go (verdict t e)
+  where
+    sent : (a : Answer) → isRefused a ≡ false → shown a ≡ X n → ⊥
+    sent Nothing f h = omega (arith, ap Printed.letter h)
+    sent (Sent Reservation g i) f h = omega (arith, ap Printed.letter h)
+    sent (Sent Weight g i) f h = omega (arith, ap Printed.letter h)
+    sent (Refused r) f h = true≢false f
+
+    go : (v : Verdict) → (shown (decided v t e .answer) ≡ X n) ↔ Gives v n
+    go accept = (λ h. sent (choice (enter t e) .answer) (unrefused (enter t e)) h, λ g. absurd g)
+    go (refuse s) = (λ h. ap (λ (p : Printed). getD (p .values) 0 0) h, λ g. ap X g)
+
+-- an event is accepted exactly where that is the verdict
+accepted-is : (v : Verdict) → (isAccept v ≡ true) ↔ (v ≡ accept)
+accepted-is accept = (λ h. refl, λ h. refl)
+accepted-is (refuse r) = (λ h. absurd (false≢true h), λ h. ap isAccept h)
+
+-- number n is printed for an event
+abbrev pub Prints : Table → Event → ℕ → Type 0
+Prints t e n = shown (step t e .answer) ≡ X n
+
+-- what the refusals of an event at a table are, as they are printed
+abbrev pub RefusedExactly : Table → Event → Type 0
+RefusedExactly t (arrival a now) = ArrivalRefused false (not (sound t)) t a now (Prints t (arrival a now)) (accepted t (arrival a now) ≡ true)
+RefusedExactly t (completion f now) = CompletionRefused false (not (sound t)) t f now (Prints t (completion f now)) (accepted t (completion f now) ≡ true)
+RefusedExactly t (tick now) = TickRefused false (not (sound t)) t now (Prints t (tick now)) (accepted t (tick now) ≡ true)
+
+tells : (t : Table) (e : Event) → Tells (verdict t e) (Prints t e) (accepted t e ≡ true)
+tells t e = record { number = step-shows t e; accepting = accepted-is (verdict t e) }
+
+-- each number is printed exactly where its condition holds and no earlier one of that event's list does
+pub refused-exactly : (t : Table) (e : Event) → RefusedExactly t e
+refused-exactly t (arrival a now) =
+    arrival-refused false (not (sound t)) t now (Prints t (arrival a now)) (accepted t (arrival a now) ≡ true) a (not-false (sound t)) (tells t (arrival a now))
+refused-exactly t (completion f now) =
+    completion-refused false (not (sound t)) t now (Prints t (completion f now)) (accepted t (completion f now) ≡ true) f (tells t (completion f now))
+refused-exactly t (tick now) =
+    tick-refused false (not (sound t)) t now (Prints t (tick now)) (accepted t (tick now) ≡ true) (tells t (tick now))

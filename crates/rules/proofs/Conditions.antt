@@ -1,0 +1,185 @@
+-- What each condition of a refusal says in plain facts, where it holds and where it does not. Assumes nothing.
+use mathlib.Core.Path.{_≡_, refl, sym, ap, _∙_}
+use mathlib.Core.Bool.{Bool, true, false, not, _&&_, _||_, true≢false, false≢true}
+use mathlib.Core.List.{List, List·Memᴰ, Memᴰ·cast}
+use mathlib.Core.Logic.{_↔_, inl, inr, ⊎-elim}
+use Prim.Native.Nat.{ℕ, _+_, _-_, _≤_, _<_}
+use lib.Dec.{ltb, leb, eqb}
+use borrow.Author.Tests.{ltb-true, ltb-false, lt-ltb, le-ltb, leb-true, leb-false, le-leb, lt-leb, eqb-true, eqb-false, eq-eqb, ne-eqb, not-true, not-false}
+use Rattle.lists.specs.Words.{all}
+use Rattle.lists.specs.WordsLaws.{both, join, either-fails, left-fails, right-fails, all-of-map, all-each, each-all, all-but, but-all}
+use Rattle.rules.specs.Numbers.{ceiling, within}
+use Rattle.rules.specs.Tables.{Settings, Request, Flight, Table, limited, same, lacks}
+use Rattle.rules.specs.Sound.{counted, settled, lawful}
+use Rattle.rules.specs.Events.{Arriving, smallest, shifted, adjusted, stampedFor}
+use Rattle.rules.specs.Refusals.{passing}
+use Rattle.rules.specs.Refused.{Above, Passing, given, moved, Countable, Good}
+
+-- what it says that a condition holds, and that it does not
+pub record Means (b : Bool) (Holds Fails : Type 0) : Type 0 where
+  pub holds : (b ≡ true) ↔ Holds
+  pub fails : (b ≡ false) ↔ Fails
+
+pub negated : {b : Bool} {P Q : Type 0} → Means b P Q → Means (not b) Q P
+negated {b} m =
+    record {
+      holds = (λ e. m .fails .0 (not-true b e), λ q. ap not (m .fails .1 q));
+      fails = (λ e. m .holds .0 (not-false b e), λ p. ap not (m .holds .1 p));
+    }
+
+-- a condition of which it is known what it says where it holds, or where it does not
+pub means : {b : Bool} {P : Type 0} → (b ≡ true) ↔ P → Means b P (P → ⊥)
+means {b = true} h = record { holds = h; fails = (λ e. absurd (true≢false e), λ n. absurd (n (h .0 refl))) }
+means {b = false} h = record { holds = h; fails = (λ e p. false≢true (h .1 p), λ n. refl) }
+
+means-not : {b : Bool} {P : Type 0} → (b ≡ false) ↔ P → Means b (P → ⊥) P
+means-not {b = true} h = record { holds = (λ e p. true≢false (h .1 p), λ n. refl); fails = h }
+means-not {b = false} h = record { holds = (λ e. absurd (false≢true e), λ n. absurd (n (h .0 refl))); fails = h }
+
+-- NUMBERS
+
+pub at-most : (a b : ℕ) → Means (leb a b) (a ≤ b) (b < a)
+at-most a b = record { holds = (leb-true a b, le-leb a b); fails = (leb-false a b, lt-leb a b) }
+
+pub less : (a b : ℕ) → Means (ltb a b) (a < b) (b ≤ a)
+less a b = record { holds = (ltb-true a b, lt-ltb a b); fails = (ltb-false a b, le-ltb a b) }
+
+pub equal : (a b : ℕ) → Means (eqb a b) (a ≡ b) (a ≡ b → ⊥)
+equal a b = record { holds = (eqb-true a b, eq-eqb a b); fails = (eqb-false a b, ne-eqb a b) }
+
+-- NAMES
+
+same-is : (a b : Flight) → same a b ≡ true → a ≡ b
+same-is a b h =
+    let p = both (eqb (a .guest) (b .guest)) (eqb (a .id) (b .id)) h in
+    λ i. record { guest = eqb-true (a .guest) (b .guest) (p .0) i; id = eqb-true (a .id) (b .id) (p .1) i }
+
+is-same : (a b : Flight) → a ≡ b → same a b ≡ true
+is-same a b e = join (eq-eqb (a .guest) (b .guest) (ap Flight.guest e)) (eq-eqb (a .id) (b .id) (ap Flight.id e))
+
+-- no entry of a list has a name, or one has it
+pub lacking : (a : Flight) (l : List Flight) → Means (lacks a l) (List·Memᴰ a l → ⊥) (List·Memᴰ a l)
+lacking a l = means-not (to, λ m. but-all other l a m (ap not (is-same a a refl)))
+  where
+    other : Flight → Bool
+    other b = not (same a b)
+
+    to : lacks a l ≡ false → List·Memᴰ a l
+    to e = let (b, m, o) = all-but other l e in Memᴰ·cast (same-is a b (not-false (same a b) o)) m
+
+-- TAGS
+
+unlawful : (q : Request) → lawful q ≡ false → Above q
+unfolding lawful
+unlawful q h =
+    ⊎-elim
+    (λ e. ⊎-elim (λ r. inl (leb-false (q .rtag) ceiling r)) (λ l. inr (inl (leb-false (q .ltag) ceiling l))) (either-fails (leb (q .rtag) ceiling) (leb (q .ltag) ceiling) e))
+    (λ s. inr (inr (leb-false (q .stag) ceiling s)))
+    (either-fails (leb (q .rtag) ceiling && leb (q .ltag) ceiling) (leb (q .stag) ceiling) h)
+
+above : (q : Request) → Above q → lawful q ≡ false
+unfolding lawful
+above q (inl r) = left-fails (leb (q .stag) ceiling) (left-fails (leb (q .ltag) ceiling) (lt-leb (q .rtag) ceiling r))
+above q (inr (inl l)) = left-fails (leb (q .stag) ceiling) (right-fails (leb (q .rtag) ceiling) (lt-leb (q .ltag) ceiling l))
+above q (inr (inr s)) = right-fails (leb (q .rtag) ceiling && leb (q .ltag) ceiling) (lt-leb (q .stag) ceiling s)
+
+-- of requests whose own tags are lawful, one that is moved passes the ceiling by its share tag alone
+moved-above : (now m : ℕ) (q : Request) → lawful q ≡ true → Above (shifted now m q) → ceiling < q .stag + now - m
+unfolding shifted
+moved-above now m q h (inl r) = absurd (true≢false (sym h ∙ above q (inl r)))
+moved-above now m q h (inr (inl l)) = absurd (true≢false (sym h ∙ above q (inr (inl l))))
+moved-above now m q h (inr (inr s)) = s
+
+-- where the waiting tags are lawful, the test says just that
+pub passing-means : (idle : Bool) (now : ℕ) (a : Arriving) (t : Table) → all lawful (t .waiting) ≡ true → Means (passing idle now a t) (Passing idle now a t) (Passing idle now a t → ⊥)
+unfolding adjusted shifted
+passing-means idle now a t fine = means (to idle, back idle)
+  where
+    fits : Request → Bool
+    fits q = lawful (shifted now (smallest t) q)
+
+    shift : (b : Bool) → all lawful ((adjusted b now t) .waiting) ≡ false → Passing b now a t
+    shift false w = absurd (true≢false (sym fine ∙ w))
+    shift true w =
+        let (q, m, u) = all-but fits (t .waiting) (sym (all-of-map lawful (shifted now (smallest t)) (t .waiting)) ∙ w) in
+        moved refl q m (moved-above now (smallest t) q (all-each lawful (t .waiting) fine q m) (unlawful (shifted now (smallest t) q) u))
+
+    to : (b : Bool) → passing b now a t ≡ true → Passing b now a t
+    to b e =
+        let w : Bool = all lawful ((adjusted b now t) .waiting) in
+        let s : Bool = lawful (stampedFor b now a t) in
+        ⊎-elim (shift b) (λ u. given (unlawful (stampedFor b now a t) u)) (either-fails w s (not-true (w && s) e))
+
+    back : (b : Bool) → Passing b now a t → passing b now a t ≡ true
+    back b (given u) = ap not (right-fails (all lawful ((adjusted b now t) .waiting)) (above (stampedFor b now a t) u))
+    back false (moved i q m u) = absurd (false≢true i)
+    back true (moved i q m u) =
+        ap not
+        (left-fails (lawful (stampedFor true now a t))
+        (all-of-map lawful (shifted now (smallest t)) (t .waiting) ∙ but-all fits (t .waiting) q m (above (shifted now (smallest t) q) (inr (inr u)))))
+
+-- SETTINGS
+
+within-means : (a b n : ℕ) → (within a b n ≡ true) ↔ ((a ≤ n) × (n ≤ b))
+within-means a b n =
+    (λ h. let p = both (leb a n) (leb n b) h in (leb-true a n (p .0), leb-true n b (p .1)), λ p. join (le-leb a n (p .0)) (le-leb n b (p .1)))
+
+pub counted-means : (d n c : ℕ) → Means (counted d n c) (Countable d n c) (Countable d n c → ⊥)
+unfolding counted
+counted-means d n c = means (to, λ k. join (join (within-means 1 64 d .1 (k .depths)) (within-means 1 64 n .1 (k .guest-count))) (within-means 1 1024 c .1 (k .capacities)))
+  where
+    to : within 1 64 d && within 1 64 n && within 1 1024 c ≡ true → Countable d n c
+    to h =
+        let p = both (within 1 64 d && within 1 64 n) (within 1 1024 c) h in
+        let q = both (within 1 64 d) (within 1 64 n) (p .0) in
+        record { depths = within-means 1 64 d .0 (q .0); guest-count = within-means 1 64 n .0 (q .1); capacities = within-means 1 1024 c .0 (p .1) }
+
+-- one guest's settings
+settled-good : (s : Settings) → (settled s ≡ true) ↔ Good s
+unfolding settled
+settled-good s = (to, back)
+  where
+    r : Bool
+    r = leb (s .reservation) 1000000
+
+    l : Bool
+    l = leb (s .limit) 1000000
+
+    w : Bool
+    w = within 1 1000000 (s .shares)
+
+    a : Bool
+    a = not (limited s) || leb (s .reservation) (s .limit)
+
+    to : r && l && w && a ≡ true → Good s
+    to h =
+        let p = both (r && l && w) a h in
+        let q = both (r && l) w (p .0) in
+        let o = both r l (q .0) in
+        record {
+          reservations = leb-true (s .reservation) 1000000 (o .0);
+          limits = leb-true (s .limit) 1000000 (o .1);
+          share-count = within-means 1 1000000 (s .shares) .0 (q .1);
+          not-above = λ k. leb-true (s .reservation) (s .limit) (rw (lt-ltb 0 (s .limit) k) at (p .1));
+        }
+
+    beside : Good s → (b : Bool) → limited s ≡ b → not b || leb (s .reservation) (s .limit) ≡ true
+    beside g true e = le-leb (s .reservation) (s .limit) (g .not-above (ltb-true 0 (s .limit) e))
+    beside g false e = refl
+
+    back : Good s → r && l && w && a ≡ true
+    back g =
+        join
+        (join (join (le-leb (s .reservation) 1000000 (g .reservations)) (le-leb (s .limit) 1000000 (g .limits))) (within-means 1 1000000 (s .shares) .1 (g .share-count)))
+        (beside g (limited s) refl)
+
+-- the settings of all guests are good, or there are some that are not
+pub settled-means : (ss : List Settings) → Means (all settled ss) ((s : Settings) → List·Memᴰ s ss → Good s) ((s : Settings) × List·Memᴰ s ss × (Good s → ⊥))
+settled-means ss =
+    record {
+      holds = (λ h s m. settled-good s .0 (all-each settled ss h s m), λ k. each-all settled ss (λ s m. settled-good s .1 (k s m)));
+      fails = (to, λ (s, m, n). but-all settled ss s m (means (settled-good s) .fails .1 n));
+    }
+  where
+    to : all settled ss ≡ false → (s : Settings) × List·Memᴰ s ss × (Good s → ⊥)
+    to h = let (s, m, e) = all-but settled ss h in (s, m, means (settled-good s) .fails .0 e)

@@ -1,0 +1,117 @@
+-- More readings, as one table under a single statement: document 01's unmarked ones, and small runs that shut out its plausible errors.
+-- Assumes nothing.
+use mathlib.Core.Path.{_≡_, refl}
+use mathlib.Core.List.{List, [], _∷_}
+use Prim.Native.Nat.{ℕ, suc}
+use lib.ListN.{replicate}
+use Rattle.rules.specs.Numbers.{ceiling}
+use Rattle.rules.specs.Tables.{Settings, Guest, Request, Table}
+use Rattle.rules.specs.Events.{Event, arrival, tick}
+use Rattle.rules.specs.Run.{fresh}
+use Rattle.rules.proofs.Trials.{ms, settings, comes, ends, -, R, W, X, lines, waitingAfter, guestsAfter}
+
+-- a guest without reservation or limit, with shares 1; and one with reservation 1 besides: their spacings are a second
+abbrev free : Settings
+free = settings 0 0 1
+
+abbrev owed : Settings
+owed = settings 1 0 1
+
+-- an arrival at a time in nanoseconds
+abbrev comesAt : (g i : ℕ) → ℕ → Event
+comesAt g i n = arrival (record { guest = g; id = i }) n
+
+-- one place at the array, eight to wait
+abbrev gate : List Settings → Table
+gate ss = fresh 1 8 ss
+
+-- guest 0 has id 1 in flight, and ids 2 and 3 waiting since 0
+abbrev queued : List Event → List Event
+queued es = comes 0 1 0 ∷ comes 0 2 0 ∷ comes 0 3 0 ∷ es
+
+-- guest 0's reservation 1, limit 1 and shares 1 put a second between its tags; guest 1 comes at 100 ms, then guest 0 with its next numbers
+abbrev bound : Table
+bound = gate (settings 1 1 1 ∷ settings 0 0 2 ∷ [])
+
+abbrev joined : List Event
+joined = queued (comes 1 1 100 ∷ comes 0 4 100 ∷ [])
+
+-- reservation 250,000 and limit 500,000 put 4,000 and 2,000 ns between the tags; ids 2 and 3 come at 9,000 ns
+abbrev brisk : Table
+brisk = gate (settings 250000 500000 1 ∷ [])
+
+abbrev later : List Event
+later = comesAt 0 1 0 ∷ comesAt 0 2 9000 ∷ comesAt 0 3 9000 ∷ []
+
+-- guest 1 has id 1 in flight and none waiting, guest 0 has ids 1 and 2 waiting; guest 1 comes again at 100 ms
+abbrev returned : List Event
+returned = comes 1 1 0 ∷ comes 0 1 0 ∷ comes 0 2 0 ∷ comes 1 2 100 ∷ []
+
+-- two guests with reservation 1: guest 0's id 2 goes by weight while its id 3 and guest 1's id 2 wait
+abbrev spared : List Event
+spared = queued (comes 1 1 0 ∷ comes 1 2 0 ∷ ends 0 1 0 ∷ ends 1 1 0 ∷ [])
+
+pub record Guards : Type 0 where
+  -- "Time 2^62 − 1 is accepted, 2^62 is refused 5."
+  pub last-time : lines (gate (free ∷ [])) (tick ceiling ∷ tick (suc ceiling) ∷ []) ≡ - ∷ X 5 ∷ []
+  -- "A second arrival of one guest at 2^62 − 1, with a new id and room to wait, is refused 9": a tag given passes the ceiling
+  pub last-arrival : lines (gate (free ∷ [])) (comesAt 0 1 ceiling ∷ comesAt 0 2 ceiling ∷ []) ≡ W 0 1 ∷ X 9 ∷ []
+  -- a share tag moved passes the ceiling: that of id 3, one second behind the smallest
+  pub moved-past : lines (gate (free ∷ free ∷ [])) (queued (comesAt 1 1 ceiling ∷ [])) ≡ W 0 1 ∷ - ∷ - ∷ X 9 ∷ []
+  -- "Capacity 1, depth 1, one unlimited guest, three ids: first arrival sent, second waits, third refused 8; after a completion the third is accepted."
+  pub one-place :
+      lines (fresh 1 1 (free ∷ [])) (comes 0 1 0 ∷ comes 0 2 0 ∷ comes 0 3 0 ∷ ends 0 1 0 ∷ comes 0 3 0 ∷ []) ≡ W 0 1 ∷ - ∷ X 8 ∷ W 0 2 ∷ - ∷ []
+  -- "Guest 64 of 64 (number 63) is known; 64 is refused 4."
+  pub last-guest : lines (gate (replicate 64 free)) (comes 64 1 0 ∷ comes 63 1 0 ∷ []) ≡ X 4 ∷ W 63 1 ∷ []
+  -- each event's time is judged, and an equal time is accepted
+  pub time-before : lines (gate (free ∷ [])) (comes 0 1 5 ∷ comes 0 2 4 ∷ ends 0 1 4 ∷ tick (ms 4) ∷ tick (ms 5) ∷ []) ≡ W 0 1 ∷ X 6 ∷ X 6 ∷ X 6 ∷ - ∷ []
+  -- an id is its guest's own: it is in use while it waits or is in flight, another guest may use it, and it is free again after its completion
+  pub ids :
+      lines (gate (free ∷ free ∷ [])) (comes 0 1 0 ∷ comes 0 1 0 ∷ comes 1 1 0 ∷ comes 1 1 0 ∷ ends 1 1 0 ∷ ends 0 1 0 ∷ comes 0 1 0 ∷ [])
+      ≡ W 0 1 ∷ X 7 ∷ - ∷ X 7 ∷ X 10 ∷ W 1 1 ∷ - ∷ []
+  -- of equal share tags the earlier accepted goes, not the smaller guest number
+  pub tie-by-weight : lines (gate (free ∷ free ∷ free ∷ [])) (comes 2 1 0 ∷ comes 1 1 0 ∷ comes 0 1 0 ∷ ends 2 1 0 ∷ []) ≡ W 2 1 ∷ - ∷ - ∷ W 1 1 ∷ []
+  -- of equal reservation tags likewise
+  pub tie-by-reservation : lines (gate (owed ∷ owed ∷ owed ∷ [])) (comes 2 1 0 ∷ comes 1 1 0 ∷ comes 0 1 0 ∷ ends 2 1 0 ∷ []) ≡ R 2 1 ∷ - ∷ - ∷ R 1 1 ∷ []
+  -- a tag is never below the time: the next numbers 4,000, 2,000 and a second give 9,000, 9,000 and a second at 9,000, and the next after them count from there
+  pub tags-from-now : waitingAfter Request.rtag brisk later ≡ 9000 ∷ 13000 ∷ []
+  pub limits-from-now : waitingAfter Request.ltag brisk later ≡ 9000 ∷ 11000 ∷ []
+  pub shares-from-now : waitingAfter Request.stag brisk later ≡ ms 1000 ∷ ms 2000 ∷ []
+  -- the arrival of an idle guest moves the share tags and next share numbers of those that wait, down here, and nothing else
+  pub moved-shares : waitingAfter Request.stag bound joined ≡ ms 100 ∷ ms 1100 ∷ ms 100 ∷ ms 2100 ∷ []
+  pub unmoved-reservations : waitingAfter Request.rtag bound joined ≡ ms 1000 ∷ ms 2000 ∷ 0 ∷ ms 3000 ∷ []
+  pub unmoved-limits : waitingAfter Request.ltag bound joined ≡ ms 1000 ∷ ms 2000 ∷ 0 ∷ ms 3000 ∷ []
+  -- the arrival of a guest that has something waiting moves nothing
+  pub not-idle : waitingAfter Request.stag bound (queued (comes 0 4 100 ∷ [])) ≡ ms 1000 ∷ ms 2000 ∷ ms 3000 ∷ []
+  -- a guest with requests in flight only is idle: its arrival moves the others' tags, 0 and 1,000 ms, and not its own next number, 500 ms
+  pub idle-in-flight : waitingAfter Request.stag (gate (free ∷ settings 0 0 2 ∷ [])) returned ≡ ms 100 ∷ ms 1100 ∷ ms 500 ∷ []
+  -- a weight send drops the reservation tags that wait of that guest, and its next number, and no other guest's
+  pub spare : lines (gate (owed ∷ owed ∷ [])) spared ≡ R 0 1 ∷ - ∷ - ∷ - ∷ - ∷ R 1 1 ∷ W 0 2 ∷ []
+  pub spare-tags : waitingAfter Request.rtag (gate (owed ∷ owed ∷ [])) spared ≡ ms 1000 ∷ ms 1000 ∷ []
+  pub spare-nexts : guestsAfter Guest.rnext (gate (owed ∷ owed ∷ [])) spared ≡ ms 2000 ∷ ms 2000 ∷ []
+
+pub guards : Guards
+unfolding lines
+guards =
+    record {
+      last-time = refl;
+      last-arrival = refl;
+      moved-past = refl;
+      one-place = refl;
+      last-guest = refl;
+      time-before = refl;
+      ids = refl;
+      tie-by-weight = refl;
+      tie-by-reservation = refl;
+      tags-from-now = refl;
+      limits-from-now = refl;
+      shares-from-now = refl;
+      moved-shares = refl;
+      unmoved-reservations = refl;
+      unmoved-limits = refl;
+      not-idle = refl;
+      idle-in-flight = refl;
+      spare = refl;
+      spare-tags = refl;
+      spare-nexts = refl;
+    }

@@ -1,0 +1,52 @@
+-- Words for the runs that the tables of readings compute: events, printed lines, the tags that wait after a run. Assumes nothing.
+use mathlib.Core.List.{List, [], _∷_, map}
+use Prim.Native.Nat.{ℕ, _*_}
+use Rattle.lists.specs.Words.{lowest}
+use Rattle.rules.specs.Numbers.{down, up}
+use Rattle.rules.specs.Tables.{Settings, Guest, Request, Table, idle}
+use Rattle.rules.specs.Answers.{Printed, shown}
+use Rattle.rules.specs.Sound.{counted, settled, ranges, distinct, lawful, kept, orderly, sound}
+use Rattle.rules.specs.Choice.{dueAt, openAt, passes, sending, earlier, sooner, dropped, byWeight, byReservation, room, choice}
+use Rattle.rules.specs.Events.{Event, arrival, completion, shifted, shiftedNext, adjusted, shareTag, stamped, following, placed, arriveAs, arrive, complete, wait, enter}
+use Rattle.rules.specs.Refusals.{eventTests}
+use Rattle.rules.specs.Run.{decided, step, after, answers, fresh}
+
+-- milliseconds
+abbrev pub ms : ℕ → ℕ
+ms n = n * 1000000
+
+abbrev pub settings : (reservation limit shares : ℕ) → Settings
+settings r l s = record { reservation = r; limit = l; shares = s }
+
+-- an arrival and a completion of guest g, and their times in ms
+abbrev pub comes : (g i : ℕ) → ℕ → Event
+comes g i n = arrival (record { guest = g; id = i }) (ms n)
+
+abbrev pub ends : (g i : ℕ) → ℕ → Event
+ends g i n = completion (record { guest = g; id = i }) (ms n)
+
+-- how the paper prints a line: nothing, by reservation, by weight, refused
+abbrev pub - : Printed
+- = record { letter = 45; values = [] }
+
+abbrev pub R : ℕ → ℕ → Printed
+R g i = record { letter = 82; values = g ∷ i ∷ [] }
+
+abbrev pub W : ℕ → ℕ → Printed
+W g i = record { letter = 87; values = g ∷ i ∷ [] }
+
+abbrev pub X : ℕ → Printed
+X n = record { letter = 88; values = n ∷ [] }
+
+-- what is printed of a run; to unfold it is to unfold all that a run computes with
+unfoldable pub lines : Table → List Event → List Printed
+unfolding down up lowest idle counted settled ranges distinct lawful kept orderly sound dueAt openAt passes sending earlier sooner dropped byWeight byReservation room choice shifted shiftedNext adjusted shareTag stamped following placed arriveAs arrive complete wait enter eventTests decided step after answers fresh
+lines t es = map shown (answers t es)
+
+-- a number of each request that waits after a run
+abbrev pub waitingAfter : (Request → ℕ) → Table → List Event → List ℕ
+waitingAfter tag t es = map tag ((after t es) .waiting)
+
+-- a number of each guest after a run
+abbrev pub guestsAfter : (Guest → ℕ) → Table → List Event → List ℕ
+guestsAfter next t es = map next ((after t es) .guests)
