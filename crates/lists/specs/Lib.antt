@@ -1,5 +1,6 @@
 pub mod Words
 pub mod WordsLaws
+pub mod Walks
 pub mod Tab
 pub mod Stores
 pub mod Parts
@@ -7,3 +8,4 @@ pub mod Lines
 pub mod LinesLaws
 pub mod Rows
 pub mod RowsLaws
+pub mod FillLaws

@@ -7,7 +7,7 @@ use native.Mathlib.Omega.{arith}
 use lib.ListN.{length, getD, set, length-map, length-set, List·getD-map}
 use lib.Seq.{getD-set-same, set-set}
 use Rattle.lists.specs.Words.{each}
-use Rattle.lists.specs.Tab.{tab, map-tab, tab-ext, getD-tab, removeAt}
+use Rattle.lists.specs.Tab.{tab, map-tab, tab-ext, tab-snoc, removeAt}
 use Rattle.lists.specs.Stores.{stores}
 use Rattle.lists.specs.Parts.{shut}
 use Rattle.lists.specs.Lines.{lineAt, linesOf, over}
@@ -65,6 +65,13 @@ module _ {A : Type 0} (f : Form A) where
   pub rows-tab : (xs : List ℕ) (n : ℕ) → rowsOf f xs n ≡ tab n (λ k. f .read (lineAt (f .wide) xs k))
   unfolding rowsOf linesOf
   rows-tab xs n = map-tab (f .read) n (lineAt (f .wide) xs)
+
+  -- one row more
+  pub rows-snoc : (xs : List ℕ) (n : ℕ) → rowsOf f xs (suc n) ≡ rowsOf f xs n ++ (f .read (lineAt (f .wide) xs n) ∷ [])
+  rows-snoc xs n =
+      rows-tab xs (suc n)
+      ∙ tab-snoc n (λ k. f .read (lineAt (f .wide) xs k))
+      ∙ ap (_++ (f .read (lineAt (f .wide) xs n) ∷ [])) (sym (rows-tab xs n))
 
   pub length-over-rows : Exact f → (cap : ℕ) (l : List A) (xs : List ℕ) → length (overRows f cap l xs) ≡ length xs
   unfolding overRows

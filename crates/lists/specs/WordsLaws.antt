@@ -1,6 +1,6 @@
 -- Laws of the words of Words.antt. Assumes nothing.
 use mathlib.Core.Path.{_≡_, refl, sym, ap, ap₂, _∙_}
-use mathlib.Core.Bool.{Bool, true, false, not, _&&_, false≢true, true≢false}
+use mathlib.Core.Bool.{Bool, true, false, not, _&&_, false≢true, true≢false, and-false, and-true, and-assoc}
 use mathlib.Core.List.{List, [], _∷_, _++_, map, List·Memᴰ, List·Memᴰ·head, List·Memᴰ·tail}
 use Prim.Native.Nat.{ℕ, zero, suc, min, _≤_, _<_, _+_}
 use mathlib.Core.Logic.{_⊎_, inl, inr}
@@ -8,7 +8,8 @@ use native.Mathlib.Omega.{arith}
 use lib.Dec.{leb, eqb}
 use lib.ListN.{length, getD}
 use borrow.Author.Tests.{le-leb, eqb-true, eqb-false, eq-eqb, ne-eqb}
-use Rattle.lists.specs.Words.{if_then_else_, all, filter, without, each, below, lowest}
+use Rattle.lists.specs.Words.{if_then_else_, all, filter, without, each, below, lowest, empty}
+use Rattle.lists.specs.Tab.{removeAt}
 
 -- TWO TESTS
 
@@ -54,6 +55,54 @@ pub all-mid : {A : Type 0} (f : A → Bool) (a : List A) (x : A) (b : List A) �
 all-mid f [] x b h = both (f x) (all f b) h
 all-mid f (y ∷ a) x b h = let c = both (f y) (all f (a ++ x ∷ b)) h in let d = all-mid f a x b (c .1) in (d .0, join (c .0) (d .1))
 
+-- the entry at every place passes: all do
+pub places-all : {A : Type 0} (f : A → Bool) (l : List A) (d : A) → ((j : ℕ) → j < length l → f (getD l j d) ≡ true) → all f l ≡ true
+places-all f [] d h = refl
+places-all f (x ∷ l) d h = join (h 0 (omega arith)) (places-all f l d (λ j k. h (suc j) (omega arith)))
+
+-- a test on changed entries is a test on the entries
+pub all-of-map : {A B : Type 0} (f : B → Bool) (k : A → B) (l : List A) → all f (map k l) ≡ all (λ x. f (k x)) l
+all-of-map f k [] = refl
+all-of-map f k (x ∷ l) = ap (f (k x) &&_) (all-of-map f k l)
+
+-- the entry at a place
+pub all-at : {A : Type 0} (f : A → Bool) (l : List A) (d : A) → all f l ≡ true → (j : ℕ) → j < length l → f (getD l j d) ≡ true
+all-at f [] d h j k = absurd (omega arith)
+all-at f (x ∷ l) d h zero k = both (f x) (all f l) h .0
+all-at f (x ∷ l) d h (suc j) k = all-at f l d (both (f x) (all f l) h .1) j (omega arith)
+
+-- what passes is among all
+pub all-filter : {A : Type 0} (f k : A → Bool) (l : List A) → all f l ≡ true → all f (filter k l) ≡ true
+all-filter f k [] h = refl
+all-filter f k (x ∷ l) h =
+    let c = both (f x) (all f l) h in
+    let i = all-filter f k l (c .1) in
+    elim (k x) as (λ z. all f (if z then x ∷ filter k l else filter k l) ≡ true) [ true ↦ join (c .0) i | false ↦ i ]
+
+-- one more at the end
+pub all-snoc : {A : Type 0} (f : A → Bool) (l : List A) (x : A) → all f (l ++ (x ∷ [])) ≡ all f l && f x
+all-snoc f [] x = and-true (f x)
+all-snoc f (y ∷ l) x = ap (f y &&_) (all-snoc f l x) ∙ sym (and-assoc (f y) (all f l) (f x))
+
+-- nothing is left where no entry passes
+pub none-left : {A : Type 0} (f : A → Bool) (l : List A) → empty (filter f l) ≡ all (λ x. not (f x)) l
+none-left f [] = refl
+none-left f (x ∷ l) =
+    elim (f x) as (λ b. empty (if b then x ∷ filter f l else filter f l) ≡ not b && all (λ x. not (f x)) l)
+    [ true ↦ refl | false ↦ none-left f l ]
+
+-- the entry at one place does not pass: not all do
+pub place-not : {A : Type 0} (f : A → Bool) (l : List A) (d : A) (i : ℕ) → i < length l → f (getD l i d) ≡ false → all f l ≡ false
+place-not f [] d i h e = absurd (omega arith)
+place-not f (x ∷ l) d zero h e = rw e
+place-not f (x ∷ l) d (suc i) h e = rw (place-not f l d i (omega arith) e) (and-false (f x))
+
+-- the first place that passes is the one that `without` takes out
+pub without-at : {A : Type 0} (f : A → Bool) (l : List A) (d : A) (i : ℕ) → i < length l → f (getD l i d) ≡ true → ((j : ℕ) → j < i → f (getD l j d) ≡ false) → without f l ≡ removeAt i l
+without-at f [] d i h e n = absurd (omega arith)
+without-at f (x ∷ l) d zero h e n = rw e
+without-at f (x ∷ l) d (suc i) h e n = rw (n 0 (omega arith)) (ap (x ∷_) (without-at f l d i (omega arith) e (λ j k. n (suc j) (omega arith))))
+
 pub below-at : (n : ℕ) (f : ℕ → Bool) → below n f ≡ true → (g : ℕ) → g < n → f g ≡ true
 below-at zero f p g h = absurd (omega arith)
 below-at (suc n) f p g h = go (eqb g n) refl (λ k. below-at n f (both (f n) (below n f) p .1) g k)
@@ -70,20 +119,6 @@ at-below (suc n) f h = join (h n (omega arith)) (at-below n f (λ g k. h g (omeg
 pub all-parts : {A : Type 0} (f : A → Bool) (a b : List A) → all f (a ++ b) ≡ true → (all f a ≡ true) × (all f b ≡ true)
 all-parts f [] b h = (refl, h)
 all-parts f (x ∷ a) b h = let c = both (f x) (all f (a ++ b)) h in let d = all-parts f a b (c .1) in (join (c .0) (d .0), d .1)
-
--- the entry at a place
-pub all-at : {A : Type 0} (f : A → Bool) (l : List A) (d : A) → all f l ≡ true → (j : ℕ) → j < length l → f (getD l j d) ≡ true
-all-at f [] d h j k = absurd (omega arith)
-all-at f (x ∷ l) d h zero k = both (f x) (all f l) h .0
-all-at f (x ∷ l) d h (suc j) k = all-at f l d (both (f x) (all f l) h .1) j (omega arith)
-
--- what passes is among all
-pub all-filter : {A : Type 0} (f k : A → Bool) (l : List A) → all f l ≡ true → all f (filter k l) ≡ true
-all-filter f k [] h = refl
-all-filter f k (x ∷ l) h =
-    let c = both (f x) (all f l) h in
-    let i = all-filter f k l (c .1) in
-    elim (k x) as (λ z. all f (if z then x ∷ filter k l else filter k l) ≡ true) [ true ↦ join (c .0) i | false ↦ i ]
 
 -- and passes
 pub filter-passes : {A : Type 0} (f : A → Bool) (l : List A) → all f (filter f l) ≡ true
@@ -143,12 +178,6 @@ map-same g f h (x ∷ l) = ap₂ _∷_ (h x) (map-same g f h l)
 pub all-same : {A : Type 0} (f : A → Bool) (k : A → A) → ((x : A) → f (k x) ≡ f x) → (l : List A) → all f (map k l) ≡ all f l
 all-same f k h [] = refl
 all-same f k h (x ∷ l) = ap₂ _&&_ (h x) (all-same f k h l)
-
--- a test of what a change gives
--- a test on changed entries is a test on the entries
-pub all-of-map : {A B : Type 0} (f : B → Bool) (k : A → B) (l : List A) → all f (map k l) ≡ all (λ x. f (k x)) l
-all-of-map f k [] = refl
-all-of-map f k (x ∷ l) = ap (f (k x) &&_) (all-of-map f k l)
 
 -- two changes that are the same where a test holds
 pub map-on : {A B : Type 0} (p : A → Bool) (f k : A → B) → ((x : A) → p x ≡ true → f x ≡ k x) → (l : List A) → all p l ≡ true → map f l ≡ map k l
@@ -231,3 +260,12 @@ but-all f l x m h = go (all f l) refl
     go : (b : Bool) → all f l ≡ b → b ≡ false
     go true e = absurd (true≢false (sym (all-each f l e x m) ∙ h))
     go false e = refl
+
+-- THE SMALLEST
+
+-- one more at the end
+pub lowest-snoc : (l : List ℕ) (x : ℕ) → 0 < length l → lowest (l ++ (x ∷ [])) ≡ min (lowest l) x
+unfolding lowest
+lowest-snoc [] x h = absurd (omega arith)
+lowest-snoc (y ∷ []) x h = refl
+lowest-snoc (y ∷ z ∷ l) x h = omega (arith, lowest-snoc (z ∷ l) x (omega arith))

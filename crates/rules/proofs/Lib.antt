@@ -1,4 +1,6 @@
 pub mod Judged
+pub mod Places
+pub mod Chosen
 pub mod Sorted
 pub mod Line
 pub mod LineMoves
@@ -27,6 +29,4 @@ pub mod Conditions
 pub mod Refused
 pub mod Trials
 pub mod Answered
-pub mod Places
-pub mod Chosen
 pub mod Guards

@@ -1,0 +1,12 @@
+pub mod Fitted
+pub mod Records
+pub mod Places
+pub mod Buckets
+pub mod Chains
+pub mod Floors
+pub mod Gapped
+pub mod Rowed
+pub mod OneKind
+pub mod Judged
+pub mod Zeros
+pub mod SoundKnown

@@ -1,0 +1,100 @@
+-- `distinct` by places of both tables. Assumes nothing.
+use Prim.Native.Nat.{ℕ, zero, suc, _+_, _*_, _-_, _≤_, _<_}
+use mathlib.Core.Path.{_≡_, refl, sym, ap, _∙_}
+use mathlib.Core.Bool.{Bool, true, false, not, _&&_, and-false}
+use mathlib.Core.List.{List, [], _∷_, _++_, map}
+use mathlib.Core.Logic.{⊎-elim}
+use native.Mathlib.Omega.{arith}
+use lib.Dec.{eqb, ltb}
+use lib.ListN.{length, getD, length-append, length-map, List·getD-append, List·getD-map}
+use lib.Seq.{getD-append-add}
+use borrow.Author.Tests.{eq-eqb, eqb-true, lt-ltb, le-ltb}
+use Rattle.lists.specs.WordsLaws.{join}
+use Rattle.lists.specs.Walks.{place-not}
+use Rattle.lists.specs.Tab.{lt-or-le}
+use Rattle.lists.specs.Rows.{Form}
+use Rattle.lists.specs.RowsLaws.{row-at, length-rows}
+use Rattle.rules.specs.Tables.{Flight, name, same, lacks}
+use Rattle.rules.specs.Sound.{distinct}
+use Rattle.table.specs.View.{requestForm, flightForm, waitingOf, flightsOf}
+use Rattle.sound.specs.Names.{namesOf, guestAt, idAt}
+
+abbrev nobody : Flight
+nobody = record { guest = 0; id = 0 }
+
+-- BY PLACES
+
+same-is : (a b : Flight) → a .guest ≡ b .guest → a .id ≡ b .id → same a b ≡ true
+same-is a b e f = join (eq-eqb (a .guest) (b .guest) e) (eq-eqb (a .id) (b .id) f)
+
+same-not : (a b : Flight) → (a .guest ≡ b .guest → a .id ≡ b .id → ⊥) → not (same a b) ≡ true
+same-not a b h = go (eqb (a .guest) (b .guest)) refl (eqb (a .id) (b .id)) refl
+  where
+    go : (x : Bool) → eqb (a .guest) (b .guest) ≡ x → (y : Bool) → eqb (a .id) (b .id) ≡ y → not (x && y) ≡ true
+    go false e y f = refl
+    go true e false f = refl
+    go true e true f = absurd (h (eqb-true (a .guest) (b .guest) e) (eqb-true (a .id) (b .id) f))
+
+lacks-none : (a : Flight) (l : List Flight) → ((i : ℕ) → i < length l → a .guest ≡ (getD l i nobody) .guest → a .id ≡ (getD l i nobody) .id → ⊥) → lacks a l ≡ true
+lacks-none a [] h = refl
+lacks-none a (b ∷ l) h = join (same-not a b (h 0 (omega arith))) (lacks-none a l (λ i m. h (suc i) (omega arith)))
+
+-- two places with one name
+distinct-hit : (l : List Flight) (j i : ℕ) → j < i → i < length l → (getD l j nobody) .guest ≡ (getD l i nobody) .guest → (getD l j nobody) .id ≡ (getD l i nobody) .id → distinct l ≡ false
+unfolding distinct
+distinct-hit [] j i h m e f = absurd (omega arith)
+distinct-hit (a ∷ l) j zero h m e f = absurd (omega arith)
+distinct-hit (a ∷ l) zero (suc i) h m e f = rw (place-not (λ b. not (same a b)) l nobody i (omega arith) (ap not (same-is a (getD l i nobody) e f)))
+distinct-hit (a ∷ l) (suc j) (suc i) h m e f = rw (distinct-hit l j i (omega arith) (omega arith) e f) (and-false (lacks a l))
+
+-- and no two
+distinct-none : (l : List Flight) → ((j i : ℕ) → j < i → i < length l → (getD l j nobody) .guest ≡ (getD l i nobody) .guest → (getD l j nobody) .id ≡ (getD l i nobody) .id → ⊥) → distinct l ≡ true
+unfolding distinct
+distinct-none [] h = refl
+distinct-none (a ∷ l) h = join (lacks-none a l (λ i m. h 0 (suc i) (omega arith) (omega arith))) (distinct-none l (λ j i k m. h (suc j) (suc i) (omega arith) (omega arith)))
+
+-- BOTH TABLES
+
+module _ (ws : List ℕ) (n : ℕ) (fs : List ℕ) (m : ℕ) where
+  size : length (map name (waitingOf ws n)) ≡ n
+  size = length-map (waitingOf ws n) name ∙ length-rows requestForm ws n
+
+  length-names : length (namesOf ws n fs m) ≡ n + m
+  length-names = omega (arith, length-append (map name (waitingOf ws n)) (flightsOf fs m), size, length-rows flightForm fs m)
+
+  -- the name at place k is what the code reads
+  name-at : (k : ℕ) → k < n + m → getD (namesOf ws n fs m) k nobody ≡ record { guest = guestAt ws n fs k; id = idAt ws n fs k }
+  unfolding guestAt idAt
+  name-at k h = ⊎-elim low high (lt-or-le k n)
+    where
+      low : k < n → getD (namesOf ws n fs m) k nobody ≡ record { guest = guestAt ws n fs k; id = idAt ws n fs k }
+      low l =
+          List·getD-append (map name (waitingOf ws n)) (flightsOf fs m) nobody k (omega (arith, size))
+          ∙ List·getD-map name (waitingOf ws n) k (requestForm .read [])
+          ∙ ap name (row-at requestForm ws n k l)
+          ∙ sym (rw (lt-ltb k n l))
+
+      high : n ≤ k → getD (namesOf ws n fs m) k nobody ≡ record { guest = guestAt ws n fs k; id = idAt ws n fs k }
+      high l =
+          let e : k ≡ length (map name (waitingOf ws n)) + (k - n) = omega (arith, size) in
+          ap (λ (i : ℕ). getD (namesOf ws n fs m) i nobody) e
+          ∙ getD-append-add (map name (waitingOf ws n)) (flightsOf fs m) (k - n) nobody
+          ∙ row-at flightForm fs m (k - n) (omega arith)
+          ∙ sym (rw (le-ltb k n l))
+
+  -- what the loops' answers rest on
+  pub names-hit : (j i : ℕ) → j < i → i < n + m → guestAt ws n fs j ≡ guestAt ws n fs i → idAt ws n fs j ≡ idAt ws n fs i → distinct (namesOf ws n fs m) ≡ false
+  names-hit j i l h e g =
+      let at-j = name-at j (omega arith) in
+      let at-i = name-at i h in
+      distinct-hit (namesOf ws n fs m) j i l (omega (arith, length-names))
+      (ap Flight.guest at-j ∙ e ∙ sym (ap Flight.guest at-i)) (ap Flight.id at-j ∙ g ∙ sym (ap Flight.id at-i))
+
+  pub names-none : ((i j : ℕ) → i < n + m → j < i → guestAt ws n fs j ≡ guestAt ws n fs i → idAt ws n fs j ≡ idAt ws n fs i → ⊥) → distinct (namesOf ws n fs m) ≡ true
+  names-none h =
+      distinct-none (namesOf ws n fs m)
+      (λ j i l k e g.
+      let b : i < n + m = omega (arith, length-names) in
+      let at-j = name-at j (omega arith) in
+      let at-i = name-at i b in
+      h i j b l (sym (ap Flight.guest at-j) ∙ e ∙ ap Flight.guest at-i) (sym (ap Flight.id at-j) ∙ g ∙ ap Flight.id at-i))

@@ -1,0 +1,45 @@
+// Whether the counts of a gate lie in their ranges, and whether lent tables are long enough for them.
+use rules::Gate;
+ghost use mathlib.Core.Path.{_≡_};
+ghost use Rattle.table.specs.View.{countable, short};
+
+// Depth, guests and capacity lie in their ranges.
+pub fn is_countable(gate: Gate) -> bool
+    ensures { λ b. ⌜ b ≡ countable gate ⌝ }
+{
+    if gate.depth < 1 {
+        return false;
+    }
+    if 64 < gate.depth {
+        return false;
+    }
+    if gate.guests < 1 {
+        return false;
+    }
+    if 64 < gate.guests {
+        return false;
+    }
+    if gate.capacity < 1 {
+        return false;
+    }
+    gate.capacity <= 1024
+}
+
+// A lent table is shorter than the settings need.
+pub fn is_short(gate: Gate, guests: &[u64], waiting: &[u64], flight: &[u64]) -> bool
+    ensures { λ b. ⌜ b ≡ short gate (now (guests .entry)) (now (waiting .entry)) (now (flight .entry)) ⌝ }
+{
+    if !is_countable(gate) {
+        return false;
+    }
+    let known = gate.guests as usize;
+    let capacity = gate.capacity as usize;
+    let depth = gate.depth as usize;
+    if guests.len() < known * 6 {
+        return true;
+    }
+    if waiting.len() < capacity * 5 {
+        return true;
+    }
+    flight.len() < depth * 2
+}

@@ -1,0 +1,61 @@
+// Whether lent tables are sound. Functions for this repository's own crates.
+pub mod lengths; // counts in range, and tables long enough for them
+pub mod settings; // the settings of guests
+pub mod entries; // each request by itself
+pub mod pairs; // no request twice
+pub mod kinds; // the spacing within each guest, and the next numbers
+pub mod unused; // the places past the counts
+
+use entries::all_flown;
+use entries::all_lawful;
+use entries::all_named;
+use kinds::all_orderly;
+use pairs::all_once;
+use rules::Gate;
+use settings::all_settled;
+use unused::is_clear;
+ghost use mathlib.Core.Path.{_≡_};
+ghost use Rattle.table.specs.View.{soundNumbers};
+ghost use Rattle.sound.specs.Fitting.{Fitting};
+
+const CEILING: u64 = 4611686018427387903;
+
+// The rules in document 01's order; the first broken one ends the test.
+pub fn is_sound(gate: Gate, guests: &[u64], waiting: &[u64], flight: &[u64]) -> bool
+    requires { ⌜ Fitting gate (now guests) (now waiting) (now flight) ⌝ }
+    ensures { λ b. ⌜ b ≡ soundNumbers gate (now (guests .entry)) (now (waiting .entry)) (now (flight .entry)) ⌝ }
+{
+    let known = gate.guests as usize;
+    let capacity = gate.capacity as usize;
+    let depth = gate.depth as usize;
+    let count = gate.waiting as usize;
+    let sent = gate.flight as usize;
+    if !all_settled(guests, known) {
+        return false;
+    }
+    if capacity < count {
+        return false;
+    }
+    if depth < sent {
+        return false;
+    }
+    if CEILING < gate.time {
+        return false;
+    }
+    if !all_named(waiting, count, gate.guests) {
+        return false;
+    }
+    if !all_flown(flight, sent, gate.guests) {
+        return false;
+    }
+    if !all_once(waiting, count, flight, sent) {
+        return false;
+    }
+    if !all_lawful(waiting, count) {
+        return false;
+    }
+    if !all_orderly(guests, known, waiting, count) {
+        return false;
+    }
+    is_clear(waiting, count, capacity, flight, sent, depth)
+}

@@ -1,0 +1,80 @@
+// Whether no guest has one id twice, among waiting requests (five numbers each) and requests in flight (two numbers each).
+ghost use mathlib.Core.Path.{_≡_};
+ghost use Prim.Native.Nat.{_+_, _*_, _≤_, _<_};
+ghost use lib.ListN.{length};
+ghost use Rattle.rules.specs.Sound.{distinct};
+ghost use Rattle.sound.specs.Names.{Rooms, namesOf, guestAt, idAt, bucketOf};
+
+const GUEST: usize = 0;
+
+const ID: usize = 1;
+
+// The guest of request k, counted through both tables.
+fn guest_of(waiting: &[u64], count: usize, flight: &[u64], sent: usize, k: usize) -> u64
+    requires { ⌜ Rooms (now waiting) count (now flight) sent × (k < count + sent) ⌝ }
+    ensures { λ g. ⌜ g ≡ guestAt (now (waiting .entry)) count (now (flight .entry)) k ⌝ }
+{
+    if k < count {
+        waiting[k * 5 + GUEST]
+    } else {
+        flight[(k - count) * 2 + GUEST]
+    }
+}
+
+// Its id.
+fn id_of(waiting: &[u64], count: usize, flight: &[u64], sent: usize, k: usize) -> u64
+    requires { ⌜ Rooms (now waiting) count (now flight) sent × (k < count + sent) ⌝ }
+    ensures { λ i. ⌜ i ≡ idAt (now (waiting .entry)) count (now (flight .entry)) k ⌝ }
+{
+    if k < count {
+        waiting[k * 5 + ID]
+    } else {
+        flight[(k - count) * 2 + ID]
+    }
+}
+
+// The bucket of a guest and an id together.
+fn bucket(guest: u64, id: u64) -> usize
+    ensures { λ b. ⌜ (b ≡ bucketOf guest id) × (b < 4096) ⌝ }
+{
+    ((guest % 64 * 64 + id % 4096) % 4096) as usize
+}
+
+fn wide(x: u16) -> usize
+    ensures { λ r. ⌜ r ≡ x ⌝ }
+{
+    x as usize
+}
+
+// Each request beside the earlier ones of its bucket: heads[b] is 1 + the latest place of bucket b, links[k] 1 + the one before place k in its bucket.
+pub fn all_once(waiting: &[u64], count: usize, flight: &[u64], sent: usize) -> bool
+    requires { ⌜ Rooms (now waiting) count (now flight) sent ⌝ }
+    ensures { λ b. ⌜ b ≡ distinct (namesOf (now (waiting .entry)) count (now (flight .entry)) sent) ⌝ }
+{
+    let mut heads: [u16; 4096] = [0; 4096];
+    let mut links: [u16; 1088] = [0; 1088];
+    let total = count + sent;
+    let mut once = true;
+    let mut i: usize = 0;
+    'pairs: while i < total {
+        let guest = guest_of(waiting, count, flight, sent, i);
+        let id = id_of(waiting, count, flight, sent, i);
+        let b = bucket(guest, id);
+        let first = heads[b];
+        let mut next = wide(first);
+        while 0 < next {
+            let j = next - 1;
+            if guest_of(waiting, count, flight, sent, j) == guest {
+                if id_of(waiting, count, flight, sent, j) == id {
+                    once = false;
+                    break 'pairs;
+                }
+            }
+            next = wide(links[j]);
+        }
+        links[i] = first;
+        heads[b] = (i + 1) as u16;
+        i += 1;
+    }
+    once
+}

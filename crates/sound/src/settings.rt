@@ -1,0 +1,72 @@
+// Whether settings of guests lie in their ranges.
+ghost use mathlib.Core.Path.{_≡_};
+ghost use Prim.Native.Nat.{_*_, _≤_};
+ghost use lib.ListN.{length};
+ghost use Rattle.lists.specs.Words.{all};
+ghost use Rattle.lists.specs.Rows.{rowsOf};
+ghost use Rattle.rules.specs.Sound.{settled};
+ghost use Rattle.table.specs.View.{settingsForm, guestsOf};
+ghost use Rattle.sound.specs.Tests.{settingsAre, settledGuest};
+
+const MOST: u64 = 1000000;
+
+const RESERVATION: usize = 0;
+
+const LIMIT: usize = 1;
+
+const SHARES: usize = 2;
+
+// One guest's settings.
+pub fn is_settled(r: u64, l: u64, s: u64) -> bool
+    ensures { λ b. ⌜ b ≡ settled (settingsAre r l s) ⌝ }
+{
+    if MOST < r {
+        return false;
+    }
+    if MOST < l {
+        return false;
+    }
+    if s < 1 {
+        return false;
+    }
+    if MOST < s {
+        return false;
+    }
+    if 0 < l { r <= l } else { true }
+}
+
+// A list of settings, three numbers a guest.
+pub fn all_settled_list(settings: &[u64], known: usize) -> bool
+    requires { ⌜ known * 3 ≤ length (now settings) ⌝ }
+    ensures { λ b. ⌜ b ≡ all settled (rowsOf settingsForm (now (settings .entry)) known) ⌝ }
+{
+    let mut i: usize = known;
+    while 0 < i {
+        i -= 1;
+        let r = settings[i * 3 + RESERVATION];
+        let l = settings[i * 3 + LIMIT];
+        let s = settings[i * 3 + SHARES];
+        if !is_settled(r, l, s) {
+            return false;
+        }
+    }
+    true
+}
+
+// The settings in a guest table.
+pub fn all_settled(guests: &[u64], known: usize) -> bool
+    requires { ⌜ known * 6 ≤ length (now guests) ⌝ }
+    ensures { λ b. ⌜ b ≡ all settledGuest (guestsOf (now (guests .entry)) known) ⌝ }
+{
+    let mut i: usize = known;
+    while 0 < i {
+        i -= 1;
+        let r = guests[i * 6 + RESERVATION];
+        let l = guests[i * 6 + LIMIT];
+        let s = guests[i * 6 + SHARES];
+        if !is_settled(r, l, s) {
+            return false;
+        }
+    }
+    true
+}

@@ -1,0 +1,44 @@
+// Whether the unused places of the two tables of requests are zero.
+ghost use mathlib.Core.Path.{_≡_};
+ghost use mathlib.Core.Bool.{_&&_};
+ghost use Prim.Native.Nat.{_*_, _≤_};
+ghost use lib.Dec.{eqb};
+ghost use lib.ListN.{length};
+ghost use Rattle.lists.specs.Words.{all};
+ghost use Rattle.table.specs.View.{zeroed};
+
+// Every number is zero.
+fn is_blank(part: &[u64]) -> bool
+    ensures { λ b. ⌜ b ≡ all (λ x. eqb x 0) (now (part .entry)) ⌝ }
+{
+    let mut i: usize = part.len();
+    while 0 < i {
+        i -= 1;
+        if part[i] != 0 {
+            return false;
+        }
+    }
+    true
+}
+
+// From the last waiting request to the capacity, and from the last in flight to the depth.
+pub fn is_clear(
+    waiting: &[u64],
+    count: usize,
+    capacity: usize,
+    flight: &[u64],
+    sent: usize,
+    depth: usize,
+) -> bool
+    requires { ⌜ (count ≤ capacity) × (capacity * 5 ≤ length (now waiting)) × (sent ≤ depth) × (depth * 2 ≤ length (now flight)) ⌝ }
+    ensures { λ b. ⌜ b ≡ (zeroed 5 capacity count (now (waiting .entry)) && zeroed 2 depth sent (now (flight .entry))) ⌝ }
+{
+    let from = count * 5;
+    let to = capacity * 5;
+    if !is_blank(&waiting[from..to]) {
+        return false;
+    }
+    let start = sent * 2;
+    let end = depth * 2;
+    is_blank(&flight[start..end])
+}

@@ -1,0 +1,16 @@
+use mathlib.Core.Path.{sym, _∙_, ap}
+use Rattle.rules.specs.Numbers.{tagAt}
+use Rattle.rules.specs.Events.{shareTag}
+use borrow.Author.Needs.{needs}
+use Rattle.table.proofs.numbers.share_tag.Statement.{statement}
+use Rattle.table.proofs.numbers.share_tag.Tie as tie
+
+tag-at-requires : tie.Need-tag-at-requires
+tag-at-requires c κs = search needs
+
+returns : tie.Need-returns
+unfolding shareTag
+returns c h e = c .tag-at .ensures ∙ ap (tagAt (c .before .args .time)) (sym e)
+
+pub share-tag-spec : {M : Type 1} → statement M
+share-tag-spec = tie.close (tie.spec tag-at-requires returns)
