@@ -1,0 +1,63 @@
+-- An accepted event enters the tables, and then the choice is made: together a step. A refused one leaves all as it stood. Assumes nothing.
+use Prim.Native.Nat.{ℕ}
+use mathlib.Core.Path.{_≡_, refl, sym, ap, _∙_, subst}
+use mathlib.Core.Bool.{Bool, true, false, false≢true}
+use mathlib.Core.List.{List}
+use lib.Dec.{ltb}
+use lib.ListN.{length}
+use Rattle.rules.specs.Tables.{Table, Flight}
+use Rattle.rules.specs.Sound.{sound}
+use Rattle.rules.specs.Choice.{Result, choice}
+use Rattle.rules.specs.Events.{Event, enter}
+use Rattle.rules.specs.Refusals.{Verdict, accept, refuse, verdict, isAccept, accepted}
+use Rattle.rules.specs.Run.{decided, step}
+use Rattle.rules.proofs.Settings.{SameSettings, enter-settings, choice-settings}
+use Rattle.rules.specs.declared.Gate.{Gate}
+use Rattle.rules.specs.declared.Refusal.{Refusal}
+use Rattle.rules.specs.declared.Answer.{Answer}
+use Rattle.rules.specs.declared.Answer.the-variants.{Refused}
+use Rattle.table.specs.View.{tableOf, gateOf, handed, identified, Known}
+use Rattle.step.specs.Does.{does}
+use Rattle.step.proofs.Lens.{Lent, written, Room, written-shown, written-known, handed-again, known-room, known-written, handed-written}
+use Rattle.step.proofs.Ids.{Brings, enter-all}
+
+-- an id of 32 bits
+abbrev pub narrow : Flight → Bool
+narrow f = ltb (f .id) 4294967296
+
+pub is-accept : (v : Verdict) → isAccept v ≡ true → v ≡ accept
+is-accept accept h = refl
+is-accept (refuse r) h = absurd (false≢true h)
+
+module _ (g : Gate) (gs ws fs : List ℕ) (k : Known g gs ws fs) (e : Event) where
+  abbrev t : Table
+  t = tableOf g gs ws fs
+
+  -- a refusal leaves the gate and every lent number
+  pub refused-same : (r : Refusal) → verdict t e ≡ refuse r → (record { gate = g; answer = Refused r }, gs, ws, fs) ≡ does (λ t. step t e) g gs ws fs
+  unfolding step decided
+  refused-same r v = rw v (handed-written gs ws fs g gs ws fs (record { table = t; answer = Refused r }) (Refused r) (known-written g gs ws fs k) refl)
+
+  module _ (taken : accepted t e ≡ true) (firm : sound (enter t e) ≡ true) (brings : Brings narrow e) where
+    abbrev u : Table
+    u = enter t e
+
+    room : Room gs ws fs u
+    room = known-room g gs ws fs k u (enter-settings t e)
+
+    moves : does choice (written gs ws fs u .0) (written gs ws fs u .1) (written gs ws fs u .2) (written gs ws fs u .3) ≡ does (λ t. step t e) g gs ws fs
+    unfolding step decided
+    moves =
+        ap (λ (x : Table). handed (written gs ws fs u .1) (written gs ws fs u .2) (written gs ws fs u .3) (choice x)) (written-shown gs ws fs u room firm)
+        ∙ handed-again gs ws fs u room firm (choice u) (choice-settings u)
+        ∙ rw (is-accept (verdict t e) taken)
+
+    -- numbers that show the entered table are known, and the choice on them is the step
+    module _ (h : Gate) (hs vs es : List ℕ) (p : (h, hs, vs, es) ≡ written gs ws fs u) where
+      pub entered-known : Known h hs vs es
+      entered-known =
+          subst (λ (x : Lent). Known (x .0) (x .1) (x .2) (x .3)) (sym p)
+          (written-known gs ws fs u room firm (enter-all narrow t e brings (k .isIdentified)))
+
+      pub entered-moves : does choice h hs vs es ≡ does (λ t. step t e) g gs ws fs
+      entered-moves = ap (λ (x : Lent). does choice (x .0) (x .1) (x .2) (x .3)) p ∙ moves

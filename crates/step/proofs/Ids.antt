@@ -1,0 +1,77 @@
+-- A test that every name in a table passes, passes after a step too: a step brings only the name that arrives. Assumes nothing.
+use Prim.Native.Nat.{ℕ}
+use mathlib.Core.Path.{_≡_, refl, sym, ap, _∙_}
+use mathlib.Core.Bool.{Bool, true, false, _&&_}
+use mathlib.Core.List.{List, [], _∷_, _++_, map}
+use lib.ListN.{length}
+use Rattle.lists.specs.Words.{if_then_else_, all, without}
+use Rattle.lists.specs.WordsLaws.{both, join, all-append, all-parts, all-mid, all-without, all-of-map, map-append, map-same}
+use Rattle.rules.specs.Tables.{Request, Flight, Table, idle, of, name, same, names}
+use Rattle.rules.specs.Choice.{Result, Pick, nobody, picked, least, due, open?, sending, earlier, dropOf, dropped, byWeight, byReservation, room, choice}
+use Rattle.rules.specs.Events.{Arriving, Event, arrival, completion, tick, calledBy, smallest, shifted, adjusted, stamped, stampedFor, placed, arriveAs, arrive, complete, wait, enter}
+use Rattle.rules.specs.declared.Answer.the-variants.{Nothing}
+use Rattle.rules.proofs.Picks.{Between, Split, splits}
+
+module _ (f : Flight → Bool) where
+  -- one goes from the middle of the waiting to the end of flight
+  sending-all : (t : Table) (p : Request) (v : List Request) → Between p v (t .waiting) → all f (names t) ≡ true → all f (names (sending t p v)) ≡ true
+  unfolding sending
+  sending-all t p v b h =
+      let c = all-parts f (map name (t .waiting)) (t .flight) h in
+      let w : all f (map name (b .before) ++ name p ∷ map name (b .after)) ≡ true = rw (b .stood, map-append name (b .before) (p ∷ b .after)) at (c .0) in
+      let m = all-mid f (map name (b .before)) (name p) (map name (b .after)) w in
+      let stay : all f (map name v) ≡ true = rw (b .stay, map-append name (b .before) (b .after)) (m .1) in
+      all-append f (map name v) (t .flight ++ (name p ∷ [])) stay (all-append f (t .flight) (name p ∷ []) (c .1) (join (m .0) refl))
+
+  -- the drop changes no name
+  dropped-names : (q : Request) (t : Table) → names (dropped q t) ≡ names t
+  unfolding dropped earlier
+  dropped-names q t =
+      ap (_++ t .flight)
+      (map-same name (λ p. if of (q .guest) p then earlier (dropOf t q) p else p)
+      (λ p. elim (of (q .guest) p) as (λ b. name (if b then earlier (dropOf t q) p else p) ≡ name p) [ true ↦ refl | false ↦ refl ]) (t .waiting))
+
+  weight-all : (t : Table) (k : Pick) → Split k (t .waiting) → all f (names t) ≡ true → all f (names ((byWeight t k) .table)) ≡ true
+  unfolding byWeight
+  weight-all t nobody s h = h
+  weight-all t (picked q w) s h = ap (all f) (dropped-names q (sending t q w)) ∙ sending-all t q w s h
+
+  reservation-all : (t : Table) (k : Pick) → Split k (t .waiting) → all f (names t) ≡ true → all f (names ((byReservation t k) .table)) ≡ true
+  unfolding byReservation
+  reservation-all t nobody s h = weight-all t (least (open? t) Request.stag (t .waiting)) (splits (open? t) Request.stag (t .waiting)) h
+  reservation-all t (picked q w) s h = sending-all t q w s h
+
+  pub choice-all : (t : Table) → all f (names t) ≡ true → all f (names ((choice t) .table)) ≡ true
+  unfolding choice
+  choice-all t h =
+      elim (room t) as (λ b. all f (names ((if b then byReservation t (least (due t) Request.rtag (t .waiting)) else record { table = t; answer = Nothing }) .table)) ≡ true)
+      [ true ↦ reservation-all t (least (due t) Request.rtag (t .waiting)) (splits (due t) Request.rtag (t .waiting)) h | false ↦ h ]
+
+  -- moving share tags changes no name
+  adjusted-names : (b : Bool) (now : ℕ) (t : Table) → names (adjusted b now t) ≡ names t
+  unfolding adjusted shifted
+  adjusted-names false now t = refl
+  adjusted-names true now t = ap (_++ t .flight) (map-same name (shifted now (smallest t)) (λ q. refl) (t .waiting))
+
+  placed-all : (now : ℕ) (q : Request) (t : Table) → f (name q) ≡ true → all f (names t) ≡ true → all f (names (placed now q t)) ≡ true
+  unfolding placed
+  placed-all now q t e h =
+      let c = all-parts f (map name (t .waiting)) (t .flight) h in
+      let w : all f (map name (t .waiting ++ (q ∷ []))) ≡ true = rw (map-append name (t .waiting) (q ∷ [])) (all-append f (map name (t .waiting)) (name q ∷ []) (c .0) (join e refl)) in
+      all-append f (map name (t .waiting ++ (q ∷ []))) (t .flight) w (c .1)
+
+  -- the name that an event brings passes, if it brings one
+  abbrev pub Brings : Event → Type 0
+  Brings (arrival a now) = f (calledBy a) ≡ true
+  Brings (completion g now) = Unit {0}
+  Brings (tick now) = Unit {0}
+
+  pub enter-all : (t : Table) (e : Event) → Brings e → all f (names t) ≡ true → all f (names (enter t e)) ≡ true
+  unfolding enter arrive arriveAs stamped complete wait
+  enter-all t (arrival a now) b h =
+      let i = idle t (a .guest) in
+      placed-all now (stampedFor i now a t) (adjusted i now t) b (ap (all f) (adjusted-names i now t) ∙ h)
+  enter-all t (completion g now) b h =
+      let c = all-parts f (map name (t .waiting)) (t .flight) h in
+      all-append f (map name (t .waiting)) (without (same g) (t .flight)) (c .0) (all-without f (same g) (t .flight) (c .1))
+  enter-all t (tick now) b h = h

@@ -1,0 +1,171 @@
+-- What an arrival finds and leaves around its placing: the shares settled or not, and whether its name is new. Assumes nothing.
+use Prim.Native.Nat.{ℕ, _+_, _-_, _*_, _≤_, _<_}
+use mathlib.Core.Path.{_≡_, refl, sym, ap, _∙_, subst}
+use mathlib.Core.Bool.{Bool, true, false, not, _&&_, true≢false}
+use mathlib.Core.List.{List, map, _++_}
+use native.Mathlib.Omega.{arith}
+use lib.Dec.{leb}
+use lib.ListN.{length, getD}
+use borrow.Author.Tests.{le-leb, lt-leb}
+use Rattle.lists.specs.Words.{all, lowest}
+use Rattle.lists.specs.WordsLaws.{all-append, all-parts}
+use Rattle.lists.specs.Lines.{lineAt}
+use Rattle.lists.specs.Rows.{overRows}
+use Rattle.lists.specs.RowsLaws.{length-rows, row-at, length-over-rows, rows-over, over-same, all-used}
+use Rattle.rules.specs.Numbers.{ceiling}
+use Rattle.rules.specs.Tables.{Settings, Guest, Request, Flight, Table, owner, idle, mine, same, lacks, name, names}
+use Rattle.rules.specs.Sound.{lawful, orderly}
+use Rattle.rules.specs.Choice.{choice}
+use Rattle.rules.specs.Events.{Arriving, Event, arrival, smallest, adjusted, stamped, stampedFor}
+use Rattle.rules.specs.Refusals.{passing, refuse, verdict}
+use Rattle.rules.specs.Run.{step}
+use Rattle.rules.proofs.Facts.{Sound, Lawful, lawful-is, any-orderly}
+use Rattle.rules.proofs.Settings.{adjusted-settings, same-count, same-owner}
+use Rattle.rules.specs.declared.Gate.{Gate}
+use Rattle.rules.specs.declared.Refusal.the-variants.{IdInUse, NoRoom, TagAboveCeiling}
+use Rattle.table.specs.View.{guestForm, requestForm, guestsOf, waitingOf, tableOf, Known}
+use Rattle.table.specs.ViewLaws.{guest-exact, request-exact}
+use Rattle.table.specs.Moves.{appended, followed}
+use Rattle.table.specs.Stamp.{lawfulTags, movesFit}
+use Rattle.table.specs.Survey.{idleIn, highest}
+use Rattle.table.specs.Shares.{TagsMove, NextsMove, movedTags, movedNexts}
+use Rattle.table.specs.SharesLaws.{adjusted-is}
+use Rattle.table.specs.MovableLaws.{tags-movable, nexts-movable}
+use Rattle.table.specs.Passing.{passing-is, lowest-highest, highest-fits}
+use Rattle.step.specs.declared.arrive.Stamp.{Stamp}
+use Rattle.step.specs.Does.{does, placedGate}
+use Rattle.step.specs.Arrive.{stampOf, requestOf, Timely, Ready, PlacedKnown, Placeable}
+use Rattle.step.proofs.Facts.{Facts, facts, guest-is}
+use Rattle.table.specs.Walks.{Finds}
+use Rattle.table.specs.Survey.{ownOf}
+use Rattle.table.specs.OwnLaws.{Says, own-says}
+use Rattle.table.specs.declared.Found.{Found}
+use Rattle.table.specs.declared.Found.the-variants.{At, Nothing as NoPlace}
+use Rattle.table.specs.declared.survey.Own.{Own}
+use Rattle.table.specs.declared.survey.Own.the-variants.{Repeated, Waits, Idle}
+use Rattle.step.proofs.Arrivals.{arrival-used, arrival-full}
+
+-- one part of a list has an entry that does not pass
+all-left : {A : Type 0} (p : A → Bool) (a b : List A) → all p a ≡ false → all p (a ++ b) ≡ false
+all-left p a b e = go (all p (a ++ b)) refl
+  where
+    go : (c : Bool) → all p (a ++ b) ≡ c → all p (a ++ b) ≡ false
+    go true h = absurd (true≢false (sym (all-parts p a b h .0) ∙ e))
+    go false h = h
+
+all-right : {A : Type 0} (p : A → Bool) (a b : List A) → all p b ≡ false → all p (a ++ b) ≡ false
+all-right p a b e = go (all p (a ++ b)) refl
+  where
+    go : (c : Bool) → all p (a ++ b) ≡ c → all p (a ++ b) ≡ false
+    go true h = absurd (true≢false (sym (all-parts p a b h .1) ∙ e))
+    go false h = h
+
+-- A BUSY GUEST: nothing is settled
+module _ (g : Gate) (gs ws fs : List ℕ) (k : Known g gs ws fs) (now : ℕ) where
+  pub busy-guests : gs ≡ overRows guestForm (g .guests) ((adjusted false now (tableOf g gs ws fs)) .guests) gs
+  unfolding adjusted
+  busy-guests = sym (over-same guestForm guest-exact (g .guests) (g .guests) gs (all-used guestForm guest-exact (g .guests) gs))
+
+  pub busy-waiting : ws ≡ overRows requestForm (g .capacity) ((adjusted false now (tableOf g gs ws fs)) .waiting) ws
+  unfolding adjusted
+  busy-waiting = sym (over-same requestForm request-exact (g .capacity) (g .waiting) ws (k .whole .waitingUnused))
+
+-- AN IDLE GUEST: the shares are settled
+module _ (g : Gate) (gs ws fs : List ℕ) (k : Known g gs ws fs) (now : ℕ) (late : now ≤ ceiling) where
+  abbrev t : Table
+  t = tableOf g gs ws fs
+
+  -- the ends of the share tags stay within 64 bits
+  pub ends-fit : (m n : ℕ) → m ≡ lowest (map Request.stag (t .waiting)) → n ≡ highest (map Request.stag (t .waiting)) → (n + now < 18446744073709551616) × (m ≤ n + now)
+  ends-fit m n em en =
+      let a = highest-fits (t .waiting) (facts g gs ws fs k .firm .tags-fit) in
+      let b = lowest-highest (map Request.stag (t .waiting)) in
+      (omega arith, omega arith)
+
+  -- the largest tag, moved, against the ceiling
+  pub move-past : (m n : ℕ) → m ≡ lowest (map Request.stag (t .waiting)) → n ≡ highest (map Request.stag (t .waiting)) → ceiling < n + now - m
+      → movesFit true now (lowest (map Request.stag (t .waiting))) (highest (map Request.stag (t .waiting))) ≡ false
+  move-past m n em en h = lt-leb (highest (map Request.stag (t .waiting)) + now - lowest (map Request.stag (t .waiting))) ceiling (omega arith)
+
+  pub move-within : (m n : ℕ) → m ≡ lowest (map Request.stag (t .waiting)) → n ≡ highest (map Request.stag (t .waiting)) → n + now - m ≤ ceiling
+      → movesFit true now (lowest (map Request.stag (t .waiting))) (highest (map Request.stag (t .waiting))) ≡ true
+  move-within m n em en h = le-leb (highest (map Request.stag (t .waiting)) + now - lowest (map Request.stag (t .waiting))) ceiling (omega arith)
+
+  -- what the settling asks
+  pub settle-asks : (m : ℕ) → m ≡ smallest t
+      → ((g .guests ≤ 64) × (g .guests * 6 ≤ length gs) × (g .waiting ≤ 1024) × (g .waiting * 5 ≤ length ws))
+      × (((j : ℕ) → j < g .waiting → getD ws (j * 5 + 0) 0 < g .guests) × (TagsMove now m ws (g .waiting) × NextsMove now m (idleIn ws (g .waiting)) gs (g .guests)))
+  settle-asks m em =
+      let f = facts g gs ws fs k in
+      let fit = f .firm .tags-fit in (
+        (f .counts .guests .1, k .guestRoom, omega (arith, f .waits, f .counts .capacity .1), omega (arith, f .waits, k .waitingRoom)),
+        (
+          f .owners,
+          (
+            subst (λ (x : ℕ). TagsMove now x ws (g .waiting)) (sym em) (tags-movable gs ws (g .guests) (g .waiting) now late fit),
+            subst (λ (x : ℕ). NextsMove now x (idleIn ws (g .waiting)) gs (g .guests)) (sym em) (nexts-movable gs ws (g .guests) (g .waiting) now late fit (λ n h. any-orderly t (f .firm) n)),
+          ),
+        ),
+      )
+
+  -- and what it leaves
+  pub settled-guests : (m : ℕ) → m ≡ smallest t → (hs : List ℕ) → hs ≡ movedNexts now m (idleIn ws (g .waiting)) gs (g .guests) → hs ≡ overRows guestForm (g .guests) ((adjusted true now t) .guests) gs
+  settled-guests m em hs p =
+      p ∙ ap (λ (x : ℕ). movedNexts now x (idleIn ws (g .waiting)) gs (g .guests)) em
+      ∙ adjusted-is g gs ws fs now (k .guestRoom) (k .waitingRoom) (facts g gs ws fs k .waits) (k .whole .waitingUnused) .0
+
+  pub settled-waiting : (m : ℕ) → m ≡ smallest t → (vs : List ℕ) → vs ≡ movedTags now m ws (g .waiting) → vs ≡ overRows requestForm (g .capacity) ((adjusted true now t) .waiting) ws
+  settled-waiting m em vs p =
+      p ∙ ap (λ (x : ℕ). movedTags now x ws (g .waiting)) em
+      ∙ adjusted-is g gs ws fs now (k .guestRoom) (k .waitingRoom) (facts g gs ws fs k .waits) (k .whole .waitingUnused) .1
+
+-- THE NAME: new where neither the waiting nor those in flight have it
+module _ (t : Table) (f : Flight) where
+  pub names-new : lacks f (map name (t .waiting)) ≡ true → lacks f (t .flight) ≡ true → lacks f (names t) ≡ true
+  names-new a b = all-append (λ x. not (same f x)) (map name (t .waiting)) (t .flight) a b
+
+  pub waits-used : lacks f (map name (t .waiting)) ≡ false → lacks f (names t) ≡ false
+  waits-used e = all-left (λ x. not (same f x)) (map name (t .waiting)) (t .flight) e
+
+  pub flies-used : lacks f (t .flight) ≡ false → lacks f (names t) ≡ false
+  flies-used e = all-right (λ x. not (same f x)) (map name (t .waiting)) (t .flight) e
+
+-- THE REFUSALS of a name in use and of a full table, and what an arrival that is ready knows
+module _ (g : Gate) (gs ws fs : List ℕ) (k : Known g gs ws fs) (f : Flight) (now : ℕ) (timely : Timely g (f .guest) now) where
+  abbrev at : Table
+  at = tableOf g gs ws fs
+
+  abbrev comes : Event
+  comes = arrival (record { guest = f .guest; id = f .id }) now
+
+  pub waits-refused : lacks f (map name (at .waiting)) ≡ false → verdict at comes ≡ refuse IdInUse
+  waits-refused e = arrival-used g gs ws fs k (record { guest = f .guest; id = f .id }) now (timely .known) (timely .late) (timely .early) (waits-used at f e)
+
+  module _ (x : Found) (found : Finds f (at .flight) x) where
+    pub flies-refused : (place : ℕ) → x ≡ At place → verdict at comes ≡ refuse IdInUse
+    flies-refused place e =
+        let h : Finds f (at .flight) (At place) = subst (Finds f (at .flight)) e found in
+        arrival-used g gs ws fs k (record { guest = f .guest; id = f .id }) now (timely .known) (timely .late) (timely .early) (flies-used at f (h .1))
+
+    module _ (e : x ≡ NoPlace) (absent : lacks f (map name (at .waiting)) ≡ true) where
+      new : lacks f (names at) ≡ true
+      new = names-new at f absent (subst (Finds f (at .flight)) e found)
+
+      pub full-refused : g .waiting ≡ g .capacity → verdict at comes ≡ refuse NoRoom
+      full-refused = arrival-full g gs ws fs k (record { guest = f .guest; id = f .id }) now (timely .known) (timely .late) (timely .early) new
+
+      pub is-ready : (g .waiting ≡ g .capacity → ⊥) → Ready g gs ws fs f now
+      is-ready free = record { timely = timely; new = new; free = free }
+
+  -- what the survey of the guest's own rows says
+  module _ (o : Own) (eo : o ≡ ownOf f (at .waiting)) where
+    pub own-repeated : o ≡ Repeated → lacks f (map name (at .waiting)) ≡ false
+    own-repeated e = subst (λ (y : Own). Says y f (at .waiting)) (sym eo ∙ e) (own-says f (at .waiting))
+
+    pub own-waits : o ≡ Waits → (lacks f (map name (at .waiting)) ≡ true) × (idle at (f .guest) ≡ false)
+    unfolding idle
+    own-waits e = subst (λ (y : Own). Says y f (at .waiting)) (sym eo ∙ e) (own-says f (at .waiting))
+
+    pub own-idle : o ≡ Idle → (lacks f (map name (at .waiting)) ≡ true) × (idle at (f .guest) ≡ true)
+    unfolding idle
+    own-idle e = subst (λ (y : Own). Says y f (at .waiting)) (sym eo ∙ e) (own-says f (at .waiting))

@@ -1,0 +1,120 @@
+-- A tick and a completion of a known table: each refusal, and what enters before the choice. Assumes nothing.
+use Prim.Native.Nat.{ℕ, _+_, _-_, _*_, _≤_, _<_}
+use mathlib.Core.Path.{_≡_, refl, sym, ap, _∙_}
+use mathlib.Core.Bool.{Bool, true, false, not}
+use mathlib.Core.List.{List, [], _∷_}
+use native.Mathlib.Omega.{arith}
+use lib.ListN.{length}
+use borrow.Author.Tests.{lt-ltb, le-ltb, le-leb, lt-leb}
+use Rattle.lists.specs.Words.{if_then_else_, without}
+use Rattle.lists.specs.Tab.{removeAt, length-removeAt}
+use Rattle.lists.specs.Rows.{overRows}
+use Rattle.lists.specs.RowsLaws.{length-rows}
+use Rattle.rules.specs.Numbers.{ceiling}
+use Rattle.rules.specs.Tables.{Flight, Table, same, lacks}
+use Rattle.rules.specs.Sound.{sound}
+use Rattle.rules.specs.Choice.{choice}
+use Rattle.rules.specs.Events.{Event, completion, tick, complete, wait, enter}
+use Rattle.rules.specs.Refusals.{eventTests, refuse, verdict, accepted}
+use Rattle.rules.specs.Run.{step}
+use Rattle.rules.proofs.Facts.{is-sound}
+use Rattle.rules.proofs.EnterSound.{enter-sound}
+use Rattle.rules.specs.declared.Gate.{Gate}
+use Rattle.rules.specs.declared.Refusal.the-variants.{UnknownGuest, TimeAboveCeiling, TimeBeforeLast, NotInFlight}
+use Rattle.table.specs.View.{guestForm, requestForm, flightForm, tableOf, Known}
+use Rattle.table.specs.Walks.{Finds}
+use Rattle.table.specs.Moves.{freed}
+use Rattle.table.specs.MovesLaws.{freed-is}
+use Rattle.table.specs.declared.Found.the-variants.{At, Nothing as NoPlace}
+use Rattle.step.specs.Does.{does, timedGate, freedGate}
+use Rattle.step.proofs.Lens.{written, known-written}
+use Rattle.step.proofs.Enter.{entered-known, entered-moves}
+use Rattle.step.proofs.Facts.{Facts, facts}
+
+module _ (g : Gate) (gs ws fs : List ℕ) (k : Known g gs ws fs) (now : ℕ) where
+  abbrev t : Table
+  t = tableOf g gs ws fs
+
+  -- A TICK
+
+  pub tick-late : ceiling < now → verdict t (tick now) ≡ refuse TimeAboveCeiling
+  unfolding eventTests
+  tick-late h = rw (k .isSound, lt-ltb ceiling now h)
+
+  pub tick-early : now ≤ ceiling → now < g .time → verdict t (tick now) ≡ refuse TimeBeforeLast
+  unfolding eventTests
+  tick-early l h = rw (k .isSound, le-ltb ceiling now l, lt-ltb now (g .time) h)
+
+  module _ (l : now ≤ ceiling) (h : g .time ≤ now) where
+    tick-taken : accepted t (tick now) ≡ true
+    unfolding eventTests
+    tick-taken = rw (k .isSound, le-ltb ceiling now l, le-ltb now (g .time) h)
+
+    -- the numbers at the new time show what the tick enters
+    tick-written : (timedGate now g, gs, ws, fs) ≡ written gs ws fs (enter t (tick now))
+    unfolding enter wait
+    tick-written = let p = known-written g gs ws fs k in λ i. (timedGate now (p i .0), p i .1, p i .2, p i .3)
+
+    tick-firm : sound (enter t (tick now)) ≡ true
+    tick-firm = is-sound (enter t (tick now)) (enter-sound t (tick now) tick-taken)
+
+    pub tick-known : Known (timedGate now g) gs ws fs
+    tick-known = entered-known g gs ws fs k (tick now) tick-taken tick-firm tt (timedGate now g) gs ws fs tick-written
+
+    pub tick-moves : does choice (timedGate now g) gs ws fs ≡ does (λ t. step t (tick now)) g gs ws fs
+    tick-moves = entered-moves g gs ws fs k (tick now) tick-taken tick-firm tt (timedGate now g) gs ws fs tick-written
+
+  -- A COMPLETION
+
+  module _ (a : Flight) where
+    abbrev ev : Event
+    ev = completion a now
+
+    pub completion-unknown : g .guests ≤ a .guest → verdict t ev ≡ refuse UnknownGuest
+    unfolding eventTests
+    completion-unknown h = rw (k .isSound, length-rows guestForm gs (g .guests), le-leb (g .guests) (a .guest) h)
+
+    module _ (known : a .guest < g .guests) where
+      pub completion-late : ceiling < now → verdict t ev ≡ refuse TimeAboveCeiling
+      unfolding eventTests
+      completion-late h = rw (k .isSound, length-rows guestForm gs (g .guests), lt-leb (g .guests) (a .guest) known, lt-ltb ceiling now h)
+
+      module _ (l : now ≤ ceiling) where
+        pub completion-early : now < g .time → verdict t ev ≡ refuse TimeBeforeLast
+        unfolding eventTests
+        completion-early h =
+            rw (k .isSound, length-rows guestForm gs (g .guests), lt-leb (g .guests) (a .guest) known, le-ltb ceiling now l, lt-ltb now (g .time) h)
+
+        module _ (h : g .time ≤ now) where
+          pub completion-absent : Finds a (t .flight) NoPlace → verdict t ev ≡ refuse NotInFlight
+          unfolding eventTests
+          completion-absent f =
+              rw (k .isSound, length-rows guestForm gs (g .guests), lt-leb (g .guests) (a .guest) known, le-ltb ceiling now l, le-ltb now (g .time) h, f)
+
+          module _ (place : ℕ) (f : Finds a (t .flight) (At place)) where
+            pub out-here : place < g .flight
+            out-here = omega (arith, f .0, length-rows flightForm fs (g .flight))
+
+            taken : accepted t ev ≡ true
+            unfolding eventTests
+            taken =
+                rw (k .isSound, length-rows guestForm gs (g .guests), lt-leb (g .guests) (a .guest) known, le-ltb ceiling now l, le-ltb now (g .time) h, f .1)
+
+            firm : sound (enter t ev) ≡ true
+            firm = is-sound (enter t ev) (enter-sound t ev taken)
+
+            -- the numbers once it has left show what the completion enters
+            out-written : (freedGate now g, gs, ws, freed place (g .flight) fs) ≡ written gs ws fs (enter t ev)
+            unfolding enter complete
+            out-written =
+                let p = known-written g gs ws fs k in
+                let n : g .flight - 1 ≡ length (without (same a) (t .flight)) = sym (ap length (f .2) ∙ length-removeAt place (t .flight) (f .0) ∙ ap (λ (m : ℕ). m - 1) (length-rows flightForm fs (g .flight))) in
+                let pf : freed place (g .flight) fs ≡ overRows flightForm (g .depth) (without (same a) (t .flight)) fs =
+                freed-is (g .depth) (g .flight) fs (k .flightRoom) (k .whole .flightUnused) (facts g gs ws fs k .flies) place out-here ∙ ap (λ (q : List Flight). overRows flightForm (g .depth) q fs) (sym (f .2)) in
+                λ i. (record { depth = g .depth; guests = p i .0 .guests; capacity = g .capacity; time = now; waiting = p i .0 .waiting; flight = n i }, p i .1, p i .2, pf i)
+
+            pub completion-known : {es : List ℕ} → es ≡ freed place (g .flight) fs → Known (freedGate now g) gs ws es
+            completion-known e = rw e (entered-known g gs ws fs k ev taken firm tt (freedGate now g) gs ws (freed place (g .flight) fs) out-written)
+
+            pub completion-moves : {es : List ℕ} → es ≡ freed place (g .flight) fs → does choice (freedGate now g) gs ws es ≡ does (λ t. step t ev) g gs ws fs
+            completion-moves e = rw e (entered-moves g gs ws fs k ev taken firm tt (freedGate now g) gs ws (freed place (g .flight) fs) out-written)

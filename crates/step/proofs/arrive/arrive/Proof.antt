@@ -1,0 +1,131 @@
+use mathlib.Core.Path.{_≡_, refl, sym, _∙_}
+use mathlib.Core.Bool.{true, false}
+use Rattle.rules.specs.Events.{Event}
+use Rattle.rules.specs.declared.Refusal.the-variants.{UnknownGuest, TimeAboveCeiling, TimeBeforeLast, IdInUse}
+use Rattle.step.proofs.Phases.{rows-ask}
+use Rattle.step.proofs.Arrivals.{arrival-unknown, arrival-late, arrival-early}
+use Rattle.step.proofs.EventReturns.{refused-returns}
+use Rattle.step.proofs.Settles.{waits-refused, own-repeated, own-waits, own-idle}
+use Rattle.step.specs.Arrive.{Timely}
+use borrow.Author.Needs.{needs}
+use Rattle.step.proofs.arrive.arrive.Statement.{statement}
+use Rattle.step.proofs.arrive.arrive.Tie as tie
+
+refused-requires : tie.Need-refused-requires
+refused-requires c κs = search needs
+
+returns : tie.Need-returns
+returns c =
+    let s = c .before .before .before .before .before .before in
+    refused-returns (s .args .gate) (s .args .guests .now) (s .args .waiting .now) (s .args .flight .now) (s .pre) (Event.arrival (record { guest = s .args .guest; id = s .args .id }) (s .args .time)) UnknownGuest (arrival-unknown (s .args .gate) (s .args .guests .now) (s .args .waiting .now) (s .args .flight .now) (s .pre) (record { guest = s .args .guest; id = s .args .id }) (s .args .time) (c .before .if1 .taken)) _ (c .refused .ensures)
+
+refused-requires-2 : tie.Need-refused-requires-2
+refused-requires-2 c κs = search needs
+
+returns-2 : tie.Need-returns-2
+returns-2 c =
+    let s = c .before .before .before .before .before .before .before in
+    refused-returns (s .args .gate) (s .args .guests .now) (s .args .waiting .now) (s .args .flight .now) (s .pre) (Event.arrival (record { guest = s .args .guest; id = s .args .id }) (s .args .time)) TimeAboveCeiling (arrival-late (s .args .gate) (s .args .guests .now) (s .args .waiting .now) (s .args .flight .now) (s .pre) (record { guest = s .args .guest; id = s .args .id }) (s .args .time) (c .before .before .if1 .left) (c .before .if2 .taken)) _ (c .refused2 .ensures)
+
+refused-requires-3 : tie.Need-refused-requires-3
+refused-requires-3 c κs = search needs
+
+returns-3 : tie.Need-returns-3
+returns-3 c =
+    let s = c .before .before .before .before .before .before .before .before .before in
+    refused-returns (s .args .gate) (s .args .guests .now) (s .args .waiting .now) (s .args .flight .now) (s .pre) (Event.arrival (record { guest = s .args .guest; id = s .args .id }) (s .args .time)) TimeBeforeLast (arrival-early (s .args .gate) (s .args .guests .now) (s .args .waiting .now) (s .args .flight .now) (s .pre) (record { guest = s .args .guest; id = s .args .id }) (s .args .time) (c .before .before .before .before .if1 .left) (c .before .before .before .if2 .left) (c .before .if3 .taken)) _ (c .refused3 .ensures)
+
+own-rows-requires : tie.Need-own-rows-requires
+own-rows-requires c κs =
+    let s = c .before .before .before .before .before .before .before .before .before in
+    rows-ask (s .args .gate) (s .args .guests .now) (s .args .waiting .now) (s .args .flight .now) (s .pre)
+
+enum-told : tie.Need-enum-told
+enum-told c = search needs
+
+refused-requires-4 : tie.Need-refused-requires-4
+refused-requires-4 c κs = search needs
+
+enum-told-2 : tie.Need-enum-told-2
+enum-told-2 c = search needs
+
+arrive-new-requires : tie.Need-arrive-new-requires
+arrive-new-requires c κs =
+    let s = c .before .before .before .before .before .before .before .before .before .before .before .before .before .before .before in
+    let o = c .before .before .before .before .before .own-rows in
+    let t : Timely (s .args .gate) (s .args .guest) (s .args .time) = (record { known = c .before .before .before .before .before .before .before .before .before .before .if1 .left; late = c .before .before .before .before .before .before .before .before .before .if2 .left; early = c .before .before .before .before .before .before .before .if3 .left }) in
+    let w = own-waits (s .args .gate) (s .args .guests .now) (s .args .waiting .now) (s .args .flight .now) (s .pre) (record { guest = s .args .guest; id = s .args .id }) (s .args .time) t (o .result) (o .ensures) (c .before .before .before .enum-told2 .given .1) in
+    ((s .pre), (t, (w .0, w .1)))
+
+enum-told-3 : tie.Need-enum-told-3
+enum-told-3 c = search needs
+
+arrive-new-requires-2 : tie.Need-arrive-new-requires-2
+arrive-new-requires-2 c κs =
+    let s = c .before .before .before .before .before .before .before .before .before .before .before .before .before .before .before in
+    let o = c .before .before .before .before .before .own-rows in
+    let t : Timely (s .args .gate) (s .args .guest) (s .args .time) = (record { known = c .before .before .before .before .before .before .before .before .before .before .if1 .left; late = c .before .before .before .before .before .before .before .before .before .if2 .left; early = c .before .before .before .before .before .before .before .if3 .left }) in
+    let w = own-idle (s .args .gate) (s .args .guests .now) (s .args .waiting .now) (s .args .flight .now) (s .pre) (record { guest = s .args .guest; id = s .args .id }) (s .args .time) t (o .result) (o .ensures) (c .before .before .before .enum-told3 .given .1) in
+    ((s .pre), (t, (w .0, w .1)))
+
+same-length : tie.Need-same-length
+same-length c = search needs
+
+returns-4 : tie.Need-returns-4
+returns-4 c =
+    let s = c .before .before .before .before .before .before .before .before .before .before .before .before .before in
+    let o = c .before .before .before .own-rows in
+    let t : Timely (s .args .gate) (s .args .guest) (s .args .time) = (record { known = c .before .before .before .before .before .before .before .before .if1 .left; late = c .before .before .before .before .before .before .before .if2 .left; early = c .before .before .before .before .before .if3 .left }) in
+    refused-returns (s .args .gate) (s .args .guests .now) (s .args .waiting .now) (s .args .flight .now) (s .pre) (Event.arrival (record { guest = s .args .guest; id = s .args .id }) (s .args .time)) IdInUse (waits-refused (s .args .gate) (s .args .guests .now) (s .args .waiting .now) (s .args .flight .now) (s .pre) (record { guest = s .args .guest; id = s .args .id }) (s .args .time) t (own-repeated (s .args .gate) (s .args .guests .now) (s .args .waiting .now) (s .args .flight .now) (s .pre) (record { guest = s .args .guest; id = s .args .id }) (s .args .time) t (o .result) (o .ensures) (c .before .enum-told .given .1))) _ (c .refused4 .ensures)
+
+same-length-2 : tie.Need-same-length-2
+same-length-2 c = search needs
+
+same-length-3 : tie.Need-same-length-3
+same-length-3 c = search needs
+
+same-length-4 : tie.Need-same-length-4
+same-length-4 c = search needs
+
+returns-5 : tie.Need-returns-5
+returns-5 c = c .before .before .before .before .before .before .arrive-new .ensures
+
+same-length-5 : tie.Need-same-length-5
+same-length-5 c = search needs
+
+same-length-6 : tie.Need-same-length-6
+same-length-6 c = search needs
+
+same-length-7 : tie.Need-same-length-7
+same-length-7 c = search needs
+
+returns-6 : tie.Need-returns-6
+returns-6 c = c .before .before .before .before .before .before .arrive-new2 .ensures
+
+pub arrive-spec : {M : Type 1} → statement M
+arrive-spec =
+    tie.close
+    (tie.spec
+    refused-requires
+    returns
+    refused-requires-2
+    returns-2
+    refused-requires-3
+    returns-3
+    own-rows-requires
+    enum-told
+    refused-requires-4
+    enum-told-2
+    arrive-new-requires
+    enum-told-3
+    arrive-new-requires-2
+    same-length
+    returns-4
+    same-length-2
+    same-length-3
+    same-length-4
+    returns-5
+    same-length-5
+    same-length-6
+    same-length-7
+    returns-6)

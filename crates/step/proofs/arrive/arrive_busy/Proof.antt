@@ -1,0 +1,74 @@
+use mathlib.Core.Path.{_≡_, refl, sym, _∙_}
+use mathlib.Core.Bool.{true, false}
+use native.Mathlib.Omega.{arith}
+use borrow.Author.Tests.{not-true, not-false}
+use Rattle.rules.specs.Events.{Event}
+use Rattle.rules.specs.declared.Refusal.the-variants.{TagAboveCeiling}
+use Rattle.step.proofs.EventReturns.{refused-returns}
+use Rattle.step.proofs.ArriveReturns.{stamp-passes, ready-known, ready-moves, placeable}
+use Rattle.step.proofs.Settles.{busy-guests, busy-waiting}
+use borrow.Author.Needs.{needs}
+use Rattle.step.proofs.arrive.arrive_busy.Statement.{statement}
+use Rattle.step.proofs.arrive.arrive_busy.Tie as tie
+
+tags-of-requires : tie.Need-tags-of-requires
+tags-of-requires c κs = search needs
+
+stamp-fits-requires : tie.Need-stamp-fits-requires
+stamp-fits-requires c κs = search needs
+
+refused-requires : tie.Need-refused-requires
+refused-requires c κs = search needs
+
+same-length : tie.Need-same-length
+same-length c = search needs
+
+returns : tie.Need-returns
+returns c =
+    let s = c .before .before .before .before .before .before .before .before in
+    let w = c .before .before .before .tags-of in
+    let b = c .before .before .stamp-fits in
+    refused-returns (s .args .gate) (s .args .guests .now) (s .args .waiting .now) (s .args .flight .now) (s .pre .0) (Event.arrival (record { guest = s .args .guest; id = s .args .id }) (s .args .time)) TagAboveCeiling (stamp-passes (s .args .gate) (s .args .guests .now) (s .args .waiting .now) (s .args .flight .now) (s .pre .0) (record { guest = s .args .guest; id = s .args .id }) (s .args .time) (s .pre .1 .0) false (s .pre .1 .1) (w .result) (w .ensures) (sym (b .ensures) ∙ not-true _ (c .before .if1 .taken))) _ (c .refused .ensures)
+
+place-requires : tie.Need-place-requires
+place-requires c κs =
+    let s = c .before .before .before .before .before .before .before .before .before .before in
+    let w = c .before .before .before .before .before .tags-of in
+    let b = c .before .before .before .before .stamp-fits in
+    let fits = sym (b .ensures) ∙ not-false _ (c .before .before .before .if1 .left) in (
+      placeable (s .args .gate) (s .args .guests .now) (s .args .waiting .now) (s .args .flight .now) (s .pre .0) (record { guest = s .args .guest; id = s .args .id }) (s .args .time) (s .pre .1 .0) false (s .pre .1 .1) (w .result) (w .ensures) fits refl (s .args .guests .now) (s .args .waiting .now) (busy-guests (s .args .gate) (s .args .guests .now) (s .args .waiting .now) (s .args .flight .now) (s .pre .0) (s .args .time)) (busy-waiting (s .args .gate) (s .args .guests .now) (s .args .waiting .now) (s .args .flight .now) (s .pre .0) (s .args .time)) (omega arith),
+      ready-known (s .args .gate) (s .args .guests .now) (s .args .waiting .now) (s .args .flight .now) (s .pre .0) (record { guest = s .args .guest; id = s .args .id }) (s .args .time) (s .pre .1 .0) false (s .pre .1 .1) (w .result) (w .ensures) fits refl (s .args .guests .now) (s .args .waiting .now) (busy-guests (s .args .gate) (s .args .guests .now) (s .args .waiting .now) (s .args .flight .now) (s .pre .0) (s .args .time)) (busy-waiting (s .args .gate) (s .args .guests .now) (s .args .waiting .now) (s .args .flight .now) (s .pre .0) (s .args .time)) (omega arith),
+    )
+
+same-length-2 : tie.Need-same-length-2
+same-length-2 c = search needs
+
+same-length-3 : tie.Need-same-length-3
+same-length-3 c = search needs
+
+same-length-4 : tie.Need-same-length-4
+same-length-4 c = search needs
+
+returns-2 : tie.Need-returns-2
+returns-2 c =
+    let s = c .before .before .before .before .before .before .before .before .before .before .before .before .before .before .before .before .before in
+    let w = c .before .before .before .before .before .before .before .before .before .before .before .before .tags-of in
+    let b = c .before .before .before .before .before .before .before .before .before .before .before .stamp-fits in
+    let fits = sym (b .ensures) ∙ not-false _ (c .before .before .before .before .before .before .before .before .before .before .if1 .left) in
+    c .before .before .before .before .before .before .place .ensures
+    ∙ ready-moves (s .args .gate) (s .args .guests .now) (s .args .waiting .now) (s .args .flight .now) (s .pre .0) (record { guest = s .args .guest; id = s .args .id }) (s .args .time) (s .pre .1 .0) false (s .pre .1 .1) (w .result) (w .ensures) fits refl (s .args .guests .now) (s .args .waiting .now) (busy-guests (s .args .gate) (s .args .guests .now) (s .args .waiting .now) (s .args .flight .now) (s .pre .0) (s .args .time)) (busy-waiting (s .args .gate) (s .args .guests .now) (s .args .waiting .now) (s .args .flight .now) (s .pre .0) (s .args .time)) (omega arith)
+
+pub arrive-busy-spec : {M : Type 1} → statement M
+arrive-busy-spec =
+    tie.close
+    (tie.spec
+    tags-of-requires
+    stamp-fits-requires
+    refused-requires
+    same-length
+    returns
+    place-requires
+    same-length-2
+    same-length-3
+    same-length-4
+    returns-2)

@@ -1,0 +1,131 @@
+use mathlib.Core.Path.{_≡_, refl, sym, _∙_, ap}
+use mathlib.Core.Bool.{true, false}
+use Prim.Native.Nat.{_+_, _-_, _≤_, _<_}
+use native.Mathlib.Omega.{arith}
+use borrow.Author.Tests.{not-true, not-false, le-leb, lt-leb}
+use Rattle.rules.specs.Numbers.{ceiling}
+use Rattle.rules.specs.Events.{Event}
+use Rattle.rules.specs.declared.Refusal.the-variants.{TagAboveCeiling}
+use Rattle.table.specs.Stamp.{movesFit}
+use Rattle.step.proofs.Phases.{rows-ask}
+use Rattle.step.proofs.EventReturns.{refused-returns}
+use Rattle.step.proofs.ArriveReturns.{stamp-passes, move-passes, ready-known, ready-moves, placeable}
+use Rattle.step.proofs.Settles.{ends-fit, settle-asks, settled-guests, settled-waiting, move-past, move-within}
+use borrow.Author.Needs.{needs}
+use Rattle.step.proofs.arrive.arrive_idle.Statement.{statement}
+use Rattle.step.proofs.arrive.arrive_idle.Tie as tie
+
+tags-of-requires : tie.Need-tags-of-requires
+tags-of-requires c κs = search needs
+
+stamp-fits-requires : tie.Need-stamp-fits-requires
+stamp-fits-requires c κs = search needs
+
+refused-requires : tie.Need-refused-requires
+refused-requires c κs = search needs
+
+same-length : tie.Need-same-length
+same-length c = search needs
+
+returns : tie.Need-returns
+returns c =
+    let s = c .before .before .before .before .before .before .before .before in
+    let w = c .before .before .before .tags-of in
+    let b = c .before .before .stamp-fits in
+    refused-returns (s .args .gate) (s .args .guests .now) (s .args .waiting .now) (s .args .flight .now) (s .pre .0) (Event.arrival (record { guest = s .args .guest; id = s .args .id }) (s .args .time)) TagAboveCeiling (stamp-passes (s .args .gate) (s .args .guests .now) (s .args .waiting .now) (s .args .flight .now) (s .pre .0) (record { guest = s .args .guest; id = s .args .id }) (s .args .time) (s .pre .1 .0) true (s .pre .1 .1) (w .result) (w .ensures) (sym (b .ensures) ∙ not-true _ (c .before .if1 .taken))) _ (c .refused .ensures)
+
+ends-requires : tie.Need-ends-requires
+ends-requires c κs =
+    let s = c .before .before .before .before .before .before .before .before in
+    rows-ask (s .args .gate) (s .args .guests .now) (s .args .waiting .now) (s .args .flight .now) (s .pre .0)
+
+add-if2 : tie.Need-add-if2
+add-if2 c =
+    let s = c .before .before .before .before .before .before .before .before .before in
+    let n = c .ends .ensures in
+    omega (arith, ends-fit (s .args .gate) (s .args .guests .now) (s .args .waiting .now) (s .args .flight .now) (s .pre .0) (s .args .time) (s .pre .1 .0 .timely .late) _ _ (n .0) (n .1))
+
+sub-if2 : tie.Need-sub-if2
+sub-if2 c =
+    let s = c .before .before .before .before .before .before .before .before .before in
+    let n = c .ends .ensures in
+    omega (arith, ends-fit (s .args .gate) (s .args .guests .now) (s .args .waiting .now) (s .args .flight .now) (s .pre .0) (s .args .time) (s .pre .1 .0 .timely .late) _ _ (n .0) (n .1))
+
+refused-requires-2 : tie.Need-refused-requires-2
+refused-requires-2 c κs = search needs
+
+same-length-2 : tie.Need-same-length-2
+same-length-2 c = search needs
+
+same-length-3 : tie.Need-same-length-3
+same-length-3 c = search needs
+
+returns-2 : tie.Need-returns-2
+returns-2 c =
+    let s = c .before .before .before .before .before .before .before .before .before .before .before in
+    let w = c .before .before .before .before .before .before .tags-of in
+    let n = c .before .before .ends .ensures in
+    refused-returns (s .args .gate) (s .args .guests .now) (s .args .waiting .now) (s .args .flight .now) (s .pre .0) (Event.arrival (record { guest = s .args .guest; id = s .args .id }) (s .args .time)) TagAboveCeiling (move-passes (s .args .gate) (s .args .guests .now) (s .args .waiting .now) (s .args .flight .now) (s .pre .0) (record { guest = s .args .guest; id = s .args .id }) (s .args .time) (s .pre .1 .0) true (s .pre .1 .1) (w .result) (w .ensures) (move-past (s .args .gate) (s .args .guests .now) (s .args .waiting .now) (s .args .flight .now) (s .pre .0) (s .args .time) (s .pre .1 .0 .timely .late) _ _ (n .0) (n .1) (c .before .if2 .taken))) _ (c .refused2 .ensures)
+
+adjust-requires : tie.Need-adjust-requires
+adjust-requires c κs =
+    let s = c .before .before .before .before .before .before .before .before .before .before .before .before in
+    let n = c .before .before .before .ends .ensures in
+    settle-asks (s .args .gate) (s .args .guests .now) (s .args .waiting .now) (s .args .flight .now) (s .pre .0) (s .args .time) (s .pre .1 .0 .timely .late) _ (n .0)
+
+place-requires : tie.Need-place-requires
+place-requires c κs =
+    let s = c .before .before .before .before .before .before .before .before .before .before .before .before .before .before .before .before .before .before .before .before in
+    let w = c .before .before .before .before .before .before .before .before .before .before .before .before .before .before .before .tags-of in
+    let b = c .before .before .before .before .before .before .before .before .before .before .before .before .before .before .stamp-fits in
+    let n = c .before .before .before .before .before .before .before .before .before .before .before .ends .ensures in
+    let d = c .before .before .before .before .before .before .before .adjust .ensures in
+    let fits = sym (b .ensures) ∙ not-false _ (c .before .before .before .before .before .before .before .before .before .before .before .before .before .if1 .left) in
+    let moves = move-within (s .args .gate) (s .args .guests .now) (s .args .waiting .now) (s .args .flight .now) (s .pre .0) (s .args .time) (s .pre .1 .0 .timely .late) _ _ (n .0) (n .1) (c .before .before .before .before .before .before .before .before .before .before .if2 .left) in (
+      placeable (s .args .gate) (s .args .guests .now) (s .args .waiting .now) (s .args .flight .now) (s .pre .0) (record { guest = s .args .guest; id = s .args .id }) (s .args .time) (s .pre .1 .0) true (s .pre .1 .1) (w .result) (w .ensures) fits moves _ _ (settled-guests (s .args .gate) (s .args .guests .now) (s .args .waiting .now) (s .args .flight .now) (s .pre .0) (s .args .time) (s .pre .1 .0 .timely .late) _ (n .0) _ (d .0)) (settled-waiting (s .args .gate) (s .args .guests .now) (s .args .waiting .now) (s .args .flight .now) (s .pre .0) (s .args .time) (s .pre .1 .0 .timely .late) _ (n .0) _ (d .1)) (omega arith),
+      ready-known (s .args .gate) (s .args .guests .now) (s .args .waiting .now) (s .args .flight .now) (s .pre .0) (record { guest = s .args .guest; id = s .args .id }) (s .args .time) (s .pre .1 .0) true (s .pre .1 .1) (w .result) (w .ensures) fits moves _ _ (settled-guests (s .args .gate) (s .args .guests .now) (s .args .waiting .now) (s .args .flight .now) (s .pre .0) (s .args .time) (s .pre .1 .0 .timely .late) _ (n .0) _ (d .0)) (settled-waiting (s .args .gate) (s .args .guests .now) (s .args .waiting .now) (s .args .flight .now) (s .pre .0) (s .args .time) (s .pre .1 .0 .timely .late) _ (n .0) _ (d .1)) (omega arith),
+    )
+
+same-length-4 : tie.Need-same-length-4
+same-length-4 c = search needs
+
+same-length-5 : tie.Need-same-length-5
+same-length-5 c = search needs
+
+same-length-6 : tie.Need-same-length-6
+same-length-6 c = search needs
+
+returns-3 : tie.Need-returns-3
+returns-3 c =
+    let s = c .before .before .before .before .before .before .before .before .before .before .before .before .before .before .before .before .before .before .before .before .before .before .before .before .before .before .before in
+    let w = c .before .before .before .before .before .before .before .before .before .before .before .before .before .before .before .before .before .before .before .before .before .before .tags-of in
+    let b = c .before .before .before .before .before .before .before .before .before .before .before .before .before .before .before .before .before .before .before .before .before .stamp-fits in
+    let n = c .before .before .before .before .before .before .before .before .before .before .before .before .before .before .before .before .before .before .ends .ensures in
+    let d = c .before .before .before .before .before .before .before .before .before .before .before .before .before .before .adjust .ensures in
+    let fits = sym (b .ensures) ∙ not-false _ (c .before .before .before .before .before .before .before .before .before .before .before .before .before .before .before .before .before .before .before .before .if1 .left) in
+    let moves = move-within (s .args .gate) (s .args .guests .now) (s .args .waiting .now) (s .args .flight .now) (s .pre .0) (s .args .time) (s .pre .1 .0 .timely .late) _ _ (n .0) (n .1) (c .before .before .before .before .before .before .before .before .before .before .before .before .before .before .before .before .before .if2 .left) in
+    c .before .before .before .before .before .before .place .ensures
+    ∙ ready-moves (s .args .gate) (s .args .guests .now) (s .args .waiting .now) (s .args .flight .now) (s .pre .0) (record { guest = s .args .guest; id = s .args .id }) (s .args .time) (s .pre .1 .0) true (s .pre .1 .1) (w .result) (w .ensures) fits moves _ _ (settled-guests (s .args .gate) (s .args .guests .now) (s .args .waiting .now) (s .args .flight .now) (s .pre .0) (s .args .time) (s .pre .1 .0 .timely .late) _ (n .0) _ (d .0)) (settled-waiting (s .args .gate) (s .args .guests .now) (s .args .waiting .now) (s .args .flight .now) (s .pre .0) (s .args .time) (s .pre .1 .0 .timely .late) _ (n .0) _ (d .1)) (omega arith)
+
+pub arrive-idle-spec : {M : Type 1} → statement M
+arrive-idle-spec =
+    tie.close
+    (tie.spec
+    tags-of-requires
+    stamp-fits-requires
+    refused-requires
+    same-length
+    returns
+    ends-requires
+    add-if2
+    sub-if2
+    refused-requires-2
+    same-length-2
+    same-length-3
+    returns-2
+    adjust-requires
+    place-requires
+    same-length-4
+    same-length-5
+    same-length-6
+    returns-3)

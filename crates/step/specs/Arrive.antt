@@ -1,0 +1,53 @@
+-- What the functions of an arrival ask and answer: the tags of the request, and what is known of it before it is placed.
+use Prim.Native.Nat.{ℕ, _+_, _*_, _≤_, _<_}
+use mathlib.Core.Path.{_≡_}
+use mathlib.Core.Bool.{Bool, true}
+use mathlib.Core.List.{List}
+use lib.ListN.{length, getD}
+use Rattle.rules.specs.Numbers.{ceiling}
+use Rattle.rules.specs.Tables.{Guest, Request, Flight, reserved, limited, lacks, names}
+use Rattle.rules.specs.Events.{tagIf, shareTag}
+use Rattle.rules.specs.declared.Gate.{Gate}
+use Rattle.table.specs.View.{tableOf, Known}
+use Rattle.table.specs.Moves.{appended, followed}
+use Rattle.step.specs.Does.{placedGate}
+use Rattle.step.specs.declared.arrive.Stamp.{Stamp}
+
+-- the tags of a request of the guest h that arrives now
+abbrev pub stampOf : (idle : Bool) (now : ℕ) → Guest → Stamp
+stampOf idle now h =
+    record {
+      rtag = tagIf (reserved (h .settings)) now (h .rnext);
+      ltag = tagIf (limited (h .settings)) now (h .lnext);
+      stag = shareTag idle now h;
+    }
+
+-- the request of a guest with these tags
+abbrev pub requestOf : (guest id : ℕ) → Stamp → Request
+requestOf n i s = record { guest = n; id = i; rtag = s .rtag; ltag = s .ltag; stag = s .stag }
+
+-- the guest exists, and the time is neither past the ceiling nor before the last
+pub record Timely (g : Gate) (guest now : ℕ) : Type 0 where
+  pub known : guest < g .guests
+  pub late : now ≤ ceiling
+  pub early : g .time ≤ now
+
+-- and the name is not in use, and a place is free to wait in
+pub record Ready (g : Gate) (gs ws fs : List ℕ) (f : Flight) (now : ℕ) : Type 0 where
+  pub timely : Timely g (f .guest) now
+  pub new : lacks f (names (tableOf g gs ws fs)) ≡ true
+  pub free : g .waiting ≡ g .capacity → ⊥
+
+-- the tables as they are once the request stands last and its guest's next numbers follow it
+abbrev pub PlacedKnown : Gate → (gs ws fs : List ℕ) (guest id now : ℕ) → Stamp → Type 0
+PlacedKnown g gs ws fs n i now s = Known (placedGate now g) (followed n (s .rtag) (s .ltag) (s .stag) gs) (appended (g .waiting) (requestOf n i s) ws) fs
+
+-- there is room for it, and its next numbers fit
+pub record Placeable (g : Gate) (gs ws : List ℕ) (guest : ℕ) (s : Stamp) : Type 0 where
+  pub waits : g .waiting ≤ 1024
+  pub row : g .waiting * 5 + 5 ≤ length ws
+  pub owner : guest * 6 + 6 ≤ length gs
+  pub limit : getD gs (guest * 6 + 1) 0 ≤ 1000000
+  pub rtag : s .rtag ≤ ceiling
+  pub ltag : s .ltag ≤ ceiling
+  pub stag : s .stag ≤ ceiling

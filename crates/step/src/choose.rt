@@ -1,0 +1,79 @@
+// The choice on a table that is known to be sound: one walk over the waiting rows for each phase.
+use crate::gates;
+use rules::Answer;
+use rules::Gate;
+use rules::Outcome;
+use rules::Phase;
+use table::Found;
+ghost use mathlib.Core.Path.{_≡_};
+ghost use Prim.Native.Nat.{_<_};
+ghost use Rattle.rules.specs.Choice.{choice};
+ghost use Rattle.table.specs.View.{Known};
+ghost use Rattle.step.specs.Does.{does, weightPhase, reservationPhase};
+
+// The weight phase: the open request with the smallest share tag goes, and its guest's reservation tags drop.
+fn by_weight(gate: Gate, guests: &mut [u64], waiting: &mut [u64], flight: &mut [u64]) -> Outcome
+    requires { ⌜ Known gate (now guests) (now waiting) (now flight) ⌝ }
+    requires { ⌜ gate .flight < gate .depth ⌝ }
+    ensures { λ r. ⌜ (r, now (guests .exit), now (waiting .exit), now (flight .exit)) ≡ does weightPhase gate (now (guests .entry)) (now (waiting .entry)) (now (flight .entry)) ⌝ }
+{
+    let count = gate.waiting as usize;
+    let flying = gate.flight as usize;
+    let time = gate.time;
+    let found = table::walks::first_open(&waiting[..], count, time);
+    match found {
+        Found::At(place) => {
+            let name = table::moves::send(waiting, flight, place, count, flying);
+            let guest = name.guest;
+            let id = name.id as u32;
+            table::moves::drop_tags(guests, waiting, count - 1, guest);
+            gates::sent(gate, Phase::Weight, guest, id)
+        }
+        Found::Nothing => Outcome {
+            gate: gate,
+            answer: Answer::Nothing,
+        },
+    }
+}
+
+// The reservation phase: the due request with the smallest reservation tag goes; where none is due, the weight phase.
+fn by_reservation(
+    gate: Gate,
+    guests: &mut [u64],
+    waiting: &mut [u64],
+    flight: &mut [u64],
+) -> Outcome
+    requires { ⌜ Known gate (now guests) (now waiting) (now flight) ⌝ }
+    requires { ⌜ gate .flight < gate .depth ⌝ }
+    ensures { λ r. ⌜ (r, now (guests .exit), now (waiting .exit), now (flight .exit)) ≡ does reservationPhase gate (now (guests .entry)) (now (waiting .entry)) (now (flight .entry)) ⌝ }
+{
+    let known = gate.guests as usize;
+    let count = gate.waiting as usize;
+    let flying = gate.flight as usize;
+    let time = gate.time;
+    let found = table::walks::first_due(&waiting[..], count, &guests[..], known, time);
+    match found {
+        Found::At(place) => {
+            let name = table::moves::send(waiting, flight, place, count, flying);
+            let guest = name.guest;
+            let id = name.id as u32;
+            gates::sent(gate, Phase::Reservation, guest, id)
+        }
+        Found::Nothing => by_weight(gate, guests, waiting, flight),
+    }
+}
+
+// The choice: nothing goes where no place is free.
+pub fn choose(gate: Gate, guests: &mut [u64], waiting: &mut [u64], flight: &mut [u64]) -> Outcome
+    requires { ⌜ Known gate (now guests) (now waiting) (now flight) ⌝ }
+    ensures { λ r. ⌜ (r, now (guests .exit), now (waiting .exit), now (flight .exit)) ≡ does choice gate (now (guests .entry)) (now (waiting .entry)) (now (flight .entry)) ⌝ }
+{
+    if gate.flight < gate.depth {
+        by_reservation(gate, guests, waiting, flight)
+    } else {
+        Outcome {
+            gate: gate,
+            answer: Answer::Nothing,
+        }
+    }
+}
