@@ -8,13 +8,13 @@ use native.Mathlib.Omega.{arith}
 use native.Mathlib.Numerals.{add-one}
 use lib.ListN.{length, getD, length-map, List·getD-append}
 use lib.Seq.{getD-append-seam}
-use Rattle.lists.specs.Tab.{tab-snoc, lt-or-le}
+use Rattle.lists.specs.Tab.{lt-or-le}
 use Rattle.lists.specs.Stores.{stores, length-stores, stores-other, stores-at}
 use Rattle.lists.specs.Parts.{zeros}
-use Rattle.lists.specs.Lines.{lineAt, over}
+use Rattle.lists.specs.Lines.{over}
 use Rattle.lists.specs.LinesLaws.{in-line, apart, length-over, over-at, over-past, is-over}
 use Rattle.lists.specs.Rows.{Form, rowsOf, overRows, Exact}
-use Rattle.lists.specs.RowsLaws.{rows-tab, map-snoc}
+use Rattle.lists.specs.RowsLaws.{map-snoc}
 
 -- n lines stand in front, and the next one is stored
 module _ (s n : ℕ) (some : 0 < s) (ls : List (List ℕ)) (size : length ls ≡ n) (v : List ℕ) (wide : length v ≡ s) (xs : List ℕ) (room : suc n * s ≤ length xs) where
@@ -67,12 +67,6 @@ zeros-over s cap some xs room =
     (λ i h. stores-other (λ k. 0 + k) (λ k. 0) xs (cap * s) i (λ k l e. omega arith))
 
 module _ {A : Type 0} (f : Form A) where
-  -- one entry more is read
-  pub rows-snoc : (xs : List ℕ) (n : ℕ) → rowsOf f xs (n + 1) ≡ rowsOf f xs n ++ (f .read (lineAt (f .wide) xs n) ∷ [])
-  rows-snoc xs n =
-      ap (rowsOf f xs) (add-one n) ∙ rows-tab f xs (suc n) ∙ tab-snoc n (λ k. f .read (lineAt (f .wide) xs k))
-      ∙ ap (λ (l : List A). l ++ (f .read (lineAt (f .wide) xs n) ∷ [])) (sym (rows-tab f xs n))
-
   module _ (e : Exact f) where
     -- and one more is written behind those in front
     pub row-next : (n : ℕ) (l : List A) (a : A) (xs : List ℕ) → length l ≡ n → n * f .wide + f .wide ≤ length xs

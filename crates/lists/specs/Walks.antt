@@ -9,7 +9,7 @@ use native.Mathlib.Numerals.{add-one}
 use lib.ListN.{length, getD, drop, drop-of-length-le}
 use lib.Seq.{drop-cons}
 use Rattle.lists.specs.Words.{all, below}
-use Rattle.lists.specs.WordsLaws.{join, below-at}
+use Rattle.lists.specs.WordsLaws.{below-at}
 
 -- ENTRIES
 
@@ -30,17 +30,6 @@ module _ {A : Type 0} (f : A → Bool) (l : List A) (z : A) where
   pub all-end : (i : ℕ) → i ≤ 0 → all f (drop i l) ≡ true → true ≡ all f l
   all-end zero h s = sym s
   all-end (suc i) h s = absurd (omega arith)
-
--- the entry at every place passes: all do
-pub places-all : {A : Type 0} (f : A → Bool) (l : List A) (d : A) → ((j : ℕ) → j < length l → f (getD l j d) ≡ true) → all f l ≡ true
-places-all f [] d h = refl
-places-all f (x ∷ l) d h = join (h 0 (omega arith)) (places-all f l d (λ j k. h (suc j) (omega arith)))
-
--- the entry at one place does not pass: not all do
-pub place-not : {A : Type 0} (f : A → Bool) (l : List A) (d : A) (i : ℕ) → i < length l → f (getD l i d) ≡ false → all f l ≡ false
-place-not f [] d i h e = absurd (omega arith)
-place-not f (x ∷ l) d zero h e = rw e
-place-not f (x ∷ l) d (suc i) h e = rw (place-not f l d i (omega arith) e) (and-false (f x))
 
 -- NUMBERS
 

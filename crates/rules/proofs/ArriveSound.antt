@@ -57,7 +57,7 @@ module _ (t : Table) (now : ℕ) where
   moved i h = if idle t i then h else shiftedNext now (smallest t) h
 
   -- the names, and what is in flight, are as they were
-  adjusted-names : (b : Bool) → names (adjusted b now t) ≡ names t
+  pub adjusted-names : (b : Bool) → names (adjusted b now t) ≡ names t
   unfolding adjusted shifted
   adjusted-names false = refl
   adjusted-names true = ap (_++ t .flight) (map-same name (shifted now (smallest t)) (λ q. refl) (t .waiting))

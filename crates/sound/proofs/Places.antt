@@ -9,8 +9,7 @@ use lib.Dec.{eqb, ltb}
 use lib.ListN.{length, getD, length-append, length-map, List·getD-append, List·getD-map}
 use lib.Seq.{getD-append-add}
 use borrow.Author.Tests.{eq-eqb, eqb-true, lt-ltb, le-ltb}
-use Rattle.lists.specs.WordsLaws.{join}
-use Rattle.lists.specs.Walks.{place-not}
+use Rattle.lists.specs.WordsLaws.{join, place-not}
 use Rattle.lists.specs.Tab.{lt-or-le}
 use Rattle.lists.specs.Rows.{Form}
 use Rattle.lists.specs.RowsLaws.{row-at, length-rows}

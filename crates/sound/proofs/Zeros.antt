@@ -9,8 +9,7 @@ use native.Mathlib.Nat.{mul-le-mul-right, mod-lt, div-add-mod', div-lt-iff-lt-mu
 use lib.Dec.{eqb}
 use lib.ListN.{length, getD, take, drop}
 use borrow.Author.Tests.{eqb-true, eq-eqb}
-use Rattle.lists.specs.WordsLaws.{all-at}
-use Rattle.lists.specs.Walks.{places-all}
+use Rattle.lists.specs.WordsLaws.{all-at, places-all}
 use Rattle.lists.specs.Tab.{lt-or-le}
 use Rattle.lists.specs.Parts.{part-length, part-at}
 use Rattle.lists.specs.Lines.{linesOf, Tidy}

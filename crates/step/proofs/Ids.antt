@@ -5,12 +5,14 @@ use mathlib.Core.Bool.{Bool, true, false, _&&_}
 use mathlib.Core.List.{List, [], _∷_, _++_, map}
 use lib.ListN.{length}
 use Rattle.lists.specs.Words.{if_then_else_, all, without}
-use Rattle.lists.specs.WordsLaws.{both, join, all-append, all-parts, all-mid, all-without, all-of-map, map-append, map-same}
-use Rattle.rules.specs.Tables.{Request, Flight, Table, idle, of, name, same, names}
-use Rattle.rules.specs.Choice.{Result, Pick, nobody, picked, least, due, open?, sending, earlier, dropOf, dropped, byWeight, byReservation, room, choice}
-use Rattle.rules.specs.Events.{Arriving, Event, arrival, completion, tick, calledBy, smallest, shifted, adjusted, stamped, stampedFor, placed, arriveAs, arrive, complete, wait, enter}
+use Rattle.lists.specs.WordsLaws.{join, all-append, all-parts, all-mid, all-without, map-append}
+use Rattle.rules.specs.Tables.{Request, Flight, Table, idle, name, same, names}
+use Rattle.rules.specs.Choice.{Result, Pick, nobody, picked, least, due, open?, sending, dropped, byWeight, byReservation, room, choice}
+use Rattle.rules.specs.Events.{Arriving, Event, arrival, completion, tick, calledBy, adjusted, stamped, stampedFor, placed, arriveAs, arrive, complete, wait, enter}
 use Rattle.rules.specs.declared.Answer.the-variants.{Nothing}
 use Rattle.rules.proofs.Picks.{Between, Split, splits}
+use Rattle.rules.proofs.Drops.{dropped-names}
+use Rattle.rules.proofs.ArriveSound.{adjusted-names}
 
 module _ (f : Flight → Bool) where
   -- one goes from the middle of the waiting to the end of flight
@@ -22,14 +24,6 @@ module _ (f : Flight → Bool) where
       let m = all-mid f (map name (b .before)) (name p) (map name (b .after)) w in
       let stay : all f (map name v) ≡ true = rw (b .stay, map-append name (b .before) (b .after)) (m .1) in
       all-append f (map name v) (t .flight ++ (name p ∷ [])) stay (all-append f (t .flight) (name p ∷ []) (c .1) (join (m .0) refl))
-
-  -- the drop changes no name
-  dropped-names : (q : Request) (t : Table) → names (dropped q t) ≡ names t
-  unfolding dropped earlier
-  dropped-names q t =
-      ap (_++ t .flight)
-      (map-same name (λ p. if of (q .guest) p then earlier (dropOf t q) p else p)
-      (λ p. elim (of (q .guest) p) as (λ b. name (if b then earlier (dropOf t q) p else p) ≡ name p) [ true ↦ refl | false ↦ refl ]) (t .waiting))
 
   weight-all : (t : Table) (k : Pick) → Split k (t .waiting) → all f (names t) ≡ true → all f (names ((byWeight t k) .table)) ≡ true
   unfolding byWeight
@@ -46,12 +40,6 @@ module _ (f : Flight → Bool) where
   choice-all t h =
       elim (room t) as (λ b. all f (names ((if b then byReservation t (least (due t) Request.rtag (t .waiting)) else record { table = t; answer = Nothing }) .table)) ≡ true)
       [ true ↦ reservation-all t (least (due t) Request.rtag (t .waiting)) (splits (due t) Request.rtag (t .waiting)) h | false ↦ h ]
-
-  -- moving share tags changes no name
-  adjusted-names : (b : Bool) (now : ℕ) (t : Table) → names (adjusted b now t) ≡ names t
-  unfolding adjusted shifted
-  adjusted-names false now t = refl
-  adjusted-names true now t = ap (_++ t .flight) (map-same name (shifted now (smallest t)) (λ q. refl) (t .waiting))
 
   placed-all : (now : ℕ) (q : Request) (t : Table) → f (name q) ≡ true → all f (names t) ≡ true → all f (names (placed now q t)) ≡ true
   unfolding placed
@@ -70,7 +58,7 @@ module _ (f : Flight → Bool) where
   unfolding enter arrive arriveAs stamped complete wait
   enter-all t (arrival a now) b h =
       let i = idle t (a .guest) in
-      placed-all now (stampedFor i now a t) (adjusted i now t) b (ap (all f) (adjusted-names i now t) ∙ h)
+      placed-all now (stampedFor i now a t) (adjusted i now t) b (ap (all f) (adjusted-names t now i) ∙ h)
   enter-all t (completion g now) b h =
       let c = all-parts f (map name (t .waiting)) (t .flight) h in
       all-append f (map name (t .waiting)) (without (same g) (t .flight)) (c .0) (all-without f (same g) (t .flight) (c .1))

@@ -14,6 +14,7 @@ use Rattle.lists.specs.WordsLaws.{both, join, all-at, all-filter, lowest-all}
 use Rattle.lists.specs.RowsLaws.{length-rows, row-at}
 use Rattle.rules.specs.Numbers.{ceiling, second, down}
 use Rattle.rules.specs.Tables.{Settings, Guest, Request, reserved, limited, rspacing, lspacing, sspacing, owner, of, mine}
+use Rattle.rules.proofs.Spacings.{down-le}
 use Rattle.rules.specs.Sound.{lawful, apart, follows, kept, orderly}
 use Rattle.table.specs.View.{guestForm, requestForm, guestsOf, waitingOf}
 use Rattle.table.specs.Survey.{idleIn}
@@ -30,10 +31,6 @@ inside-all m (q ∷ w) p h =
     let a = both (leb m (q .stag)) (all (leb m) (map Request.stag w)) p in
     let c = both (lawful q) (all lawful w) h in
     join (join (a .0) (both (leb (q .rtag) ceiling && leb (q .ltag) ceiling) (leb (q .stag) ceiling) (c .0) .1)) (inside-all m w (a .1) (c .1))
-
-down-le : (n : ℕ) → down n ≤ second
-unfolding down
-down-le n = div-le-self second n
 
 -- a next share number that follows such tags
 follows-inside : (s : Settings) (m : ℕ) (l : List Request) (n : ℕ) → all (inside m) l ≡ true → empty l ≡ false → follows Request.stag (sspacing s) l n ≡ true → (m ≤ n) × (n ≤ ceiling + second)

@@ -7,8 +7,9 @@ use lib.ListN.{length, getD, length-map}
 use Rattle.lists.specs.Stores.{stores}
 use Rattle.lists.specs.Lines.{lineAt, linesOf}
 use Rattle.lists.specs.Rows.{rowsOf, overRows}
-use Rattle.lists.specs.RowsLaws.{length-rows, map-snoc, over-same, all-used}
-use Rattle.lists.specs.FillLaws.{rows-snoc, row-next}
+use native.Mathlib.Numerals.{add-one}
+use Rattle.lists.specs.RowsLaws.{length-rows, rows-snoc, map-snoc, over-same, all-used}
+use Rattle.lists.specs.FillLaws.{row-next}
 use Rattle.rules.specs.Tables.{Guest}
 use Rattle.rules.specs.Run.{newcomer}
 use Rattle.table.specs.View.{settingsForm, guestForm}
@@ -32,4 +33,4 @@ module _ (ss gs : List ℕ) where
       ap (stores (λ j. i * 6 + j) (λ j. getD (guestForm .line (newGuest i)) j 0) 6) e
       ∙ row-next guestForm guest-exact i l (newGuest i) gs (length-map (rowsOf settingsForm ss i) newcomer ∙ length-rows settingsForm ss i) room
       ∙ ap (λ (m : List Guest). overRows guestForm (i + 1) m gs)
-      (sym (ap (map newcomer) (rows-snoc settingsForm ss i) ∙ map-snoc newcomer (rowsOf settingsForm ss i) (settingsForm .read (lineAt 3 ss i))))
+      (sym (ap (map newcomer) (ap (rowsOf settingsForm ss) (add-one i) ∙ rows-snoc settingsForm ss i) ∙ map-snoc newcomer (rowsOf settingsForm ss i) (settingsForm .read (lineAt 3 ss i))))

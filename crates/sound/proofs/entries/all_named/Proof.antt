@@ -6,7 +6,8 @@ use native.Mathlib.Omega.{arith}
 use lib.ListN.{drop}
 use borrow.Author.Tests.{not-true, not-false}
 use Rattle.lists.specs.Words.{all}
-use Rattle.lists.specs.Walks.{all-start, all-next, all-end, place-not}
+use Rattle.lists.specs.Walks.{all-start, all-next, all-end}
+use Rattle.lists.specs.WordsLaws.{place-not}
 use Rattle.lists.specs.RowsLaws.{length-rows}
 use Rattle.lists.specs.Rows.{Form}
 use Rattle.rules.specs.Tables.{name}

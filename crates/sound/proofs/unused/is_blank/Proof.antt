@@ -6,7 +6,8 @@ use lib.Dec.{eqb}
 use lib.ListN.{length, drop}
 use borrow.Author.Tests.{eq-eqb, ne-eqb}
 use Rattle.lists.specs.Words.{all}
-use Rattle.lists.specs.Walks.{all-start, all-next, all-end, place-not}
+use Rattle.lists.specs.Walks.{all-start, all-next, all-end}
+use Rattle.lists.specs.WordsLaws.{place-not}
 use Rattle.sound.proofs.unused.is_blank.Statement.{statement}
 use Rattle.sound.proofs.unused.is_blank.Tie as tie
 
