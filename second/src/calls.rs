@@ -1,0 +1,130 @@
+//! The library calls on lent tables. Lengths and soundness are judged at
+//! every call; a refusal changes no lent number.
+
+use crate::numbers::counts_good;
+use crate::rules::{Answer, State};
+use crate::sound::first_broken;
+use crate::tables::{
+    settings_at, Gate, Guest, Tables, View, FLIGHT_NUMBERS, GATE_NUMBERS, GUEST_NUMBERS,
+    SETTINGS_NUMBERS, WAITING_NUMBERS,
+};
+
+/// Opens a gate. The settings are three numbers a guest: reservation,
+/// limit, shares.
+pub fn open(depth: u64, guests: u64, capacity: u64, settings: &[u64], lent: &mut Tables) -> Answer {
+    if !counts_good(depth, guests, capacity) {
+        return Answer::Refused(1);
+    }
+    let listed = settings.len() >= guests as usize * SETTINGS_NUMBERS;
+    if !listed || !lent.view().long_enough(depth, guests, capacity) {
+        return Answer::Refused(2);
+    }
+    let settings_of = |guest| settings_at(settings, guest);
+    if !(0..guests as usize).all(|guest| settings_of(guest).good()) {
+        return Answer::Refused(1);
+    }
+    let settings: Vec<_> = (0..guests as usize).map(settings_of).collect();
+    let fresh = State::fresh(depth as usize, capacity as usize, &settings);
+    write_back(&fresh, lent);
+    Answer::Nothing
+}
+
+pub fn arrive(lent: &mut Tables, guest: u64, id: u32, time: u64) -> Answer {
+    play(lent, |state| state.arrive(guest, id, time))
+}
+
+pub fn complete(lent: &mut Tables, guest: u64, id: u32, time: u64) -> Answer {
+    play(lent, |state| state.complete(guest, id, time))
+}
+
+pub fn tick(lent: &mut Tables, time: u64) -> Answer {
+    play(lent, |state| state.tick(time))
+}
+
+/// Judges the tables, plays one event on the state they hold and writes
+/// the state back if the event was accepted.
+fn play(lent: &mut Tables, event: impl FnOnce(&mut State) -> Answer) -> Answer {
+    if let Some(number) = table_refusal(&lent.view()) {
+        return Answer::Refused(number);
+    }
+    let mut state = read(&lent.view());
+    let answer = event(&mut state);
+    if !matches!(answer, Answer::Refused(_)) {
+        write_back(&state, lent);
+    }
+    answer
+}
+
+/// 2, 3. Without guests, depth and capacity in their ranges the lengths
+/// needed are not known, so these give 3 at once.
+pub fn table_refusal(lent: &View) -> Option<u8> {
+    if lent.gate.len() < GATE_NUMBERS {
+        return Some(2);
+    }
+    let Gate {
+        depth,
+        guests,
+        capacity,
+        ..
+    } = lent.gate();
+    if !counts_good(depth, guests, capacity) {
+        Some(3)
+    } else if !lent.long_enough(depth, guests, capacity) {
+        Some(2)
+    } else if first_broken(lent).is_some() {
+        Some(3)
+    } else {
+        None
+    }
+}
+
+/// The state that sound tables hold.
+pub fn read(lent: &View) -> State {
+    let gate = lent.gate();
+    let guest = |place| -> Guest { lent.guest(place) };
+    State {
+        depth: gate.depth as usize,
+        capacity: gate.capacity as usize,
+        time: gate.time,
+        guests: (0..gate.guests as usize).map(guest).collect(),
+        waiting: (0..gate.waiting as usize)
+            .map(|place| lent.waiting(place))
+            .collect(),
+        flight: (0..gate.flight as usize)
+            .map(|place| lent.flight(place))
+            .collect(),
+    }
+}
+
+/// Writes every place the settings need: the records, then zeros. Places
+/// beyond are left alone.
+fn write_back(state: &State, lent: &mut Tables) {
+    let gate = Gate {
+        depth: state.depth as u64,
+        guests: state.guests.len() as u64,
+        capacity: state.capacity as u64,
+        time: state.time,
+        waiting: state.waiting.len() as u64,
+        flight: state.flight.len() as u64,
+    };
+    lent.gate[..GATE_NUMBERS].copy_from_slice(&gate.numbers());
+    let guests = state.guests.iter().map(|g| g.numbers());
+    write_records(lent.guests, guests, state.guests.len() * GUEST_NUMBERS);
+    let waiting = state.waiting.iter().map(|w| w.numbers());
+    write_records(lent.waiting, waiting, state.capacity * WAITING_NUMBERS);
+    let flight = state.flight.iter().map(|f| f.numbers());
+    write_records(lent.flight, flight, state.depth * FLIGHT_NUMBERS);
+}
+
+fn write_records<const N: usize>(
+    table: &mut [u64],
+    records: impl Iterator<Item = [u64; N]>,
+    needed: usize,
+) {
+    let mut at = 0;
+    for record in records {
+        table[at..at + N].copy_from_slice(&record);
+        at += N;
+    }
+    table[at..needed].fill(0);
+}

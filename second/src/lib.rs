@@ -1,0 +1,25 @@
+//! The gate of document 01, written a second time from the documents alone.
+//!
+//! - `numbers`: the ranges, the ceiling, the settings and the spacings
+//! - `tables`:  the lent tables of numbers and their records
+//! - `sound`:   the test of soundness, rule by rule
+//! - `rules`:   the events, the adjustment, the stamping, the choice, the drop
+//! - `calls`:   the library calls on lent tables
+//! - `trace`:   the trace and the program that prints it
+//! - `sample`:  random numbers and random tables, for tests
+//! - `kinds`:   random traces, for tests and benchmarks
+
+pub mod calls;
+pub mod kinds;
+pub mod numbers;
+pub mod rules;
+pub mod sample;
+pub mod sound;
+pub mod tables;
+pub mod trace;
+
+pub use calls::{arrive, complete, open, tick};
+pub use numbers::{Settings, CEILING};
+pub use rules::{Answer, Phase, State};
+pub use sound::{first_broken, Rule};
+pub use tables::{Flight, Guest, Tables, Waiting};

@@ -1,0 +1,274 @@
+//! The rules of the gate on a sound state: the events with their refusals,
+//! the adjustment, the stamping, the choice and the drop.
+//!
+//! Soundness is not tested here. In a sound state every sum below fits 64
+//! bits: a tag is below 2^62, a next number below 2^62 + 10^9.
+
+use crate::numbers::{Settings, CEILING};
+use crate::tables::{Flight, Guest, Waiting};
+
+#[derive(Clone, Copy, Debug, PartialEq, Eq)]
+pub enum Phase {
+    Reservation,
+    Weight,
+}
+
+/// The answer to an event or to a call.
+#[derive(Clone, Copy, Debug, PartialEq, Eq)]
+pub enum Answer {
+    Nothing,
+    Sent { phase: Phase, guest: u64, id: u64 },
+    Refused(u8),
+}
+
+/// A gate with the requests it holds. Waiting requests stand in order of
+/// acceptance, those in flight in order of sending.
+#[derive(Clone, Debug, PartialEq, Eq)]
+pub struct State {
+    pub depth: usize,
+    pub capacity: usize,
+    pub time: u64,
+    pub guests: Vec<Guest>,
+    pub waiting: Vec<Waiting>,
+    pub flight: Vec<Flight>,
+}
+
+/// The three tags of one request; 0 where the guest has no such tag.
+#[derive(Clone, Copy)]
+struct Tags {
+    rtag: u64,
+    ltag: u64,
+    stag: u64,
+}
+
+impl State {
+    pub fn fresh(depth: usize, capacity: usize, settings: &[Settings]) -> State {
+        State {
+            depth,
+            capacity,
+            time: 0,
+            guests: settings.iter().copied().map(Guest::fresh).collect(),
+            waiting: Vec::with_capacity(capacity),
+            flight: Vec::with_capacity(depth),
+        }
+    }
+
+    pub fn arrive(&mut self, guest: u64, id: u32, t: u64) -> Answer {
+        let id = id as u64;
+        if let Some(number) = self.arrival_refusal(guest, id, t) {
+            return Answer::Refused(number);
+        }
+        // Judged before anything is changed: 9 is the last refusal.
+        let from = self.adjusted_from(guest);
+        let tags = stamp(&self.guests[guest as usize], t);
+        if self.would_pass(from, tags, t) {
+            return Answer::Refused(9);
+        }
+        if let Some(m) = from {
+            self.adjust(m, t);
+        }
+        self.accept(guest, id, tags);
+        self.time = t;
+        self.choose()
+    }
+
+    pub fn complete(&mut self, guest: u64, id: u32, t: u64) -> Answer {
+        if let Some(number) = self.named_refusal(guest, t) {
+            return Answer::Refused(number);
+        }
+        let id = id as u64;
+        let named = Flight { guest, id };
+        let Some(place) = self.flight.iter().position(|f| *f == named) else {
+            return Answer::Refused(10);
+        };
+        self.flight.remove(place);
+        self.time = t;
+        self.choose()
+    }
+
+    pub fn tick(&mut self, t: u64) -> Answer {
+        if let Some(number) = self.time_refusal(t) {
+            return Answer::Refused(number);
+        }
+        self.time = t;
+        self.choose()
+    }
+
+    /// 5, 6.
+    fn time_refusal(&self, t: u64) -> Option<u8> {
+        if t > CEILING {
+            Some(5)
+        } else if t < self.time {
+            Some(6)
+        } else {
+            None
+        }
+    }
+
+    /// 4, 5, 6: the refusals of any event that names a guest.
+    fn named_refusal(&self, guest: u64, t: u64) -> Option<u8> {
+        if guest >= self.guests.len() as u64 {
+            Some(4)
+        } else {
+            self.time_refusal(t)
+        }
+    }
+
+    /// 4, 5, 6, 7, 8.
+    fn arrival_refusal(&self, guest: u64, id: u64, t: u64) -> Option<u8> {
+        if let Some(number) = self.named_refusal(guest, t) {
+            Some(number)
+        } else if self.holds(guest, id) {
+            Some(7)
+        } else if self.waiting.len() == self.capacity {
+            Some(8)
+        } else {
+            None
+        }
+    }
+
+    fn holds(&self, guest: u64, id: u64) -> bool {
+        self.waiting.iter().any(|w| w.guest == guest && w.id == id)
+            || self.flight.iter().any(|f| f.guest == guest && f.id == id)
+    }
+
+    /// Requests in flight do not count.
+    fn idle(&self, guest: u64) -> bool {
+        !self.waiting.iter().any(|w| w.guest == guest)
+    }
+
+    /// The smallest share tag waiting, if an arrival of this guest adjusts
+    /// the share tags. At an idle guest all that wait are others'.
+    fn adjusted_from(&self, guest: u64) -> Option<u64> {
+        if self.idle(guest) {
+            self.waiting.iter().map(|w| w.stag).min()
+        } else {
+            None
+        }
+    }
+
+    /// Would a tag given or a share tag moved pass the ceiling? A next
+    /// number may pass it.
+    fn would_pass(&self, from: Option<u64>, tags: Tags, t: u64) -> bool {
+        let given = tags.rtag > CEILING || tags.ltag > CEILING || tags.stag > CEILING;
+        let moves_past = |m| self.waiting.iter().any(|w| moved(w.stag, m, t) > CEILING);
+        given || from.is_some_and(moves_past)
+    }
+
+    /// Moves every waiting share tag, and the next share number of every
+    /// guest with something waiting, by t - m.
+    fn adjust(&mut self, m: u64, t: u64) {
+        let mut waits = [false; 64];
+        for w in &mut self.waiting {
+            w.stag = moved(w.stag, m, t);
+            waits[w.guest as usize] = true;
+        }
+        for (guest, waits) in self.guests.iter_mut().zip(waits) {
+            if waits {
+                guest.snext = moved(guest.snext, m, t);
+            }
+        }
+    }
+
+    /// Sets the next numbers and places the request last.
+    fn accept(&mut self, guest: u64, id: u64, tags: Tags) {
+        let Tags { rtag, ltag, stag } = tags;
+        let record = &mut self.guests[guest as usize];
+        let s = record.settings;
+        if s.has_reservation() {
+            record.rnext = rtag + s.reservation_spacing();
+        }
+        if s.has_limit() {
+            record.lnext = ltag + s.limit_spacing();
+        }
+        record.snext = stag + s.share_spacing();
+        self.waiting.push(Waiting {
+            guest,
+            id,
+            rtag,
+            ltag,
+            stag,
+        });
+    }
+
+    /// The choice at the gate's time.
+    fn choose(&mut self) -> Answer {
+        if self.flight.len() == self.depth {
+            return Answer::Nothing;
+        }
+        if let Some(place) = self.due_by_reservation() {
+            return self.send(place, Phase::Reservation);
+        }
+        if let Some(place) = self.due_by_weight() {
+            let answer = self.send(place, Phase::Weight);
+            self.drop_reservation(self.flight[self.flight.len() - 1].guest);
+            return answer;
+        }
+        Answer::Nothing
+    }
+
+    /// The smallest reservation tag at or before the time. `min_by_key`
+    /// gives the first of equals, so ties go to the earlier accepted.
+    fn due_by_reservation(&self) -> Option<usize> {
+        let due = |w: &Waiting| {
+            w.rtag <= self.time && self.guests[w.guest as usize].settings.has_reservation()
+        };
+        let waiting = self.waiting.iter().enumerate();
+        let first = waiting.filter(|(_, w)| due(w)).min_by_key(|(_, w)| w.rtag);
+        first.map(|(place, _)| place)
+    }
+
+    /// The smallest share tag among the unlimited and those whose limit
+    /// tag is at or before the time; same tie rule.
+    fn due_by_weight(&self) -> Option<usize> {
+        let may = |w: &Waiting| {
+            w.ltag <= self.time || !self.guests[w.guest as usize].settings.has_limit()
+        };
+        let waiting = self.waiting.iter().enumerate();
+        let first = waiting.filter(|(_, w)| may(w)).min_by_key(|(_, w)| w.stag);
+        first.map(|(place, _)| place)
+    }
+
+    /// Takes the request out of the waiting, those behind it move down,
+    /// and places it last in flight.
+    fn send(&mut self, place: usize, phase: Phase) -> Answer {
+        let Waiting { guest, id, .. } = self.waiting.remove(place);
+        self.flight.push(Flight { guest, id });
+        Answer::Sent { phase, guest, id }
+    }
+
+    /// After a weight send: the guest does not pay its reservation for
+    /// spare service. No reservation tag was due and the sent one was its
+    /// first, so what is left stays above the time and cannot fall below 0.
+    fn drop_reservation(&mut self, guest: u64) {
+        let record = &mut self.guests[guest as usize];
+        if !record.settings.has_reservation() {
+            return;
+        }
+        let spacing = record.settings.reservation_spacing();
+        record.rnext -= spacing;
+        for w in self.waiting.iter_mut().filter(|w| w.guest == guest) {
+            w.rtag -= spacing;
+        }
+    }
+}
+
+/// Each tag the guest has is the larger of its next number and t.
+fn stamp(guest: &Guest, t: u64) -> Tags {
+    let s = guest.settings;
+    Tags {
+        rtag: if s.has_reservation() {
+            guest.rnext.max(t)
+        } else {
+            0
+        },
+        ltag: if s.has_limit() { guest.lnext.max(t) } else { 0 },
+        stag: guest.snext.max(t),
+    }
+}
+
+/// A share number moved by t - m, up or down. It is at least m, the
+/// smallest share tag waiting, so the move goes no lower than t.
+fn moved(number: u64, m: u64, t: u64) -> u64 {
+    number - m + t
+}

@@ -1,0 +1,320 @@
+//! Random numbers, settings and tables, for tests and for the traces.
+
+use crate::numbers::{Settings, CEILING, MOST_RATE, SECOND};
+use crate::tables::{Flight, Gate, Guest, Tables, View, Waiting};
+
+/// A small generator of numbers (splitmix64): the same seed, the same run.
+#[derive(Clone)]
+pub struct Prng(u64);
+
+impl Prng {
+    pub fn new(seed: u64) -> Prng {
+        Prng(seed)
+    }
+
+    pub fn any(&mut self) -> u64 {
+        self.0 = self.0.wrapping_add(0x9E37_79B9_7F4A_7C15);
+        let mut z = self.0;
+        z = (z ^ (z >> 30)).wrapping_mul(0xBF58_476D_1CE4_E5B9);
+        z = (z ^ (z >> 27)).wrapping_mul(0x94D0_49BB_1331_11EB);
+        z ^ (z >> 31)
+    }
+
+    /// 0 to n - 1.
+    pub fn below(&mut self, n: u64) -> u64 {
+        ((self.any() as u128 * n as u128) >> 64) as u64
+    }
+
+    /// Low to high, both included.
+    pub fn between(&mut self, low: u64, high: u64) -> u64 {
+        low + self.below(high - low + 1)
+    }
+
+    pub fn chance(&mut self, percent: u64) -> bool {
+        self.below(100) < percent
+    }
+
+    pub fn pick<T: Copy>(&mut self, from: &[T]) -> T {
+        from[self.below(from.len() as u64) as usize]
+    }
+
+    /// A number of random size: small ones are as likely as large ones.
+    pub fn sized(&mut self, bits: u64) -> u64 {
+        let bits = self.below(bits + 1);
+        match bits {
+            0 => 0,
+            _ => self.any() >> (64 - bits),
+        }
+    }
+}
+
+/// Settings from the whole range, extremes often.
+pub fn any_settings(rng: &mut Prng) -> Settings {
+    let rates = [1, 2, 3, 7, 300, 1_000, 999_999, MOST_RATE];
+    let mut rate = |none: u64| {
+        if rng.chance(none) {
+            0
+        } else if rng.chance(60) {
+            rng.pick(&rates)
+        } else {
+            rng.between(1, MOST_RATE)
+        }
+    };
+    let (reservation, limit, shares) = (rate(40), rate(40), rate(0));
+    Settings {
+        reservation,
+        limit: if limit == 0 {
+            0
+        } else {
+            limit.max(reservation)
+        },
+        shares,
+    }
+}
+
+/// The four tables, owned.
+#[derive(Clone, Debug, PartialEq, Eq)]
+pub struct Owned {
+    pub gate: Vec<u64>,
+    pub guests: Vec<u64>,
+    pub waiting: Vec<u64>,
+    pub flight: Vec<u64>,
+}
+
+impl Owned {
+    /// Tables of these lengths, each place holding a number that says
+    /// nothing.
+    pub fn dusty(gate: usize, guests: usize, waiting: usize, flight: usize) -> Owned {
+        Owned {
+            gate: vec![77; gate],
+            guests: vec![77; guests],
+            waiting: vec![77; waiting],
+            flight: vec![77; flight],
+        }
+    }
+
+    pub fn lend(&mut self) -> Tables<'_> {
+        Tables {
+            gate: &mut self.gate,
+            guests: &mut self.guests,
+            waiting: &mut self.waiting,
+            flight: &mut self.flight,
+        }
+    }
+
+    pub fn view(&self) -> View<'_> {
+        View {
+            gate: &self.gate,
+            guests: &self.guests,
+            waiting: &self.waiting,
+            flight: &self.flight,
+        }
+    }
+}
+
+/// Random sound tables, also such as no run of events would leave. Some
+/// have places beyond what the settings need, with any content.
+pub fn sound_tables(rng: &mut Prng) -> Owned {
+    let guests = small_or(rng, 5, 64);
+    let depth = small_or(rng, 4, 64);
+    let capacity = small_or(rng, 8, 200);
+    let time = table_time(rng);
+    let mut records: Vec<Guest> = (0..guests).map(|_| idle_guest(rng, time)).collect();
+    let waiting = waiting_requests(rng, &mut records, capacity, time);
+    let flight = flight_requests(rng, &waiting, guests, depth);
+    let gate = Gate {
+        depth,
+        guests,
+        capacity,
+        time,
+        waiting: waiting.len() as u64,
+        flight: flight.len() as u64,
+    };
+    Owned {
+        gate: with_rest(rng, gate.numbers().to_vec()),
+        guests: with_rest(rng, records.iter().flat_map(|g| g.numbers()).collect()),
+        waiting: padded(
+            rng,
+            waiting.iter().flat_map(|w| w.numbers()).collect(),
+            capacity * 5,
+        ),
+        flight: padded(
+            rng,
+            flight.iter().flat_map(|f| f.numbers()).collect(),
+            depth * 2,
+        ),
+    }
+}
+
+fn small_or(rng: &mut Prng, small: u64, large: u64) -> u64 {
+    if rng.chance(80) {
+        rng.between(1, small)
+    } else {
+        rng.between(1, large)
+    }
+}
+
+fn table_time(rng: &mut Prng) -> u64 {
+    match rng.below(4) {
+        0 => rng.below(4),
+        1 => CEILING - rng.sized(34),
+        _ => rng.sized(62),
+    }
+}
+
+/// A number not far from the time, in 0 to the ceiling.
+fn near(rng: &mut Prng, time: u64) -> u64 {
+    let away = rng.sized(34);
+    let number = if rng.chance(50) {
+        time.saturating_sub(away)
+    } else {
+        time + away
+    };
+    number.min(CEILING)
+}
+
+fn idle_guest(rng: &mut Prng, time: u64) -> Guest {
+    let settings = any_settings(rng);
+    let mut next = || near(rng, time) + rng.sized(30).min(SECOND);
+    let (rnext, lnext, snext) = (next(), next(), next());
+    Guest {
+        settings,
+        rnext: if settings.has_reservation() { rnext } else { 0 },
+        lnext: if settings.has_limit() { lnext } else { 0 },
+        snext,
+    }
+}
+
+/// Requests with tags as far apart as soundness wants or further, and the
+/// next numbers that follow from them.
+fn waiting_requests(
+    rng: &mut Prng,
+    guests: &mut [Guest],
+    capacity: u64,
+    time: u64,
+) -> Vec<Waiting> {
+    let count = if rng.chance(20) {
+        capacity
+    } else {
+        rng.below(capacity + 1)
+    };
+    // Only some guests wait, so that others are idle.
+    let active = rng.between(1, guests.len() as u64);
+    let mut all: Vec<Waiting> = Vec::new();
+    for _ in 0..count {
+        let number = rng.below(active);
+        let guest = guests[number as usize];
+        let first = !all.iter().any(|w| w.guest == number);
+        let request = waiting_request(rng, number, &guest, first, time);
+        let past = request.rtag.max(request.ltag).max(request.stag) > CEILING;
+        let twice = all.iter().any(|w| w.guest == number && w.id == request.id);
+        if !past && !twice {
+            guests[number as usize] = followed(guest, &request);
+            all.push(request);
+        }
+    }
+    all
+}
+
+fn waiting_request(rng: &mut Prng, number: u64, guest: &Guest, first: bool, time: u64) -> Waiting {
+    let apart = if rng.chance(50) { 0 } else { 32 };
+    let mut tag = |has: bool, next: u64| match (has, first) {
+        (false, _) => 0,
+        (true, true) => near(rng, time),
+        (true, false) => next + rng.sized(apart),
+    };
+    let s = guest.settings;
+    Waiting {
+        guest: number,
+        rtag: tag(s.has_reservation(), guest.rnext),
+        ltag: tag(s.has_limit(), guest.lnext),
+        stag: tag(true, guest.snext),
+        id: some_id(rng),
+    }
+}
+
+fn some_id(rng: &mut Prng) -> u64 {
+    if rng.chance(5) {
+        u32::MAX as u64
+    } else {
+        rng.sized(10)
+    }
+}
+
+fn followed(guest: Guest, last: &Waiting) -> Guest {
+    let s = guest.settings;
+    Guest {
+        settings: s,
+        rnext: if s.has_reservation() {
+            last.rtag + s.reservation_spacing()
+        } else {
+            0
+        },
+        lnext: if s.has_limit() {
+            last.ltag + s.limit_spacing()
+        } else {
+            0
+        },
+        snext: last.stag + s.share_spacing(),
+    }
+}
+
+fn flight_requests(rng: &mut Prng, waiting: &[Waiting], guests: u64, depth: u64) -> Vec<Flight> {
+    let count = if rng.chance(20) {
+        depth
+    } else {
+        rng.below(depth + 1)
+    };
+    let mut all: Vec<Flight> = Vec::new();
+    for _ in 0..count {
+        let guest = rng.below(guests);
+        let id = some_id(rng);
+        let waits = waiting.iter().any(|w| w.guest == guest && w.id == id);
+        let flies = all.iter().any(|f| f.guest == guest && f.id == id);
+        if !waits && !flies {
+            all.push(Flight { guest, id });
+        }
+    }
+    all
+}
+
+fn padded(rng: &mut Prng, mut numbers: Vec<u64>, needed: u64) -> Vec<u64> {
+    numbers.resize(needed as usize, 0);
+    with_rest(rng, numbers)
+}
+
+/// Sometimes with places beyond what is needed.
+fn with_rest(rng: &mut Prng, mut numbers: Vec<u64>) -> Vec<u64> {
+    if rng.chance(30) {
+        for _ in 0..rng.between(1, 7) {
+            numbers.push(rng.sized(64));
+        }
+    }
+    numbers
+}
+
+/// Changes one number of one table, or cuts a table: most often what
+/// comes out is not sound, sometimes it still is.
+pub fn spoil(rng: &mut Prng, tables: &mut Owned) {
+    let table = match rng.below(4) {
+        0 => &mut tables.gate,
+        1 => &mut tables.guests,
+        2 => &mut tables.waiting,
+        _ => &mut tables.flight,
+    };
+    if table.is_empty() {
+        return;
+    }
+    let at = rng.below(table.len() as u64) as usize;
+    let old = table[at];
+    match rng.below(8) {
+        0 => table.truncate(at),
+        1 => table[at] = 0,
+        2 => table[at] = old.wrapping_sub(1),
+        3 => table[at] = old.wrapping_add(1),
+        4 => table[at] = u64::MAX,
+        5 => table[at] = old | 1 << 32,
+        6 => table[at] = rng.pick(&[CEILING, CEILING + 1, CEILING + SECOND, CEILING + SECOND + 1]),
+        _ => table[at] = rng.sized(64),
+    }
+}

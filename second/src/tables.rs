@@ -1,0 +1,187 @@
+//! "The tables": the numbers the host lends, and the records they hold.
+//!
+//! The gate is six numbers: depth, guests, capacity, time, waiting count,
+//! flight count. A guest is six, a waiting request five, one in flight two.
+
+use crate::numbers::Settings;
+
+pub const GATE_NUMBERS: usize = 6;
+pub const GUEST_NUMBERS: usize = 6;
+pub const WAITING_NUMBERS: usize = 5;
+pub const FLIGHT_NUMBERS: usize = 2;
+pub const SETTINGS_NUMBERS: usize = 3;
+
+/// A guest record: its settings and its three next numbers.
+#[derive(Clone, Copy, Debug, PartialEq, Eq)]
+pub struct Guest {
+    pub settings: Settings,
+    pub rnext: u64,
+    pub lnext: u64,
+    pub snext: u64,
+}
+
+/// A waiting request with its reservation, limit and share tag.
+#[derive(Clone, Copy, Debug, PartialEq, Eq)]
+pub struct Waiting {
+    pub guest: u64,
+    pub id: u64,
+    pub rtag: u64,
+    pub ltag: u64,
+    pub stag: u64,
+}
+
+/// A request in flight.
+#[derive(Clone, Copy, Debug, PartialEq, Eq)]
+pub struct Flight {
+    pub guest: u64,
+    pub id: u64,
+}
+
+impl Guest {
+    pub fn fresh(settings: Settings) -> Guest {
+        Guest {
+            settings,
+            rnext: 0,
+            lnext: 0,
+            snext: 0,
+        }
+    }
+
+    pub fn numbers(self) -> [u64; GUEST_NUMBERS] {
+        let s = self.settings;
+        [
+            s.reservation,
+            s.limit,
+            s.shares,
+            self.rnext,
+            self.lnext,
+            self.snext,
+        ]
+    }
+}
+
+impl Waiting {
+    pub fn numbers(self) -> [u64; WAITING_NUMBERS] {
+        [self.guest, self.id, self.rtag, self.ltag, self.stag]
+    }
+}
+
+impl Flight {
+    pub fn numbers(self) -> [u64; FLIGHT_NUMBERS] {
+        [self.guest, self.id]
+    }
+}
+
+/// The gate record.
+#[derive(Clone, Copy, Debug, PartialEq, Eq)]
+pub struct Gate {
+    pub depth: u64,
+    pub guests: u64,
+    pub capacity: u64,
+    pub time: u64,
+    pub waiting: u64,
+    pub flight: u64,
+}
+
+impl Gate {
+    pub fn numbers(self) -> [u64; GATE_NUMBERS] {
+        [
+            self.depth,
+            self.guests,
+            self.capacity,
+            self.time,
+            self.waiting,
+            self.flight,
+        ]
+    }
+}
+
+/// The four tables, lent to be read. Their lengths have been judged before
+/// a record is taken out.
+#[derive(Clone, Copy)]
+pub struct View<'a> {
+    pub gate: &'a [u64],
+    pub guests: &'a [u64],
+    pub waiting: &'a [u64],
+    pub flight: &'a [u64],
+}
+
+/// The four tables, lent to be written.
+pub struct Tables<'a> {
+    pub gate: &'a mut [u64],
+    pub guests: &'a mut [u64],
+    pub waiting: &'a mut [u64],
+    pub flight: &'a mut [u64],
+}
+
+impl Tables<'_> {
+    pub fn view(&self) -> View<'_> {
+        View {
+            gate: self.gate,
+            guests: self.guests,
+            waiting: self.waiting,
+            flight: self.flight,
+        }
+    }
+}
+
+impl View<'_> {
+    pub fn gate(&self) -> Gate {
+        let g = self.gate;
+        Gate {
+            depth: g[0],
+            guests: g[1],
+            capacity: g[2],
+            time: g[3],
+            waiting: g[4],
+            flight: g[5],
+        }
+    }
+
+    pub fn guest(&self, place: usize) -> Guest {
+        let n = &self.guests[place * GUEST_NUMBERS..][..GUEST_NUMBERS];
+        Guest {
+            settings: settings_at(n, 0),
+            rnext: n[3],
+            lnext: n[4],
+            snext: n[5],
+        }
+    }
+
+    pub fn waiting(&self, place: usize) -> Waiting {
+        let n = &self.waiting[place * WAITING_NUMBERS..][..WAITING_NUMBERS];
+        Waiting {
+            guest: n[0],
+            id: n[1],
+            rtag: n[2],
+            ltag: n[3],
+            stag: n[4],
+        }
+    }
+
+    pub fn flight(&self, place: usize) -> Flight {
+        let n = &self.flight[place * FLIGHT_NUMBERS..][..FLIGHT_NUMBERS];
+        Flight {
+            guest: n[0],
+            id: n[1],
+        }
+    }
+
+    /// Long enough for these settings, which are in their ranges?
+    pub fn long_enough(&self, depth: u64, guests: u64, capacity: u64) -> bool {
+        self.gate.len() >= GATE_NUMBERS
+            && self.guests.len() >= guests as usize * GUEST_NUMBERS
+            && self.waiting.len() >= capacity as usize * WAITING_NUMBERS
+            && self.flight.len() >= depth as usize * FLIGHT_NUMBERS
+    }
+}
+
+/// The settings of one guest in a list of three numbers a guest.
+pub fn settings_at(list: &[u64], guest: usize) -> Settings {
+    let n = &list[guest * SETTINGS_NUMBERS..][..SETTINGS_NUMBERS];
+    Settings {
+        reservation: n[0],
+        limit: n[1],
+        shares: n[2],
+    }
+}

@@ -1,0 +1,296 @@
+//! The library calls: opening, lengths, the order of refusals, and what is
+//! left alone.
+
+mod common;
+use common::*;
+use second::numbers::SECOND;
+use second::sample::{sound_tables, spoil, Owned, Prng};
+use second::Answer::{Nothing, Refused};
+use second::{first_broken, open, CEILING};
+
+const SETTINGS: [u64; 6] = [100, 250, 1, 0, 0, 7];
+
+/// Depth 2, two guests, capacity 3, and one place more in every table.
+fn room() -> Owned {
+    Owned::dusty(7, 13, 16, 5)
+}
+
+#[test]
+fn opening_writes_a_fresh_table_and_nothing_beyond() {
+    let mut t = room();
+    assert_eq!(open(2, 2, 3, &SETTINGS, &mut t.lend()), Nothing);
+    assert_eq!(t.gate, [2, 2, 3, 0, 0, 0, 77]);
+    assert_eq!(t.guests, [100, 250, 1, 0, 0, 0, 0, 0, 7, 0, 0, 0, 77]);
+    let mut waiting = vec![0; 15];
+    waiting.push(77);
+    assert_eq!(t.waiting, waiting);
+    assert_eq!(t.flight, [0, 0, 0, 0, 77]);
+    assert_eq!(first_broken(&t.view()), None);
+}
+
+#[test]
+fn opening_counts_then_lengths_then_settings() {
+    let mut t = room();
+    let before = t.clone();
+    for (depth, guests, capacity) in [
+        (0, 2, 3),
+        (65, 2, 3),
+        (2, 0, 3),
+        (2, 65, 3),
+        (2, 2, 0),
+        (2, 2, 1_025),
+        (u64::MAX, u64::MAX, u64::MAX),
+    ] {
+        let answer = open(depth, guests, capacity, &[], &mut t.lend());
+        assert_eq!(answer, Refused(1));
+    }
+    let bad = [9, 8, 1, 0, 0, 0];
+    assert_eq!(open(2, 2, 3, &bad[..5], &mut t.lend()), Refused(2));
+    assert_eq!(open(2, 2, 4, &bad, &mut t.lend()), Refused(2));
+    assert_eq!(open(3, 2, 3, &bad, &mut t.lend()), Refused(2));
+    assert_eq!(open(2, 3, 3, &[1; 9], &mut t.lend()), Refused(2));
+    assert_eq!(open(2, 2, 3, &bad, &mut t.lend()), Refused(1));
+    // The last guest's settings are judged too, numbers of any size.
+    for bad in [
+        [100, 250, 1, 0, 0, 0],
+        [100, 250, 1, 0, 0, 1_000_001],
+        [100, 250, 1, 1_000_001, 0, 1],
+        [100, 250, 1, 0, u64::MAX, 1],
+        [100, 250, 1, 3, 2, 1],
+    ] {
+        assert_eq!(open(2, 2, 3, &bad, &mut t.lend()), Refused(1));
+    }
+    assert_eq!(t, before);
+    t.gate.truncate(5);
+    assert_eq!(open(2, 2, 3, &SETTINGS, &mut t.lend()), Refused(2));
+}
+
+#[test]
+fn opening_reads_no_settings_beyond_the_guests() {
+    let mut t = room();
+    let mut settings = SETTINGS.to_vec();
+    settings.extend([u64::MAX; 4]);
+    assert_eq!(open(2, 2, 3, &settings, &mut t.lend()), Nothing);
+}
+
+fn calls(guest: u64, id: u32, time: u64) -> [Call; 3] {
+    [
+        Call::Arrive(guest, id, time),
+        Call::Complete(guest, id, time),
+        Call::Tick(time),
+    ]
+}
+
+#[test]
+fn short_tables_and_counts_out_of_range() {
+    let full = opened(2, 3, &[guest(1, 1, 1), guest(0, 0, 7)]);
+    let with = |change: &dyn Fn(&mut Owned)| {
+        let mut t = full.clone();
+        change(&mut t);
+        let before = t.clone();
+        let answers = calls(9, 1, u64::MAX).map(|c| call(&mut t.lend(), c));
+        assert_eq!(t, before);
+        assert!(answers[0] == answers[1] && answers[1] == answers[2]);
+        answers[0]
+    };
+    assert_eq!(with(&|t| t.gate.truncate(5)), Refused(2));
+    assert_eq!(with(&|t| t.gate.clear()), Refused(2));
+    assert_eq!(with(&|t| t.guests.truncate(11)), Refused(2));
+    assert_eq!(with(&|t| t.waiting.truncate(14)), Refused(2));
+    assert_eq!(with(&|t| t.flight.truncate(3)), Refused(2));
+    // Out of range gives 3 at once, though the lengths would not do.
+    for (place, most) in [(0, 64), (1, 64), (2, 1_024)] {
+        for number in [0, most + 1, u64::MAX] {
+            let short = |t: &mut Owned| {
+                t.gate[place] = number;
+                t.guests.clear();
+                t.waiting.clear();
+                t.flight.clear();
+            };
+            assert_eq!(with(&short), Refused(3));
+        }
+        // In range, lengths come before the rest of soundness.
+        let needs_more = |t: &mut Owned| {
+            t.gate[place] = most;
+            t.gate[3] = u64::MAX;
+        };
+        assert_eq!(with(&needs_more), Refused(2));
+    }
+    assert_eq!(with(&|t| t.gate[3] = u64::MAX), Refused(3));
+}
+
+/// One guest waits with id 1 and has id 0 in flight; capacity 1.
+fn busy() -> Owned {
+    let mut t = opened(1, 1, &[guest(0, 0, 1), guest(0, 0, 1)]);
+    call(&mut t.lend(), Call::Arrive(0, 0, 10));
+    call(&mut t.lend(), Call::Arrive(0, 1, 10));
+    t
+}
+
+fn answer_of(t: &Owned, c: Call) -> second::Answer {
+    let mut t = t.clone();
+    let before = t.clone();
+    let answer = call(&mut t.lend(), c);
+    assert_eq!(refused(answer), t == before);
+    answer
+}
+
+#[test]
+fn refusals_come_in_order() {
+    let t = busy();
+    let mut high = t.clone();
+    // Guest 1's next number lies past the ceiling: 9 for any arrival.
+    high.guests[11] = CEILING + SECOND;
+    let mut unsound = high.clone();
+    unsound.gate[3] = CEILING + 1;
+    let past = CEILING + 1;
+    for c in calls(2, 0, past) {
+        assert_eq!(answer_of(&unsound, c), Refused(3));
+    }
+    assert_eq!(answer_of(&high, Call::Arrive(2, 0, past)), Refused(4));
+    assert_eq!(answer_of(&high, Call::Complete(2, 9, 0)), Refused(4));
+    assert_eq!(answer_of(&high, Call::Arrive(0, 0, past)), Refused(5));
+    assert_eq!(answer_of(&high, Call::Complete(0, 9, past)), Refused(5));
+    assert_eq!(answer_of(&high, Call::Tick(past)), Refused(5));
+    assert_eq!(answer_of(&high, Call::Arrive(0, 0, 9)), Refused(6));
+    assert_eq!(answer_of(&high, Call::Complete(0, 9, 9)), Refused(6));
+    assert_eq!(answer_of(&high, Call::Tick(9)), Refused(6));
+    // In flight and waiting; the table is full.
+    assert_eq!(answer_of(&high, Call::Arrive(0, 0, 10)), Refused(7));
+    assert_eq!(answer_of(&high, Call::Arrive(0, 1, 10)), Refused(7));
+    // Full, and it would pass the ceiling.
+    assert_eq!(answer_of(&high, Call::Arrive(1, 0, 10)), Refused(8));
+    // Waiting is not in flight; another guest's id is not one's own.
+    assert_eq!(answer_of(&high, Call::Complete(0, 1, 10)), Refused(10));
+    assert_eq!(answer_of(&high, Call::Complete(1, 0, 10)), Refused(10));
+    assert_eq!(answer_of(&high, Call::Complete(0, 0, 10)), weight(0, 1));
+    let mut freed = high.clone();
+    call(&mut freed.lend(), Call::Complete(0, 0, 10));
+    assert_eq!(answer_of(&freed, Call::Arrive(1, 0, 10)), Refused(9));
+    assert_eq!(answer_of(&freed, Call::Arrive(0, 0, 10)), Nothing);
+}
+
+#[test]
+fn a_send_closes_up_and_leaves_zeros() {
+    let mut t = opened(2, 3, &[guest(0, 0, 1), guest(0, 0, 1)]);
+    t.waiting.push(5);
+    t.flight.push(6);
+    for id in 1..=4 {
+        call(&mut t.lend(), Call::Arrive(0, id, 0));
+    }
+    call(&mut t.lend(), Call::Arrive(1, 1, 0));
+    assert_eq!(t.gate, [2, 2, 3, 0, 3, 2]);
+    assert_eq!(t.flight, [0, 1, 0, 2, 6]);
+    assert_eq!(
+        t.waiting,
+        [0, 3, 0, 0, 0, 0, 4, 0, 0, SECOND, 1, 1, 0, 0, 0, 5]
+    );
+    assert_eq!(call(&mut t.lend(), Call::Complete(0, 1, 0)), weight(0, 3));
+    assert_eq!(t.gate, [2, 2, 3, 0, 2, 2]);
+    assert_eq!(t.flight, [0, 2, 0, 3, 6]);
+    assert_eq!(
+        t.waiting,
+        [0, 4, 0, 0, SECOND, 1, 1, 0, 0, 0, 0, 0, 0, 0, 0, 5]
+    );
+    // A later one is sent and those before it stay.
+    assert_eq!(call(&mut t.lend(), Call::Complete(0, 2, 0)), weight(1, 1));
+    assert_eq!(t.waiting[..10], [0, 4, 0, 0, SECOND, 0, 0, 0, 0, 0]);
+    assert_eq!(call(&mut t.lend(), Call::Complete(1, 1, 7)), weight(0, 4));
+    assert_eq!(call(&mut t.lend(), Call::Complete(0, 4, 7)), Nothing);
+    assert_eq!(t.gate, [2, 2, 3, 7, 0, 1]);
+    assert_eq!(t.flight, [0, 3, 0, 0, 6]);
+}
+
+fn any_call(rng: &mut Prng) -> Call {
+    let guest = if rng.chance(80) {
+        rng.below(3)
+    } else {
+        rng.sized(64)
+    };
+    let time = match rng.below(3) {
+        0 => rng.sized(64),
+        1 => CEILING - rng.sized(34),
+        _ => rng.pick(&[0, CEILING, CEILING + 1, u64::MAX]),
+    };
+    let id = rng.sized(32) as u32;
+    rng.pick(&[
+        Call::Arrive(guest, id, time),
+        Call::Complete(guest, id, time),
+        Call::Tick(time),
+    ])
+}
+
+fn any_numbers(rng: &mut Prng) -> Vec<u64> {
+    let length = rng.below(30);
+    let bits = rng.pick(&[1, 3, 64]);
+    (0..length).map(|_| rng.sized(bits)).collect()
+}
+
+#[test]
+fn tables_of_any_length_and_content_are_judged() {
+    let mut rng = Prng::new(21);
+    for _ in 0..20_000 {
+        let mut t = Owned {
+            gate: any_numbers(&mut rng),
+            guests: any_numbers(&mut rng),
+            waiting: any_numbers(&mut rng),
+            flight: any_numbers(&mut rng),
+        };
+        let before = t.clone();
+        let c = any_call(&mut rng);
+        let answer = call(&mut t.lend(), c);
+        if refused(answer) {
+            assert_eq!(t, before);
+        } else {
+            assert_eq!(first_broken(&before.view()), None);
+            assert_eq!(first_broken(&t.view()), None);
+        }
+    }
+}
+
+#[test]
+fn spoiled_tables_are_refused_unchanged_or_stay_sound() {
+    let mut rng = Prng::new(22);
+    for _ in 0..6_000 {
+        let mut t = sound_tables(&mut rng);
+        for _ in 0..rng.below(3) {
+            spoil(&mut rng, &mut t);
+        }
+        let before = t.clone();
+        let c = any_call(&mut rng);
+        let answer = call(&mut t.lend(), c);
+        if refused(answer) {
+            assert_eq!(t, before);
+        } else {
+            assert_eq!(first_broken(&t.view()), None);
+        }
+    }
+}
+
+#[test]
+fn opening_with_anything_is_refused_unchanged_or_fresh() {
+    let mut rng = Prng::new(23);
+    for _ in 0..20_000 {
+        let mut t = Owned {
+            gate: any_numbers(&mut rng),
+            guests: any_numbers(&mut rng),
+            waiting: any_numbers(&mut rng),
+            flight: any_numbers(&mut rng),
+        };
+        let before = t.clone();
+        let settings = any_numbers(&mut rng);
+        let bits = rng.pick(&[2, 7, 64]);
+        let (depth, guests, capacity) = (rng.sized(bits), rng.sized(bits), rng.sized(bits));
+        let answer = open(depth, guests, capacity, &settings, &mut t.lend());
+        if refused(answer) {
+            assert_eq!(t, before);
+        } else {
+            assert_eq!(first_broken(&t.view()), None);
+            assert_eq!(t.gate[..6], [depth, guests, capacity, 0, 0, 0]);
+            assert_eq!(
+                t.waiting[capacity as usize * 5..],
+                before.waiting[capacity as usize * 5..]
+            );
+        }
+    }
+}

@@ -1,0 +1,71 @@
+//! Shared by the tests.
+#![allow(dead_code)]
+
+use second::sample::Owned;
+use second::{open, Answer, Phase, Settings, State, Tables};
+
+pub const MS: u64 = 1_000_000;
+
+pub fn guest(reservation: u64, limit: u64, shares: u64) -> Settings {
+    Settings {
+        reservation,
+        limit,
+        shares,
+    }
+}
+
+pub fn reservation(guest: u64, id: u64) -> Answer {
+    Answer::Sent {
+        phase: Phase::Reservation,
+        guest,
+        id,
+    }
+}
+
+pub fn weight(guest: u64, id: u64) -> Answer {
+    Answer::Sent {
+        phase: Phase::Weight,
+        guest,
+        id,
+    }
+}
+
+pub fn share_tags(state: &State) -> Vec<u64> {
+    state.waiting.iter().map(|w| w.stag).collect()
+}
+
+pub fn reservation_tags(state: &State) -> Vec<u64> {
+    state.waiting.iter().map(|w| w.rtag).collect()
+}
+
+/// Tables of just the lengths needed, opened.
+pub fn opened(depth: u64, capacity: u64, settings: &[Settings]) -> Owned {
+    let guests = settings.len();
+    let mut owned = Owned::dusty(6, guests * 6, capacity as usize * 5, depth as usize * 2);
+    let list: Vec<u64> = settings
+        .iter()
+        .flat_map(|s| [s.reservation, s.limit, s.shares])
+        .collect();
+    let answer = open(depth, guests as u64, capacity, &list, &mut owned.lend());
+    assert_eq!(answer, Answer::Nothing);
+    owned
+}
+
+#[derive(Clone, Copy, Debug)]
+pub enum Call {
+    Arrive(u64, u32, u64),
+    Complete(u64, u32, u64),
+    Tick(u64),
+}
+
+pub fn call(lent: &mut Tables, call: Call) -> Answer {
+    match call {
+        Call::Arrive(guest, id, time) => second::arrive(lent, guest, id, time),
+        Call::Complete(guest, id, time) => second::complete(lent, guest, id, time),
+        Call::Tick(time) => second::tick(lent, time),
+    }
+}
+
+pub fn refused(answer: Answer) -> bool {
+    matches!(answer, Answer::Refused(_))
+}

@@ -1,0 +1,299 @@
+//! The rules once more in another shape: signed wide numbers, a queue for
+//! each guest, tags that may be absent. Random runs are compared with it.
+
+mod common;
+use common::*;
+use second::calls::read;
+use second::sample::{sound_tables, Prng};
+use second::{Answer, State};
+use std::collections::VecDeque;
+
+const CEILING: i128 = (1 << 62) - 1;
+
+#[derive(Clone)]
+struct Request {
+    turn: u64,
+    id: u64,
+    tags: [Option<i128>; 3],
+}
+
+/// A guest: spacing and next number of each kind it has, and its queue.
+#[derive(Clone)]
+struct Lane {
+    spacing: [Option<i128>; 3],
+    next: [i128; 3],
+    queue: VecDeque<Request>,
+}
+
+#[derive(Clone)]
+struct Mirror {
+    depth: usize,
+    capacity: usize,
+    time: i128,
+    turn: u64,
+    lanes: Vec<Lane>,
+    flight: Vec<(u64, u64)>,
+}
+
+const R: usize = 0;
+const L: usize = 1;
+const S: usize = 2;
+
+impl Mirror {
+    fn of(state: &State) -> Mirror {
+        let second = 1_000_000_000i128;
+        let lane = |g: &second::Guest| {
+            let n = g.numbers().map(|n| n as i128);
+            let up = |l: i128| second / l + (second % l != 0) as i128;
+            Lane {
+                spacing: [
+                    (n[0] > 0).then(|| second / n[0]),
+                    (n[1] > 0).then(|| up(n[1])),
+                    Some(second / n[2]),
+                ],
+                next: [n[3], n[4], n[5]],
+                queue: VecDeque::new(),
+            }
+        };
+        let mut mirror = Mirror {
+            depth: state.depth,
+            capacity: state.capacity,
+            time: state.time as i128,
+            turn: 0,
+            lanes: state.guests.iter().map(lane).collect(),
+            flight: state.flight.iter().map(|f| (f.guest, f.id)).collect(),
+        };
+        for w in &state.waiting {
+            let lane = &mut mirror.lanes[w.guest as usize];
+            let numbers = [w.rtag, w.ltag, w.stag];
+            let tag = |kind: usize| lane.spacing[kind].map(|_| numbers[kind] as i128);
+            let tags = [tag(R), tag(L), tag(S)];
+            let turn = mirror.turn;
+            lane.queue.push_back(Request {
+                turn,
+                id: w.id,
+                tags,
+            });
+            mirror.turn += 1;
+        }
+        mirror
+    }
+
+    /// The mirror's tables as the gate's state would show them.
+    fn shows(&self, state: &State) -> bool {
+        let mut all: Vec<(u64, [u64; 5])> = Vec::new();
+        for (number, lane) in self.lanes.iter().enumerate() {
+            for q in &lane.queue {
+                let tag = |kind: usize| q.tags[kind].unwrap_or(0) as u64;
+                all.push((q.turn, [number as u64, q.id, tag(R), tag(L), tag(S)]));
+            }
+        }
+        all.sort();
+        let next = |lane: &Lane| lane.next.map(|n| n as u64);
+        self.time == state.time as i128
+            && all
+                .iter()
+                .map(|(_, w)| *w)
+                .eq(state.waiting.iter().map(|w| w.numbers()))
+            && self
+                .flight
+                .iter()
+                .copied()
+                .eq(state.flight.iter().map(|f| (f.guest, f.id)))
+            && self.lanes.iter().map(next).eq(state.guests.iter().map(|g| {
+                let n = g.numbers();
+                [n[3], n[4], n[5]]
+            }))
+    }
+
+    fn play(&mut self, c: Call) -> Answer {
+        let kept = self.clone();
+        let played = match c {
+            Call::Arrive(guest, id, t) => self.arrive(guest, id as u64, t as i128),
+            Call::Complete(guest, id, t) => self.complete(guest, id as u64, t as i128),
+            Call::Tick(t) => self.clock(t as i128),
+        };
+        match played {
+            Ok(()) => self.choose(),
+            Err(number) => {
+                *self = kept;
+                Answer::Refused(number)
+            }
+        }
+    }
+
+    fn known(&self, guest: u64) -> Result<(), u8> {
+        if guest < self.lanes.len() as u64 {
+            Ok(())
+        } else {
+            Err(4)
+        }
+    }
+
+    fn clock(&mut self, t: i128) -> Result<(), u8> {
+        match t {
+            t if t > CEILING => Err(5),
+            t if t < self.time => Err(6),
+            t => {
+                self.time = t;
+                Ok(())
+            }
+        }
+    }
+
+    fn arrive(&mut self, guest: u64, id: u64, t: i128) -> Result<(), u8> {
+        self.known(guest)?;
+        self.clock(t)?;
+        let number = guest as usize;
+        let waits = self.lanes[number].queue.iter().any(|q| q.id == id);
+        if waits || self.flight.contains(&(guest, id)) {
+            return Err(7);
+        }
+        let waiting: usize = self.lanes.iter().map(|lane| lane.queue.len()).sum();
+        if waiting == self.capacity {
+            return Err(8);
+        }
+        if self.lanes[number].queue.is_empty() && waiting > 0 {
+            self.adjust(t)?;
+        }
+        let lane = &mut self.lanes[number];
+        let mut tags = [None; 3];
+        for kind in [R, L, S] {
+            if let Some(spacing) = lane.spacing[kind] {
+                let tag = lane.next[kind].max(t);
+                if tag > CEILING {
+                    return Err(9);
+                }
+                tags[kind] = Some(tag);
+                lane.next[kind] = tag + spacing;
+            }
+        }
+        lane.queue.push_back(Request {
+            turn: self.turn,
+            id,
+            tags,
+        });
+        self.turn += 1;
+        Ok(())
+    }
+
+    fn adjust(&mut self, t: i128) -> Result<(), u8> {
+        let all = self.lanes.iter().flat_map(|lane| &lane.queue);
+        let by = t - all.filter_map(|q| q.tags[S]).min().unwrap();
+        for lane in self.lanes.iter_mut().filter(|lane| !lane.queue.is_empty()) {
+            lane.next[S] += by;
+            for q in &mut lane.queue {
+                q.tags[S] = q.tags[S].map(|tag| tag + by);
+                if q.tags[S] > Some(CEILING) {
+                    return Err(9);
+                }
+            }
+        }
+        Ok(())
+    }
+
+    fn complete(&mut self, guest: u64, id: u64, t: i128) -> Result<(), u8> {
+        self.known(guest)?;
+        self.clock(t)?;
+        let before = self.flight.len();
+        self.flight.retain(|f| *f != (guest, id));
+        if self.flight.len() == before {
+            Err(10)
+        } else {
+            Ok(())
+        }
+    }
+
+    /// The first of all requests by (tag, turn) in a phase, looking at the
+    /// whole queue of every guest.
+    fn first(&self, kind: usize, may: impl Fn(&Request) -> bool) -> Option<(i128, u64, usize)> {
+        let mut best = None;
+        for (number, lane) in self.lanes.iter().enumerate() {
+            for q in lane.queue.iter().filter(|q| may(q)) {
+                if let Some(tag) = q.tags[kind] {
+                    let key = (tag, q.turn, number);
+                    if best.is_none() || Some(key) < best {
+                        best = Some(key);
+                    }
+                }
+            }
+        }
+        best
+    }
+
+    fn choose(&mut self) -> Answer {
+        let t = self.time;
+        if self.flight.len() >= self.depth {
+            return Answer::Nothing;
+        }
+        if let Some((_, turn, number)) = self.first(R, |q| q.tags[R].is_some_and(|tag| tag <= t)) {
+            let id = self.send(number, turn);
+            return reservation(number as u64, id);
+        }
+        let in_limit = |q: &Request| q.tags[L].is_none_or(|tag| tag <= t);
+        if let Some((_, turn, number)) = self.first(S, in_limit) {
+            let id = self.send(number, turn);
+            let lane = &mut self.lanes[number];
+            if let Some(spacing) = lane.spacing[R] {
+                lane.next[R] -= spacing;
+                for q in &mut lane.queue {
+                    q.tags[R] = q.tags[R].map(|tag| tag - spacing);
+                }
+            }
+            return weight(number as u64, id);
+        }
+        Answer::Nothing
+    }
+
+    fn send(&mut self, number: usize, turn: u64) -> u64 {
+        let queue = &mut self.lanes[number].queue;
+        let place = queue.iter().position(|q| q.turn == turn).unwrap();
+        let id = queue.remove(place).unwrap().id;
+        self.flight.push((number as u64, id));
+        id
+    }
+}
+
+fn any_call(rng: &mut Prng, state: &State) -> Call {
+    let last = state.time;
+    let time = match rng.below(12) {
+        0..=5 => last,
+        6 if !state.waiting.is_empty() => {
+            let w = rng.pick(&state.waiting);
+            rng.pick(&[w.rtag, w.ltag, w.stag]).max(last)
+        }
+        7 => last.saturating_sub(1),
+        8 => rng.sized(64),
+        _ => last + rng.sized(33),
+    };
+    let guest = rng.below(state.guests.len() as u64 + 1);
+    match rng.below(10) {
+        0..=4 => Call::Arrive(guest, rng.sized(9) as u32, time),
+        5..=7 if !state.flight.is_empty() => {
+            let f = rng.pick(&state.flight);
+            Call::Complete(f.guest, f.id as u32, time)
+        }
+        8 => Call::Complete(guest, rng.sized(3) as u32, time),
+        _ => Call::Tick(time),
+    }
+}
+
+#[test]
+fn the_gate_and_its_mirror_agree() {
+    let mut rng = Prng::new(41);
+    for _ in 0..800 {
+        let tables = sound_tables(&mut rng);
+        let mut state = read(&tables.view());
+        let mut mirror = Mirror::of(&state);
+        for _ in 0..80 {
+            let c = any_call(&mut rng, &state);
+            let answer = match c {
+                Call::Arrive(guest, id, t) => state.arrive(guest, id, t),
+                Call::Complete(guest, id, t) => state.complete(guest, id, t),
+                Call::Tick(t) => state.tick(t),
+            };
+            assert_eq!(answer, mirror.play(c), "{c:?}");
+            assert!(mirror.shows(&state), "{c:?} {answer:?}");
+        }
+    }
+}

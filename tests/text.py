@@ -1,0 +1,183 @@
+#!/usr/bin/env python3
+"""Tests samples/sgqtext.py: from bytes to text and back over random traces, refusals with the line's number, times, and
+the command itself. Ends with 'N passed, M failed'."""
+import concurrent.futures
+import re
+import subprocess
+import sys
+
+from kit import CORES, ROOT, SECOND, build_second, random_trace, run_tests, sgqtext
+
+KINDS = ["small", "ceiling", "jumps", "header", "cut", "garbage"]
+SEEDS = 60
+HEAD = "depth 4\ncapacity 8\nguest 0 reservation 1 limit 2 shares 3\n"
+HEAD_BYTES = bytes.fromhex("53475101000401080001000000 0200000003000000")
+
+# A bad text, the line that is wrong, and words of what is said.
+REFUSED = [
+    ("", 1, "the header has no line 'depth DEPTH'"),
+    ("\n\n# nothing\n", 3, "the header has no line 'depth DEPTH'"),
+    ("depth 4\n", 1, "the header has no line 'capacity CAPACITY'"),
+    ("depth 4\ncapacity 8\ntick at 0\n", 3, "the header has no line 'guest"),
+    ("capacity 8\ntick at 0\n", 2, "the header has no line 'depth DEPTH'"),
+    ("depth 4\nraw 00\n", 2, "the header has no line 'capacity CAPACITY'"),
+    ("depth 0\n", 1, "depth 0 is not from 1 to 64"),
+    ("depth 65\n", 1, "depth 65 is not from 1 to 64"),
+    ("depth 4\ncapacity 1025\n", 2, "capacity 1025 is not from 1 to 1024"),
+    ("depth 4\n\ndepth 4\n", 3, "a second line 'depth'"),
+    ("depth\n", 1, "not of the form 'depth DEPTH'"),
+    ("depth 4 5\n", 1, "not of the form 'depth DEPTH'"),
+    ("depth -4\n", 1, "depth '-4' is not a whole number"),
+    ("depth 4.0\n", 1, "depth '4.0' is not a whole number"),
+    ("depth \u0664\n", 1, "is not a whole number"),
+    ("Depth 4\n", 1, "no line begins with 'Depth'"),
+    ("guest 1 reservation 0 limit 0 shares 1\n", 1, "guest 1 stands where guest 0 is expected"),
+    ("guest 0 reservation 0 limit 0 shares 0\n", 1, "shares 0 is not from 1 to 1000000"),
+    ("guest 0 reservation 0 limit 0 shares 1000001\n", 1, "shares 1000001"),
+    ("guest 0 reservation 1000001 limit 0 shares 1\n", 1, "reservation 1000001"),
+    ("guest 0 reservation 0 limit 1000001 shares 1\n", 1, "limit 1000001"),
+    ("guest 0 reservation 4 limit 3 shares 1\n", 1, "reservation 4 is above limit 3"),
+    ("guest 0 limit 3 reservation 3 shares 1\n", 1, "not of the form 'guest NUMBER"),
+    ("".join(f"guest {g} reservation 0 limit 0 shares 1\n" for g in range(65)), 65, "number 64 is not from 0 to 63"),
+    (HEAD + "tick at 0\ndepth 4\n", 5, "'depth' belongs to the header"),
+    (HEAD + "raw 00\nguest 1 reservation 0 limit 0 shares 1\n", 5, "'guest' belongs to the header"),
+    (HEAD + "arrival 0 1\n", 4, "not of the form 'arrival GUEST ID at TIME'"),
+    (HEAD + "arrival 0 1 in 5ms\n", 4, "not of the form 'arrival GUEST ID at TIME'"),
+    (HEAD + "arrival 256 1 at 0\n", 4, "guest 256 is not from 0 to 255"),
+    (HEAD + "completion 0 4294967296 at 0\n", 4, "id 4294967296 is not from 0 to 4294967295"),
+    (HEAD + "tick 0 0 at 5ms\n", 4, "not of the form 'tick at TIME'"),
+    (HEAD + "tick at 18446744073709551616\n", 4, "time 18446744073709551616 is not from 0"),
+    (HEAD + "tick at 18446744074s\n", 4, "time 18446744074s is not from 0"),
+    (HEAD + "tick at 5min\n", 4, "time '5min' is not a number"),
+    (HEAD + "tick at 5 ms\n", 4, "not of the form 'tick at TIME'"),
+    (HEAD + "tick at -5ms\n", 4, "time '-5ms' is not a number"),
+    (HEAD + "tick at .5ms\n", 4, "time '.5ms' is not a number"),
+    (HEAD + "tick at 0.5\n", 4, "time 0.5 is not a whole number of nanoseconds"),
+    (HEAD + "tick at 0.0005us\n", 4, "is not a whole number of nanoseconds"),
+    (HEAD + f"tick at {'9' * 5000}\n", 4, "has more than 40 digits"),
+    (HEAD + "raw 0\n", 4, "two hexadecimal digits"),
+    (HEAD + "raw 0g\n", 4, "two hexadecimal digits"),
+    (HEAD + "raw 0x00\n", 4, "two hexadecimal digits"),
+    (HEAD + "wait 0 1 at 0\n", 4, "no line begins with 'wait'"),
+    (HEAD + "x" * 500 + "\n", 4, "no line begins with 'xxx"),
+]
+
+# A time as it may be written, its nanoseconds, and how it comes back.
+TIMES = [
+    ("0", 0, "0"),
+    ("0s", 0, "0"),
+    ("7", 7, "7ns"),
+    ("7ns", 7, "7ns"),
+    ("007us", 7000, "7us"),
+    ("4ms", 4_000_000, "4ms"),
+    ("4.5ms", 4_500_000, "4500us"),
+    ("1.000000001s", 1_000_000_001, "1000000001ns"),
+    ("7200.250s", 7_200_250_000_000, "7200250ms"),
+    ("21600s", 21_600_000_000_000, "21600s"),
+    ("0.001us", 1, "1ns"),
+    ("4611686018427387904", 2**62, "4611686018427387904ns"),
+    ("18446744073709551615ns", 2**64 - 1, "18446744073709551615ns"),
+]
+
+# Words, input, status, output, and words of what is said.
+COMMANDS = [
+    ([], b"", 2, b"", "say 'bytes', 'text' or 'text --raw'"),
+    (["byte"], b"", 2, b"", "say 'bytes', 'text' or 'text --raw'"),
+    (["bytes"], HEAD.encode(), 0, HEAD_BYTES, ""),
+    (["bytes"], HEAD.replace("\n", "\r\n").encode(), 0, HEAD_BYTES, ""),
+    (["bytes"], b"\xef\xbb\xbf" + HEAD.encode(), 0, HEAD_BYTES, ""),
+    (["bytes"], b"raw 01 02\nraw\nraw a0FF\n", 0, b"\x01\x02\xa0\xff", ""),
+    (["bytes"], HEAD.encode() + b"tick at now\n", 1, b"", "line 4: time 'now'"),
+    (["bytes"], b"depth 4\n\xff\n", 1, b"", "line 2: this is not text"),
+    (["text"], HEAD_BYTES, 0, HEAD.encode(), ""),
+    (["text"], HEAD_BYTES[:8], 1, b"", "the header is cut short: 8 bytes of 9 (13)"),
+    (["text"], HEAD_BYTES + b"\x02", 1, b"", "event 1: cut short, 1 bytes of 14 (15)"),
+    (["text", "--raw"], HEAD_BYTES + b"\x02", 0, HEAD.encode() + b"raw 02  # 1: cut short, 1 bytes of 14 (15)\n", ""),
+    (["text", "--raw"], b"", 0, b"raw\n", ""),
+]
+
+
+def refusal(work):
+    """What the tool says against a work, or None where it is content."""
+    try:
+        work()
+    except sgqtext.Bad as why:
+        return str(why)
+    return None
+
+
+def program_refusal(trace):
+    """The number for which the second program calls a trace ill-formed, or None."""
+    printed = subprocess.run([SECOND], input=trace, stdout=subprocess.PIPE, check=True).stdout
+    found = re.match(rb"trace refused (\d+)\n", printed) or re.search(rb"^\d+ X (14|15)$", printed, re.MULTILINE)
+    return int(found.group(1)) if found else None
+
+
+def round_trip(kind, seed):
+    """Any trace goes through raw text; one that the program finds well-formed goes through text without raw lines."""
+    name, trace = f"{kind} seed {seed}", random_trace(kind, seed)
+    if sgqtext.to_bytes(sgqtext.to_text(trace, raw=True)) != trace:
+        return name, "raw text does not give the bytes back", trace
+    why, number = refusal(lambda: sgqtext.to_text(trace)), program_refusal(trace)
+    if number is not None:
+        good = why is not None and why.endswith(f"({number})")
+        return name, None if good else f"the program says {number}, the tool: {why}", trace
+    if why is not None:
+        return name, f"the program finds nothing, the tool: {why}", trace
+    text = sgqtext.to_text(trace)
+    if "raw" in text or sgqtext.to_bytes(text) != trace:
+        return name, "text does not give the bytes back", trace
+    return name, None, trace
+
+
+def test_round_trips(tally):
+    cases = [(kind, seed) for kind in KINDS for seed in range(1, SEEDS + 1)] + [("large", 1), ("large", 2)]
+    print(f"round trips: {len(cases)}", flush=True)
+    with concurrent.futures.ThreadPoolExecutor(CORES) as pool:
+        for result in pool.map(lambda case: round_trip(*case), cases):
+            tally.add(*result)
+
+
+def test_files(tally):
+    """Every text of the repository goes to bytes, and those to a text of the same bytes."""
+    for path in sorted(ROOT.glob("samples/*.txt")) + sorted(ROOT.glob("tests/readings/*.txt")):
+        trace = sgqtext.to_bytes(path.read_text())
+        same = sgqtext.to_bytes(sgqtext.to_text(trace, raw=True)) == trace
+        tally.add(f"{path.name} and back", None if same else "the bytes are not the same")
+
+
+def test_refusals(tally):
+    for text, line, words in REFUSED:
+        why = refusal(lambda: sgqtext.to_bytes(text))
+        good = why is not None and why.startswith(f"line {line}: ") and words in why and len(why) < 250
+        tally.add(f"refusal of {text[-60:]!r}", None if good else f"said: {why}")
+
+
+def test_times(tally):
+    for word, nanoseconds, back in TIMES:
+        trace = sgqtext.to_bytes(HEAD + f"tick at {word}\n")
+        expected = HEAD_BYTES + b"\x02" + bytes(5) + nanoseconds.to_bytes(8, "little")
+        good = trace == expected and sgqtext.to_text(trace) == HEAD + f"tick at {back}  # 1\n"
+        tally.add(f"time {word}", None if good else f"became {sgqtext.to_text(trace)!r}")
+
+
+def test_commands(tally):
+    for words, given, status, output, said in COMMANDS:
+        tool = [sys.executable, ROOT / "samples" / "sgqtext.py", *words]
+        ended = subprocess.run(tool, input=given, capture_output=True)
+        heard = ended.stderr.decode()
+        good = (ended.returncode, ended.stdout) == (status, output) and said in heard
+        good = good and heard.count("\n") == (1 if status else 0)
+        tally.add(f"command {' '.join(words)} {given[-20:]!r}", None if good else f"it ended with {ended}")
+
+
+def tests(tally):
+    build_second()
+    test_round_trips(tally)
+    test_files(tally)
+    test_refusals(tally)
+    test_times(tally)
+    test_commands(tally)
+
+
+sys.exit(run_tests(tests))
