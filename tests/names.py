@@ -1,8 +1,9 @@
 #!/usr/bin/env python3
-"""Checks that every name which a table in docs/ gives with a file and a line stands there.
+"""Checks that every name which a page in docs/ gives with a file and a line stands there, and that every file it names exists.
 
 A place is written `name` file:line, as in: `chosen` crates/rules/proofs/Chosen.antt:12. With --mend the lines are
-corrected in place; a name that its file does not declare is always an error. Ends with 'N passed, M failed'.
+corrected in place; a name that its file does not declare, or a file that is not there, is always an error. Ends with
+'N passed, M failed'.
 """
 import pathlib
 import re
@@ -10,6 +11,7 @@ import sys
 
 ROOT = pathlib.Path(__file__).resolve().parent.parent
 PLACE = re.compile(r"`([^`\s]+)` ([\w./-]+\.(?:antt|rt|edit)):(\d+)")
+FILE = re.compile(r"(?<![\w/.])((?:crates|tests|docs|samples|second|tools|include|bindings|bench|examples)/[\w./-]+\.\w+)(?!:?[\w/])(?!:\d)")
 DECLARED = r"^\s*(?:(?:unfoldable|abbrev|pub|record|data|fn|struct|enum|extern|\"C\") )*{}(?=[\s:({{<,;])"
 
 
@@ -44,6 +46,12 @@ def main():
             return match.group(0) if found is None else f"`{name}` {file}:{found}"
 
         mended = PLACE.sub(judge, text)
+        for file in FILE.findall(PLACE.sub("", text)):
+            if (ROOT / file).exists():
+                passed += 1
+            else:
+                print(f"{doc.name}: there is no {file}")
+                failed += 1
         if mend and mended != text:
             doc.write_text(mended)
     print(f"{passed} passed, {failed} failed")
