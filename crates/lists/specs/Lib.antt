@@ -9,3 +9,4 @@ pub mod LinesLaws
 pub mod Rows
 pub mod RowsLaws
 pub mod FillLaws
+pub mod Sets

@@ -1,0 +1,153 @@
+// Answers to lines: the printed lines, written into a lent buffer from a place on.
+use rules::Answer;
+use rules::Phase;
+use rules::Refusal;
+ghost use mathlib.Core.Path.{_≡_};
+ghost use mathlib.Core.List.{[], _∷_};
+ghost use Prim.Native.Nat.{_+_, _≤_, _<_};
+ghost use lib.ListN.{length};
+ghost use Rattle.rules.specs.Answers.{numberOf, letterOf};
+ghost use Rattle.lines.specs.Put.{Put};
+ghost use Rattle.lines.specs.Line.{decimalOf, spaced, answerOf, lineOf, refusalLine, titleLine, LINE};
+
+// The letter of a phase.
+fn letter(phase: Phase) -> u8
+    ensures { λ r. ⌜ r ≡ letterOf phase ⌝ }
+{
+    match phase {
+        Phase::Reservation => b'R',
+        Phase::Weight => b'W',
+    }
+}
+
+// The number of a refusal.
+pub fn number(refusal: Refusal) -> u64
+    ensures { λ r. ⌜ r ≡ numberOf refusal ⌝ }
+{
+    match refusal {
+        Refusal::BadSetting => 1,
+        Refusal::ShortTable => 2,
+        Refusal::Unsound => 3,
+        Refusal::UnknownGuest => 4,
+        Refusal::TimeAboveCeiling => 5,
+        Refusal::TimeBeforeLast => 6,
+        Refusal::IdInUse => 7,
+        Refusal::NoRoom => 8,
+        Refusal::TagAboveCeiling => 9,
+        Refusal::NotInFlight => 10,
+        Refusal::BadMark => 11,
+        Refusal::BadVersion => 12,
+        Refusal::HeaderCut => 13,
+        Refusal::BadEvent => 14,
+        Refusal::EventCut => 15,
+    }
+}
+
+// The bytes of src; answers the place after them, as every function here does.
+fn put_all(out: &mut [u8], at: usize, src: &[u8]) -> usize
+    requires { ⌜ at + length (now src) ≤ length (now out) ⌝ }
+    ensures { λ r. ⌜ Put at (now (src .entry)) (now (out .entry)) r (now (out .exit)) ⌝ }
+{
+    let mut i: usize = 0;
+    while i < src.len() {
+        out[at + i] = src[i];
+        i += 1;
+    }
+    at + i
+}
+
+// One byte.
+fn put(out: &mut [u8], at: usize, b: u8) -> usize
+    requires { ⌜ at < length (now out) ⌝ }
+    ensures { λ r. ⌜ Put at (b ∷ []) (now (out .entry)) r (now (out .exit)) ⌝ }
+{
+    out[at] = b;
+    at + 1
+}
+
+// A number, decimal, without leading zeros.
+fn put_number(out: &mut [u8], at: usize, n: u64) -> usize
+    requires { ⌜ at + 20 ≤ length (now out) ⌝ }
+    ensures { λ r. ⌜ Put at (decimalOf n) (now (out .entry)) r (now (out .exit)) ⌝ }
+    ensures { λ r. ⌜ r ≤ at + 20 ⌝ }
+{
+    let mut text = [0u8; 20];
+    let k = io::decimal(n, &mut text);
+    put_all(out, at, &text[..k])
+}
+
+// A number after a space.
+fn put_value(out: &mut [u8], at: usize, n: u64) -> usize
+    requires { ⌜ at + 21 ≤ length (now out) ⌝ }
+    ensures { λ r. ⌜ Put at (spaced (n ∷ [])) (now (out .entry)) r (now (out .exit)) ⌝ }
+    ensures { λ r. ⌜ r ≤ at + 21 ⌝ }
+{
+    let a = put(out, at, b' ');
+    put_number(out, a, n)
+}
+
+// A request that was sent: the letter of its phase, its guest and its id.
+fn put_sent(out: &mut [u8], at: usize, first: u8, guest: u64, id: u64) -> usize
+    requires { ⌜ at + 43 ≤ length (now out) ⌝ }
+    ensures { λ r. ⌜ Put at (first ∷ spaced (guest ∷ id ∷ [])) (now (out .entry)) r (now (out .exit)) ⌝ }
+    ensures { λ r. ⌜ r ≤ at + 43 ⌝ }
+{
+    let a = put(out, at, first);
+    let b = put_value(out, a, guest);
+    put_value(out, b, id)
+}
+
+// A refusal.
+fn put_refused(out: &mut [u8], at: usize, refusal: Refusal) -> usize
+    requires { ⌜ at + 22 ≤ length (now out) ⌝ }
+    ensures { λ r. ⌜ Put at (88 ∷ spaced (numberOf refusal ∷ [])) (now (out .entry)) r (now (out .exit)) ⌝ }
+    ensures { λ r. ⌜ r ≤ at + 22 ⌝ }
+{
+    let a = put(out, at, b'X');
+    put_value(out, a, number(refusal))
+}
+
+// An answer.
+fn put_answer(out: &mut [u8], at: usize, answer: Answer) -> usize
+    requires { ⌜ at + 43 ≤ length (now out) ⌝ }
+    ensures { λ r. ⌜ Put at (answerOf answer) (now (out .entry)) r (now (out .exit)) ⌝ }
+    ensures { λ r. ⌜ r ≤ at + 43 ⌝ }
+{
+    match answer {
+        Answer::Nothing => put(out, at, b'-'),
+        Answer::Sent { phase, guest, id } => put_sent(out, at, letter(phase), guest, id as u64),
+        Answer::Refused(refusal) => put_refused(out, at, refusal),
+    }
+}
+
+// The line of one event.
+pub fn put_line(out: &mut [u8], at: usize, number: u64, answer: Answer) -> usize
+    requires { ⌜ at + LINE ≤ length (now out) ⌝ }
+    ensures { λ r. ⌜ Put at (lineOf number answer) (now (out .entry)) r (now (out .exit)) ⌝ }
+    ensures { λ r. ⌜ r ≤ at + LINE ⌝ }
+{
+    let a = put_number(out, at, number);
+    let b = put(out, a, b' ');
+    let c = put_answer(out, b, answer);
+    put(out, c, b'\n')
+}
+
+// The one line of a bad header.
+pub fn put_refusal(out: &mut [u8], at: usize, refusal: Refusal) -> usize
+    requires { ⌜ at + LINE ≤ length (now out) ⌝ }
+    ensures { λ r. ⌜ Put at (refusalLine refusal) (now (out .entry)) r (now (out .exit)) ⌝ }
+    ensures { λ r. ⌜ r ≤ at + LINE ⌝ }
+{
+    let a = put_all(out, at, b"trace refused");
+    let b = put_value(out, a, number(refusal));
+    put(out, b, b'\n')
+}
+
+// The header line.
+pub fn put_title(out: &mut [u8], at: usize) -> usize
+    requires { ⌜ at + LINE ≤ length (now out) ⌝ }
+    ensures { λ r. ⌜ Put at titleLine (now (out .entry)) r (now (out .exit)) ⌝ }
+    ensures { λ r. ⌜ r ≤ at + LINE ⌝ }
+{
+    put_all(out, at, b"event answer\n")
+}

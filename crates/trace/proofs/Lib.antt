@@ -1,0 +1,9 @@
+pub mod HeaderLaws
+pub mod SettingsRows
+pub mod EventLaws
+pub mod RunLaws
+pub mod Runs
+pub mod Split
+pub mod FirstRead
+pub mod AnySplit
+pub mod Example

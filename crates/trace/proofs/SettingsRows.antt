@@ -1,0 +1,34 @@
+-- The numbers that `read_settings` writes are what the opening call takes: the rows of the settings that the header has. Assumes nothing.
+use Prim.Native.Nat.{ℕ, _+_, _*_, _≤_, _<_}
+use mathlib.Core.Path.{_≡_, ap, _∙_}
+use mathlib.Core.List.{List}
+use native.Mathlib.Omega.{arith}
+use lib.ListN.{length, getD}
+use lib.Seq.{sets}
+use Rattle.lists.specs.Tab.{tab, length-tab, getD-tab, tab-ext}
+use Rattle.lists.specs.Lines.{lineAt}
+use Rattle.lists.specs.Rows.{rowsOf}
+use Rattle.lists.specs.RowsLaws.{rows-tab}
+use Rattle.lists.specs.Sets.{getD-sets}
+use Rattle.table.specs.View.{settingsForm}
+use Rattle.trace.specs.Header.{numberAt, settingsAt}
+
+module _ (bs old : List ℕ) (n : ℕ) (room : n * 3 ≤ length old) where
+  abbrev written : List ℕ
+  written = sets old 0 (tab (n * 3) (numberAt bs))
+
+  at : (j : ℕ) → j < n * 3 → getD written j 0 ≡ numberAt bs j
+  at j h =
+      getD-sets old (tab (n * 3) (numberAt bs)) j 0 (omega (arith, length-tab (n * 3) (numberAt bs))) (omega (arith, length-tab (n * 3) (numberAt bs)))
+      ∙ getD-tab (n * 3) (numberAt bs) j 0 h
+
+  row : (k : ℕ) → k < n → settingsForm .read (lineAt 3 written k) ≡ settingsAt bs k
+  row k h =
+      let z : k * 3 + 0 ≡ k * 3 = omega arith in
+      let r : getD written (k * 3 + 0) 0 ≡ numberAt bs (k * 3) = ap (λ (i : ℕ). getD written i 0) z ∙ at (k * 3) (omega arith) in
+      ap (λ (v : ℕ). record { reservation = v; limit = getD written (k * 3 + 1) 0; shares = getD written (k * 3 + 2) 0 }) r
+      ∙ ap (λ (v : ℕ). record { reservation = numberAt bs (k * 3); limit = v; shares = getD written (k * 3 + 2) 0 }) (at (k * 3 + 1) (omega arith))
+      ∙ ap (λ (v : ℕ). record { reservation = numberAt bs (k * 3); limit = numberAt bs (k * 3 + 1); shares = v }) (at (k * 3 + 2) (omega arith))
+
+  pub settings-rows : rowsOf settingsForm written n ≡ tab n (settingsAt bs)
+  settings-rows = rows-tab settingsForm written n ∙ tab-ext n (λ k. settingsForm .read (lineAt 3 written k)) (settingsAt bs) row

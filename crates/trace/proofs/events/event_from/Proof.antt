@@ -1,0 +1,34 @@
+use borrow.Author.Tests.{eq-eqb, ne-eqb}
+use Rattle.trace.specs.Event.{eventFrom}
+use Rattle.trace.proofs.events.event_from.Statement.{statement}
+use Rattle.trace.proofs.events.event_from.Tie as tie
+
+returns : tie.Need-returns
+unfolding eventFrom
+returns c = simp (eq-eqb _ _ (c .if1 .taken))
+
+returns-2 : tie.Need-returns-2
+unfolding eventFrom
+returns-2 c = simp (ne-eqb _ _ (c .before .if1 .left), eq-eqb _ _ (c .if2 .taken))
+
+returns-3 : tie.Need-returns-3
+unfolding eventFrom
+returns-3 c =
+    simp (ne-eqb _ _ (c .before .before .before .before .if1 .left), ne-eqb _ _ (c .before .before .before .if2 .left), eq-eqb _ _ (c .before .before .if3 .taken), eq-eqb _ _ (c .before .if4 .taken), eq-eqb _ _ (c .if5 .taken))
+
+returns-4 : tie.Need-returns-4
+unfolding eventFrom
+returns-4 c =
+    simp (ne-eqb _ _ (c .before .before .before .before .if1 .left), ne-eqb _ _ (c .before .before .before .if2 .left), eq-eqb _ _ (c .before .before .if3 .taken), eq-eqb _ _ (c .before .if4 .taken), ne-eqb _ _ (c .if5 .left))
+
+returns-5 : tie.Need-returns-5
+unfolding eventFrom
+returns-5 c =
+    simp (ne-eqb _ _ (c .before .before .before .if1 .left), ne-eqb _ _ (c .before .before .if2 .left), eq-eqb _ _ (c .before .if3 .taken), ne-eqb _ _ (c .if4 .left))
+
+returns-6 : tie.Need-returns-6
+unfolding eventFrom
+returns-6 c = simp (ne-eqb _ _ (c .before .before .if1 .left), ne-eqb _ _ (c .before .if2 .left), ne-eqb _ _ (c .if3 .left))
+
+pub event-from-spec : {M : Type 1} → statement M
+event-from-spec = tie.close (tie.spec returns returns-2 returns-3 returns-4 returns-5 returns-6)

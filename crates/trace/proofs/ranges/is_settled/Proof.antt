@@ -1,0 +1,35 @@
+use mathlib.Core.Path.{sym, _∙_}
+use borrow.Author.Tests.{not-true, not-false, le-leb, lt-leb, lt-ltb, le-ltb}
+use Rattle.rules.specs.Sound.{settled}
+use borrow.Author.Needs.{needs}
+use Rattle.trace.proofs.ranges.is_settled.Statement.{statement}
+use Rattle.trace.proofs.ranges.is_settled.Tie as tie
+
+returns : tie.Need-returns
+unfolding settled
+returns c = simp (lt-leb _ _ (c .if1 .taken))
+
+returns-2 : tie.Need-returns-2
+unfolding settled
+returns-2 c = simp (le-leb _ _ (c .before .if1 .left), lt-leb _ _ (c .if2 .taken))
+
+within-requires : tie.Need-within-requires
+within-requires c κs = search needs
+
+returns-3 : tie.Need-returns-3
+unfolding settled
+returns-3 c = simp (le-leb _ _ (c .before .before .before .if1 .left), le-leb _ _ (c .before .before .if2 .left), sym (c .before .within .ensures) ∙ not-true _ (c .if3 .taken))
+
+returns-4 : tie.Need-returns-4
+unfolding settled
+returns-4 c =
+    simp (le-leb _ _ (c .before .before .before .before .if1 .left), le-leb _ _ (c .before .before .before .if2 .left), sym (c .before .before .within .ensures) ∙ not-false _ (c .before .if3 .left), lt-ltb _ _ (c .if4 .taken))
+
+returns-5 : tie.Need-returns-5
+unfolding settled
+returns-5 c =
+    simp (le-leb _ _ (c .before .before .before .before .if1 .left), le-leb _ _ (c .before .before .before .if2 .left), sym (c .before .before .within .ensures) ∙ not-false _ (c .before .if3 .left), le-ltb _ _ (c .if4 .left))
+
+pub is-settled-spec : {M : Type 1} → statement M
+is-settled-spec =
+    tie.close (tie.spec returns returns-2 within-requires returns-3 returns-4 returns-5)

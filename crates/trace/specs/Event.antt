@@ -1,0 +1,41 @@
+-- Document 01, "The trace": "Per event 14 bytes: kind (0 arrival, 1 completion, 2 tick), guest (8 bits), id (32), time (64)." Refusal 14:
+-- "event kind above 2, or a tick with non-zero guest or id".
+use Prim.Native.Nat.{ℕ, zero, suc, _/_}
+use mathlib.Core.Bool.{_&&_}
+use mathlib.Core.List.{List, [], _∷_}
+use lib.Dec.{eqb}
+use lib.ListN.{length, drop}
+use Rattle.lists.specs.Words.{if_then_else_}
+use Rattle.rules.specs.Answers.{numberOf}
+use Rattle.rules.specs.declared.Refusal.the-variants.{BadEvent}
+use Rattle.trace.specs.Little.{byteAt, fourAt, eightAt}
+use Rattle.trace.specs.declared.Read.{Read}
+use Rattle.trace.specs.declared.Read.the-variants.{Arrival, Completion, Tick, Bad}
+
+-- the paper's number and values of an event: its kind, guest, id and time as they stand in the bytes, or 14 where it is bad
+abbrev pub readShown : Read → List ℕ
+readShown (Arrival guest id time) = 0 ∷ guest ∷ id ∷ time ∷ []
+readShown (Completion guest id time) = 1 ∷ guest ∷ id ∷ time ∷ []
+readShown (Tick time) = 2 ∷ 0 ∷ 0 ∷ time ∷ []
+readShown Bad = numberOf BadEvent ∷ []
+
+-- an event of this kind, guest, id and time
+unfoldable pub eventFrom : (kind guest id time : ℕ) → Read
+eventFrom kind guest id time =
+    if eqb kind 0 then Arrival guest id time
+    else if eqb kind 1 then Completion guest id time
+    else if eqb kind 2 && eqb guest 0 && eqb id 0 then Tick time
+    else Bad
+
+-- the event that stands at the front of the bytes
+unfoldable pub eventOf : List ℕ → Read
+eventOf bs = eventFrom (byteAt bs 0) (byteAt bs 1) (fourAt bs 2) (eightAt bs 6)
+
+-- the first k events of the bytes
+unfoldable pub eventsOf : ℕ → List ℕ → List Read
+eventsOf zero bs = []
+eventsOf (suc k) bs = eventOf bs ∷ eventsOf k (drop 14 bs)
+
+-- how many whole events the bytes have
+abbrev pub whole : List ℕ → ℕ
+whole bs = length bs / 14

@@ -1,0 +1,5 @@
+pub mod Little
+pub mod Header
+pub mod Event
+pub mod Printed
+pub mod Reads

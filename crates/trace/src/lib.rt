@@ -1,0 +1,25 @@
+// The trace of document 01 as bytes: its header and its events, read from slices. What is printed of it is in specs/Printed.antt.
+use rules::Refusal;
+
+pub mod little; // numbers from bytes
+pub mod ranges; // counts and settings within their ranges
+pub mod opening; // the header
+pub mod events; // one event
+
+// What the header of a trace opens, or why it is refused.
+pub enum Header {
+    Opened {
+        depth: u64,
+        guests: u64,
+        capacity: u64,
+    },
+    Refused(Refusal),
+}
+
+// One event as its 14 bytes have it. Bad is refusal 14.
+pub enum Read {
+    Arrival { guest: u64, id: u32, time: u64 },
+    Completion { guest: u64, id: u32, time: u64 },
+    Tick { time: u64 },
+    Bad,
+}

@@ -1,0 +1,49 @@
+// Whether counts and settings lie in their ranges, on plain numbers.
+ghost use mathlib.Core.Path.{_≡_};
+ghost use Rattle.rules.specs.Numbers.{within as withinOf};
+ghost use Rattle.rules.specs.Sound.{counted, settled};
+
+const MOST: u64 = 1000000;
+
+// From low to high, both counted.
+fn within(low: u64, high: u64, n: u64) -> bool
+    ensures { λ b. ⌜ b ≡ withinOf low high n ⌝ }
+{
+    if n < low {
+        return false;
+    }
+    n <= high
+}
+
+// Depth, guests and capacity.
+pub fn is_counted(depth: u64, guests: u64, capacity: u64) -> bool
+    ensures { λ b. ⌜ b ≡ counted depth guests capacity ⌝ }
+{
+    if !within(1, 64, depth) {
+        return false;
+    }
+    if !within(1, 64, guests) {
+        return false;
+    }
+    within(1, 1024, capacity)
+}
+
+// One guest's settings. A reservation above a non-zero limit is bad; equal is good.
+pub fn is_settled(reservation: u64, limit: u64, shares: u64) -> bool
+    ensures { λ b. ⌜ b ≡ settled (record { reservation = reservation; limit = limit; shares = shares }) ⌝ }
+{
+    if MOST < reservation {
+        return false;
+    }
+    if MOST < limit {
+        return false;
+    }
+    if !within(1, MOST, shares) {
+        return false;
+    }
+    if 0 < limit {
+        reservation <= limit
+    } else {
+        true
+    }
+}
