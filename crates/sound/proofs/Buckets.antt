@@ -1,6 +1,6 @@
 -- Earlier requests of one bucket, linked from the latest to the first: what the two arrays hold, and what a walk along a chain has passed.
 -- Assumes nothing.
-use Prim.Native.Nat.{ℕ, zero, suc, _+_, _*_, _%_, _≤_, _<_}
+use Prim.Native.Nat.{ℕ, zero, suc, _+_, _≤_, _<_}
 use mathlib.Core.Path.{_≡_, refl, sym, ap, _∙_}
 use mathlib.Core.Bool.{Bool, true, false, true≢false}
 use mathlib.Core.List.{List}
@@ -21,6 +21,7 @@ unfoldable pub lastBefore : (ℕ → ℕ) → ℕ → ℕ → ℕ
 lastBefore at b zero = zero
 lastBefore at b (suc i) = whether (eqb (at i) b) (suc i) (lastBefore at b i)
 
+-- two numbers are equal or not: to go by cases
 eq-or-not : (a b : ℕ) → (a ≡ b) ⊎ (a ≡ b → ⊥)
 eq-or-not a b = go (eqb a b) refl
   where
@@ -28,21 +29,26 @@ eq-or-not a b = go (eqb a b) refl
     go true e = inl (eqb-true a b e)
     go false e = inr (λ h. true≢false (sym (eq-eqb a b h) ∙ e))
 
+-- of two different numbers one is below the other
 other : (k j : ℕ) → (k ≡ j → ⊥) → (k < j) ⊎ (j < k)
 other k j z = ⊎-elim (λ h. inl h) (λ h. ⊎-elim (λ e. absurd (z (sym e))) (λ m. inr m) (eq-or-lt-of-le h)) (lt-or-le k j)
 
+-- 0 is no successor
 zero-not : (k : ℕ) → 0 ≡ suc k → ⊥
 zero-not k e = omega arith
 
 module _ (at : ℕ → ℕ) (b : ℕ) where
+  -- place i is of the bucket
   last-here : (i : ℕ) → at i ≡ b → lastBefore at b (suc i) ≡ suc i
   unfolding lastBefore
   last-here i e = rw (eq-eqb (at i) b e)
 
+  -- place i is not
   last-other : (i : ℕ) → (at i ≡ b → ⊥) → lastBefore at b (suc i) ≡ lastBefore at b i
   unfolding lastBefore
   last-other i h = rw (ne-eqb (at i) b h)
 
+  -- it lies before i
   pub last-le : (i : ℕ) → lastBefore at b i ≤ i
   unfolding lastBefore
   last-le zero = omega arith
@@ -73,15 +79,16 @@ module _ (at : ℕ → ℕ) (b : ℕ) where
       (eq-or-not (at i) b)
 
 -- what the arrays hold before place i
-pub record Chains (at : ℕ → ℕ) (heads links : List ℕ) (i : ℕ) : Type 0 where
+pub record Linked (at : ℕ → ℕ) (heads links : List ℕ) (i : ℕ) : Type 0 where
   pub heads-long : length heads ≡ 4096
   pub links-long : length links ≡ 1088
   pub head : (b : ℕ) → b < 4096 → getD heads b 0 ≡ lastBefore at b i
   pub link : (k : ℕ) → k < i → getD links k 0 ≡ lastBefore at (at k) k
 
-pub chains-none : (at : ℕ → ℕ) → Chains at (replicate 4096 0) (replicate 1088 0) 0
+-- before the first place they hold zeros
+pub linked-start : (at : ℕ → ℕ) → Linked at (replicate 4096 0) (replicate 1088 0) 0
 unfolding lastBefore
-chains-none at =
+linked-start at =
     record {
       heads-long = length-replicate {A = ℕ} 4096 0;
       links-long = length-replicate {A = ℕ} 1088 0;
@@ -90,8 +97,8 @@ chains-none at =
     }
 
 -- place i joins the chain of its bucket
-pub chains-next : (at : ℕ → ℕ) (heads links : List ℕ) (i b v u : ℕ) → Chains at heads links i → i < 1088 → b < 4096 → b ≡ at i → v ≡ getD heads b 0 → u ≡ i + 1 → Chains at (set heads b u) (set links i v) (i + 1)
-chains-next at heads links i b v u s l m e f g =
+pub linked-next : (at : ℕ → ℕ) (heads links : List ℕ) (i b v u : ℕ) → Linked at heads links i → i < 1088 → b < 4096 → b ≡ at i → v ≡ getD heads b 0 → u ≡ i + 1 → Linked at (set heads b u) (set links i v) (i + 1)
+linked-next at heads links i b v u s l m e f g =
     record {
       heads-long = length-set heads b u ∙ s .heads-long;
       links-long = length-set links i v ∙ s .links-long;
@@ -109,6 +116,7 @@ chains-next at heads links i b v u s l m e f g =
 
 -- A WALK along the chain of place i: `next` is 1 + the place to look at, or 0
 module _ (guest id : ℕ → ℕ) where
+  -- the bucket of place k
   abbrev pub bucketAt : ℕ → ℕ
   bucketAt k = bucketOf (guest k) (id k)
 
@@ -122,9 +130,11 @@ module _ (guest id : ℕ → ℕ) where
     pub here : (k : ℕ) → next ≡ suc k → bucketAt k ≡ bucketAt i
     pub differ : (k : ℕ) → next ≤ k → k < i → guest k ≡ guest i → id k ≡ id i → ⊥
 
+  -- one name has one bucket
   same-bucket : (k i : ℕ) → guest k ≡ guest i → id k ≡ id i → bucketAt k ≡ bucketAt i
   same-bucket k i e f = rw (e, f)
 
+  -- it starts at the latest place of the bucket
   pub passed-start : (i next : ℕ) → next ≡ lastBefore bucketAt (bucketAt i) i → Passed i next
   passed-start i next e =
       record {
@@ -133,6 +143,7 @@ module _ (guest id : ℕ → ℕ) where
         differ = λ k h l g d. last-none bucketAt (bucketAt i) i k (omega arith) l (same-bucket k i g d);
       }
 
+  -- a place of another name is passed
   pub passed-next : (i next j more : ℕ) → Passed i next → next ≡ suc j → (guest j ≡ guest i → id j ≡ id i → ⊥) → more ≡ lastBefore bucketAt (bucketAt j) j → Passed i more
   passed-next i next j more s q apart e =
       let le = last-le bucketAt (bucketAt j) j in
@@ -151,6 +162,7 @@ module _ (guest id : ℕ → ℕ) where
             (eq-or-not k j);
       }
 
+  -- at its end no place before i has the name of i
   pub passed-end : (i next : ℕ) → Passed i next → next ≤ 0 → Apart i → Apart (i + 1)
   passed-end i next s e d a k l m g q =
       ⊎-elim

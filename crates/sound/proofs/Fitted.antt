@@ -13,6 +13,7 @@ use Rattle.rules.specs.declared.Gate.{Gate}
 use Rattle.table.specs.View.{countable, short}
 use Rattle.sound.specs.Fitting.{Counts, Fitting}
 
+-- the two bounds of a range
 within-is : (a b n : ℕ) → within a b n ≡ true → (a ≤ n) × (n ≤ b)
 within-is a b n h = let p = both (leb a n) (leb n b) h in (leb-true a n (p .0), leb-true n b (p .1))
 
@@ -31,6 +32,7 @@ is-counted gate c =
     let within-of : (a b n : ℕ) → (a ≤ n) × (n ≤ b) → within a b n ≡ true = λ a b n h. join (le-leb a n (h .0)) (le-leb n b (h .1)) in
     join (join (within-of 1 64 (gate .depth) (c .depth)) (within-of 1 64 (gate .guests) (c .guests))) (within-of 1 1024 (gate .capacity) (c .capacity))
 
+-- neither of two tests holds
 none : (a b : Bool) → a || b ≡ false → (a ≡ false) × (b ≡ false)
 none true b h = absurd (true≢false h)
 none false b h = (refl, h)

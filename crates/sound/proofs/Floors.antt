@@ -1,24 +1,24 @@
 -- The walks of all guests at once: a list of gaps and a list of floors, one number a guest, and the requests from the first to the last.
 -- Assumes nothing.
-use Prim.Native.Nat.{ℕ, zero, suc, _+_, _≤_, _<_}
-use mathlib.Core.Path.{_≡_, refl, sym, ap, _∙_, subst}
+use Prim.Native.Nat.{ℕ, suc, _+_, _≤_, _<_}
+use mathlib.Core.Path.{_≡_, refl, sym, ap, _∙_}
 use mathlib.Core.Bool.{Bool, true, false, _&&_}
-use mathlib.Core.List.{List, [], _∷_}
+use mathlib.Core.List.{List, _∷_}
 use native.Mathlib.Omega.{arith}
 use native.Mathlib.Numerals.{add-one}
 use lib.Dec.{eqb}
 use lib.ListN.{length, getD, set, drop, replicate, length-set, length-replicate, getD-replicate, drop-of-length-le}
 use lib.Seq.{drop-cons, getD-set-same, getD-set-other}
 use borrow.Author.Tests.{eq-eqb, ne-eqb, eqb-true, eqb-false}
-use Rattle.lists.specs.Words.{if_then_else_}
 use Rattle.rules.specs.Tables.{Request, of, mine}
 use Rattle.sound.specs.Kinds.{passes, ends}
 use Rattle.sound.proofs.Chains.{run}
 
--- the request at place i stands first of what is left of its guest, and what is left of the others has not changed
+-- a request stands first of what waits of its guest
 mine-own : (g : ℕ) (q : Request) (w : List Request) → q .guest ≡ g → mine g (q ∷ w) ≡ q ∷ mine g w
 mine-own g q w e = rw (eq-eqb (q .guest) g e)
 
+-- and what waits of another guest does not change
 mine-other : (g : ℕ) (q : Request) (w : List Request) → (q .guest ≡ g → ⊥) → mine g (q ∷ w) ≡ mine g w
 mine-other g q w h = rw (ne-eqb (q .guest) g h)
 
@@ -36,6 +36,7 @@ module _ (tag : Request → ℕ) (w : List Request) (gaps : List ℕ) (next : �
     pub long : length floors ≡ 64
     pub still : (g : ℕ) → g < known → left floors i g ≡ whole g
 
+  -- before the first request they are zeros
   pub floors-start : known ≤ 64 → Floors (replicate 64 0) 0
   floors-start few =
       record {
@@ -50,6 +51,7 @@ module _ (tag : Request → ℕ) (w : List Request) (gaps : List ℕ) (next : �
     abbrev g₀ : ℕ
     g₀ = q .guest
 
+    -- the request's test is the first that its guest has left
     own : left floors i g₀ ≡ (passes (getD gaps g₀ 0) (getD floors g₀ 0) (tag q) && run tag (getD gaps g₀ 0) (tag q + getD gaps g₀ 0) (mine g₀ (drop (suc i) w)) (next g₀))
     unfolding run
     own =

@@ -1,8 +1,8 @@
 -- Soundness of lent numbers as facts, one for each test of the code: what `soundNumbers` says, and the way back. Assumes nothing.
-use Prim.Native.Nat.{ℕ, _*_, _≤_, _<_}
-use mathlib.Core.Path.{_≡_, refl, sym, ap, _∙_}
+use Prim.Native.Nat.{ℕ, _≤_}
+use mathlib.Core.Path.{_≡_, refl, sym, _∙_}
 use mathlib.Core.Bool.{Bool, true, false, _&&_, true≢false}
-use mathlib.Core.List.{List, [], _∷_, _++_, map}
+use mathlib.Core.List.{List, [], _∷_, map}
 use native.Mathlib.Omega.{arith}
 use lib.Dec.{ltb}
 use lib.ListN.{length}
@@ -10,10 +10,10 @@ use Rattle.lists.specs.Words.{all, below}
 use Rattle.lists.specs.WordsLaws.{both, join, all-append, all-parts, all-of-map, at-below, below-at}
 use Rattle.lists.specs.RowsLaws.{length-rows}
 use Rattle.rules.specs.Numbers.{ceiling}
-use Rattle.rules.specs.Tables.{Guest, Request, Flight, Table, name, names, owner, mine}
+use Rattle.rules.specs.Tables.{Flight, Table, name, names, owner, mine}
 use Rattle.rules.specs.Sound.{counted, ranges, lawful, distinct, orderly, sound}
 use Rattle.rules.specs.declared.Gate.{Gate}
-use Rattle.rules.proofs.Facts.{Sound, sound-is, is-sound}
+use Rattle.rules.proofs.Facts.{sound-is, is-sound}
 use Rattle.table.specs.View.{guestForm, requestForm, flightForm, guestsOf, waitingOf, flightsOf, tableOf, countable, identified, zeroed, soundNumbers}
 use Rattle.sound.specs.Tests.{settledGuest, named}
 use Rattle.sound.specs.Names.{namesOf}
@@ -44,6 +44,7 @@ named-is n (f ∷ l) p q =
     let b = both (ltb (f .id) 4294967296) (all (λ f. ltb (f .id) 4294967296) l) q in
     join (join (a .0) (b .0)) (named-is n l (a .1) (b .1))
 
+-- and the two apart
 named-parts : (n : ℕ) (l : List Flight) → all (named n) l ≡ true → (all (λ f. ltb (f .guest) n) l ≡ true) × (all (λ f. ltb (f .id) 4294967296) l ≡ true)
 named-parts n [] h = (refl, refl)
 named-parts n (f ∷ l) h =
@@ -56,6 +57,7 @@ module _ (gate : Gate) (gs ws fs : List ℕ) where
   abbrev t : Table
   t = tableOf gate gs ws fs
 
+  -- as many guests as the gate says
   size : length (guestsOf gs (gate .guests)) ≡ gate .guests
   size = length-rows guestForm gs (gate .guests)
 

@@ -4,8 +4,8 @@ pub mod Places
 pub mod Buckets
 pub mod Chains
 pub mod Floors
-pub mod Gapped
-pub mod Rowed
+pub mod GapLaws
+pub mod RowFacts
 pub mod OneKind
 pub mod Judged
 pub mod Zeros

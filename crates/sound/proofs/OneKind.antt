@@ -9,7 +9,6 @@ use lib.ListN.{length, getD, set, replicate}
 use borrow.Author.Tests.{ltb-true}
 use Rattle.lists.specs.Words.{below}
 use Rattle.lists.specs.Walks.{below-ext, below-fails, below-three}
-use Rattle.lists.specs.Rows.{Form}
 use Rattle.lists.specs.RowsLaws.{row-at, length-rows}
 use Rattle.rules.specs.Numbers.{second, down, up}
 use Rattle.rules.specs.Tables.{Guest, Request, owner, mine}
@@ -19,8 +18,8 @@ use Rattle.table.specs.View.{guestForm, requestForm, guestsOf, waitingOf}
 use Rattle.sound.specs.Kinds.{passes, gapOf, Gaps, nextAt, endsAt, keptOf, keptAll, Tested}
 use Rattle.sound.proofs.Chains.{run, run-has, run-lacks}
 use Rattle.sound.proofs.Floors.{whole, Floors, floors-start, floors-fail, floors-next, floors-end}
-use Rattle.sound.proofs.Gapped.{down-some, up-some, gap-low}
-use Rattle.sound.proofs.Rowed.{Ranges, tagOf, tag-is, owner-is, in-range, guest-known}
+use Rattle.sound.proofs.GapLaws.{down-some, up-some, gap-low}
+use Rattle.sound.proofs.RowFacts.{tagOf, tag-is, owner-is, in-range, guest-known}
 
 -- the order of every guest is that of each kind
 pub orderly-kinds : (gs : List ℕ) (known : ℕ) (ws : List ℕ) (count : ℕ) → (below known (keptAll gs known ws count 0) && below known (keptAll gs known ws count 1) && below known (keptAll gs known ws count 2)) ≡ below known (λ g. orderly (owner (guestsOf gs known) g) (mine g (waitingOf ws count)))
@@ -36,6 +35,7 @@ has-is tag false d n l p z = rw (z refl) (sym (run-lacks tag (λ q. 0) (λ q. 0)
 abbrev pub Walked : (gs : List ℕ) (known : ℕ) (ws : List ℕ) (count kind : ℕ) (gaps floors : List ℕ) (i : ℕ) → Type 0
 Walked gs known ws count kind gaps floors i = Floors (tagOf kind) (waitingOf ws count) gaps (nextAt gs kind) known floors i
 
+-- before the first request
 pub walk-start : (gs : List ℕ) (known : ℕ) (ws : List ℕ) (count kind : ℕ) (gaps : List ℕ) → known ≤ 64 → Walked gs known ws count kind gaps (replicate 64 0) 0
 walk-start gs known ws count kind gaps few = floors-start (tagOf kind) (waitingOf ws count) gaps (nextAt gs kind) known few
 
@@ -61,6 +61,7 @@ module _ (gs : List ℕ) (known : ℕ) (ws : List ℕ) (count : ℕ) (t : Tested
   kept-is (suc (suc (suc n))) g k h l = absurd (omega arith)
 
   module _ (kind : ℕ) (three : kind < 3) (gaps : List ℕ) (spaced : Gaps gs known kind gaps) where
+    -- what the walk comes to is the order of the guest's kind
     whole-is : (g : ℕ) → g < known → whole (tagOf kind) (waitingOf ws count) gaps (nextAt gs kind) known g ≡ keptAll gs known ws count kind g
     whole-is g h =
         ap (λ (d : ℕ). run (tagOf kind) d 0 (mine g (waitingOf ws count)) (nextAt gs kind g)) (spaced .gap g h)
@@ -90,6 +91,7 @@ module _ (gs : List ℕ) (known : ℕ) (ws : List ℕ) (count : ℕ) (t : Tested
       abbrev x : ℕ
       x = getD ws (i * 5 + (2 + kind)) 0
 
+      -- the row is one of those that wait
       inside : i < length (waitingOf ws count)
       inside = omega (arith, length-rows requestForm ws count)
 

@@ -1,31 +1,33 @@
 -- `distinct` by places of both tables. Assumes nothing.
-use Prim.Native.Nat.{ℕ, zero, suc, _+_, _*_, _-_, _≤_, _<_}
+use Prim.Native.Nat.{ℕ, zero, suc, _+_, _-_, _≤_, _<_}
 use mathlib.Core.Path.{_≡_, refl, sym, ap, _∙_}
 use mathlib.Core.Bool.{Bool, true, false, not, _&&_, and-false}
-use mathlib.Core.List.{List, [], _∷_, _++_, map}
+use mathlib.Core.List.{List, [], _∷_, map}
 use mathlib.Core.Logic.{⊎-elim}
 use native.Mathlib.Omega.{arith}
-use lib.Dec.{eqb, ltb}
+use lib.Dec.{eqb}
 use lib.ListN.{length, getD, length-append, length-map, List·getD-append, List·getD-map}
 use lib.Seq.{getD-append-add}
 use borrow.Author.Tests.{eq-eqb, eqb-true, lt-ltb, le-ltb}
 use Rattle.lists.specs.WordsLaws.{join, place-not}
 use Rattle.lists.specs.Tab.{lt-or-le}
-use Rattle.lists.specs.Rows.{Form}
 use Rattle.lists.specs.RowsLaws.{row-at, length-rows}
 use Rattle.rules.specs.Tables.{Flight, name, same, lacks}
 use Rattle.rules.specs.Sound.{distinct}
 use Rattle.table.specs.View.{requestForm, flightForm, waitingOf, flightsOf}
 use Rattle.sound.specs.Names.{namesOf, guestAt, idAt}
 
+-- what stands where there is no name
 abbrev nobody : Flight
 nobody = record { guest = 0; id = 0 }
 
 -- BY PLACES
 
+-- one guest and one id
 same-is : (a b : Flight) → a .guest ≡ b .guest → a .id ≡ b .id → same a b ≡ true
 same-is a b e f = join (eq-eqb (a .guest) (b .guest) e) (eq-eqb (a .id) (b .id) f)
 
+-- and not both
 same-not : (a b : Flight) → (a .guest ≡ b .guest → a .id ≡ b .id → ⊥) → not (same a b) ≡ true
 same-not a b h = go (eqb (a .guest) (b .guest)) refl (eqb (a .id) (b .id)) refl
   where
@@ -34,6 +36,7 @@ same-not a b h = go (eqb (a .guest) (b .guest)) refl (eqb (a .id) (b .id)) refl
     go true e false f = refl
     go true e true f = absurd (h (eqb-true (a .guest) (b .guest) e) (eqb-true (a .id) (b .id) f))
 
+-- no place has the name a
 lacks-none : (a : Flight) (l : List Flight) → ((i : ℕ) → i < length l → a .guest ≡ (getD l i nobody) .guest → a .id ≡ (getD l i nobody) .id → ⊥) → lacks a l ≡ true
 lacks-none a [] h = refl
 lacks-none a (b ∷ l) h = join (same-not a b (h 0 (omega arith))) (lacks-none a l (λ i m. h (suc i) (omega arith)))
@@ -55,6 +58,7 @@ distinct-none (a ∷ l) h = join (lacks-none a l (λ i m. h 0 (suc i) (omega ari
 -- BOTH TABLES
 
 module _ (ws : List ℕ) (n : ℕ) (fs : List ℕ) (m : ℕ) where
+  -- as many names as requests
   size : length (map name (waitingOf ws n)) ≡ n
   size = length-map (waitingOf ws n) name ∙ length-rows requestForm ws n
 
@@ -81,7 +85,7 @@ module _ (ws : List ℕ) (n : ℕ) (fs : List ℕ) (m : ℕ) where
           ∙ row-at flightForm fs m (k - n) (omega arith)
           ∙ sym (rw (le-ltb k n l))
 
-  -- what the loops' answers rest on
+  -- two places that the code reads as one name
   pub names-hit : (j i : ℕ) → j < i → i < n + m → guestAt ws n fs j ≡ guestAt ws n fs i → idAt ws n fs j ≡ idAt ws n fs i → distinct (namesOf ws n fs m) ≡ false
   names-hit j i l h e g =
       let at-j = name-at j (omega arith) in
@@ -89,6 +93,7 @@ module _ (ws : List ℕ) (n : ℕ) (fs : List ℕ) (m : ℕ) where
       distinct-hit (namesOf ws n fs m) j i l (omega (arith, length-names))
       (ap Flight.guest at-j ∙ e ∙ sym (ap Flight.guest at-i)) (ap Flight.id at-j ∙ g ∙ sym (ap Flight.id at-i))
 
+  -- and no two
   pub names-none : ((i j : ℕ) → i < n + m → j < i → guestAt ws n fs j ≡ guestAt ws n fs i → idAt ws n fs j ≡ idAt ws n fs i → ⊥) → distinct (namesOf ws n fs m) ≡ true
   names-none h =
       distinct-none (namesOf ws n fs m)

@@ -1,8 +1,8 @@
 -- THE TEST AND WHAT A CALL RELIES ON: numbers that the test calls sound are known, and numbers that are known the test calls sound. Assumes nothing.
 use mathlib.Core.Path.{_≡_}
-use mathlib.Core.Bool.{Bool, true, _&&_}
+use mathlib.Core.Bool.{true, _&&_}
 use mathlib.Core.List.{List}
-use Prim.Native.Nat.{ℕ, _*_, _≤_}
+use Prim.Native.Nat.{ℕ, _≤_}
 use native.Mathlib.Omega.{arith}
 use lib.Dec.{lit<}
 use lib.ListN.{length}
@@ -11,8 +11,8 @@ use Rattle.lists.specs.WordsLaws.{both, join}
 use Rattle.lists.specs.RowsLaws.{length-rows}
 use Rattle.rules.specs.Sound.{counted, settled, ranges, sound}
 use Rattle.rules.specs.declared.Gate.{Gate}
-use Rattle.rules.proofs.Facts.{Sound, sound-is}
-use Rattle.table.specs.View.{guestForm, requestForm, flightForm, tableOf, identified, zeroed, soundNumbers, Whole, Known}
+use Rattle.rules.proofs.Facts.{sound-is}
+use Rattle.table.specs.View.{guestForm, requestForm, flightForm, tableOf, identified, zeroed, soundNumbers, Known}
 use Rattle.sound.specs.Fitting.{Fitting}
 use Rattle.sound.proofs.Fitted.{counts}
 use Rattle.sound.proofs.Zeros.{zeroed-unused, unused-zeroed}
@@ -22,6 +22,7 @@ record Roomy (g : Gate) : Type 0 where
   waits : g .waiting ≤ g .capacity
   flies : g .flight ≤ g .depth
 
+-- by the rule of counts
 roomy : (g : Gate) (gs ws fs : List ℕ) → sound (tableOf g gs ws fs) ≡ true → Roomy g
 roomy g gs ws fs h =
     let s = sound-is (tableOf g gs ws fs) h in

@@ -21,6 +21,7 @@ module _ (s cap n : ℕ) (some : 0 < s) (xs : List ℕ) (room : cap * s ≤ leng
   abbrev rest : List ℕ
   rest = take (cap * s - n * s) (drop (n * s) xs)
 
+  -- as many as the rows past n have
   size : length rest ≡ cap * s - n * s
   size = part-length (n * s) (cap * s) xs (mul-le-mul-right s fit) room
 

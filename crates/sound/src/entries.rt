@@ -1,6 +1,5 @@
 // Whether each request, by itself, is one: its guest exists, its id has 32 bits, its tags are at most the ceiling.
 ghost use mathlib.Core.Path.{_≡_};
-ghost use mathlib.Core.List.{map};
 ghost use Prim.Native.Nat.{_*_, _≤_};
 ghost use lib.ListN.{length};
 ghost use Rattle.lists.specs.Words.{all};
@@ -9,7 +8,7 @@ ghost use Rattle.rules.specs.Sound.{lawful};
 ghost use Rattle.table.specs.View.{waitingOf, flightsOf};
 ghost use Rattle.sound.specs.Tests.{named, nameIs, lawfulTags};
 
-const CEILING: u64 = 4611686018427387903;
+pub const CEILING: u64 = 4611686018427387903;
 
 const GUEST: usize = 0;
 

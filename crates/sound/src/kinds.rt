@@ -3,15 +3,27 @@ use table::numbers::spacing_down;
 use table::numbers::spacing_up;
 ghost use mathlib.Core.Path.{_≡_};
 ghost use Prim.Native.Nat.{_+_, _*_, _≤_, _<_};
-ghost use lib.ListN.{length, getD};
+ghost use lib.ListN.{length};
 ghost use Rattle.lists.specs.Words.{below};
 ghost use Rattle.rules.specs.Tables.{owner, mine};
 ghost use Rattle.rules.specs.Sound.{orderly};
 ghost use Rattle.table.specs.View.{guestsOf, waitingOf};
 ghost use Rattle.sound.specs.Kinds.{passes, ends, gapOf, Gaps, Low, Tested, endsAt, keptAll};
 
+const RESERVATION: usize = 0;
+
 const LIMIT: usize = 1;
 
+const SHARES: usize = 2;
+
+// Where the guest of a request stands in its row, and the first of its tags; and the first of a guest's next numbers.
+const GUEST: usize = 0;
+
+const TAGS: usize = 2;
+
+const NEXTS: usize = 3;
+
+// The ceiling plus 1,000,000,000.
 const IDLE: u64 = 4611686019427387903;
 
 // How far apart the tags of a kind stand, by the guest's setting of that kind; 0 where the guest lacks it.
@@ -68,7 +80,7 @@ fn all_end(guests: &[u64], known: usize, kind: usize, gaps: [u64; 64], floors: [
 {
     let mut g: usize = 0;
     while g < known {
-        let next = guests[g * 6 + (3 + kind)];
+        let next = guests[g * 6 + (NEXTS + kind)];
         if !is_end(gaps[g], floors[g], next) {
             return false;
         }
@@ -86,8 +98,8 @@ fn is_kept(guests: &[u64], known: usize, waiting: &[u64], count: usize, kind: us
     let mut floors: [u64; 64] = [0; 64];
     let mut i: usize = 0;
     while i < count {
-        let g = waiting[i * 5 + 0] as usize;
-        let tag = waiting[i * 5 + (2 + kind)];
+        let g = waiting[i * 5 + GUEST] as usize;
+        let tag = waiting[i * 5 + (TAGS + kind)];
         let gap = gaps[g];
         let floor = floors[g];
         if !is_passed(gap, floor, tag) {
@@ -104,11 +116,11 @@ pub fn all_orderly(guests: &[u64], known: usize, waiting: &[u64], count: usize) 
     requires { ⌜ Tested (now guests) known (now waiting) count ⌝ }
     ensures { λ b. ⌜ b ≡ below known (λ g. orderly (owner (guestsOf (now (guests .entry)) known) g) (mine g (waitingOf (now (waiting .entry)) count))) ⌝ }
 {
-    if !is_kept(guests, known, waiting, count, 0) {
+    if !is_kept(guests, known, waiting, count, RESERVATION) {
         return false;
     }
-    if !is_kept(guests, known, waiting, count, 1) {
+    if !is_kept(guests, known, waiting, count, LIMIT) {
         return false;
     }
-    is_kept(guests, known, waiting, count, 2)
+    is_kept(guests, known, waiting, count, SHARES)
 }

@@ -6,6 +6,7 @@ pub mod pairs; // no request twice
 pub mod kinds; // the spacing within each guest, and the next numbers
 pub mod unused; // the places past the counts
 
+use entries::CEILING;
 use entries::all_flown;
 use entries::all_lawful;
 use entries::all_named;
@@ -17,8 +18,6 @@ use unused::is_clear;
 ghost use mathlib.Core.Path.{_≡_};
 ghost use Rattle.table.specs.View.{soundNumbers};
 ghost use Rattle.sound.specs.Fitting.{Fitting};
-
-const CEILING: u64 = 4611686018427387903;
 
 // The rules in document 01's order; the first broken one ends the test.
 pub fn is_sound(gate: Gate, guests: &[u64], waiting: &[u64], flight: &[u64]) -> bool

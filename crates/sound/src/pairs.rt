@@ -1,7 +1,6 @@
 // Whether no guest has one id twice, among waiting requests (five numbers each) and requests in flight (two numbers each).
 ghost use mathlib.Core.Path.{_≡_};
-ghost use Prim.Native.Nat.{_+_, _*_, _≤_, _<_};
-ghost use lib.ListN.{length};
+ghost use Prim.Native.Nat.{_+_, _*_, _<_};
 ghost use Rattle.rules.specs.Sound.{distinct};
 ghost use Rattle.sound.specs.Names.{Rooms, namesOf, guestAt, idAt, bucketOf};
 

@@ -1,9 +1,10 @@
+-- Each test that fails breaks one rule; where none does, the last decides.
 use mathlib.Core.Path.{_≡_, sym, _∙_}
 use mathlib.Core.Bool.{Bool, true, false, true≢false}
 use native.Mathlib.Omega.{arith}
 use borrow.Author.Tests.{not-true, not-false}
 use Rattle.sound.proofs.Fitted.{is-counted}
-use Rattle.sound.proofs.Judged.{Judged, unsound, decided}
+use Rattle.sound.proofs.Judged.{unsound, decided}
 use borrow.Author.Needs.{needs}
 use Rattle.sound.proofs.is_sound.Statement.{statement}
 use Rattle.sound.proofs.is_sound.Tie as tie

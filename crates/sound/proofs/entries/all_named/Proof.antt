@@ -1,3 +1,4 @@
+-- The walk goes from the last row to the first: every row behind it has passed.
 use Prim.Native.Nat.{_≤_, _-_}
 use mathlib.Core.Path.{_≡_, sym, _∙_}
 use mathlib.Core.Bool.{true}
@@ -9,7 +10,6 @@ use Rattle.lists.specs.Words.{all}
 use Rattle.lists.specs.Walks.{all-start, all-next, all-end}
 use Rattle.lists.specs.WordsLaws.{place-not}
 use Rattle.lists.specs.RowsLaws.{length-rows}
-use Rattle.lists.specs.Rows.{Form}
 use Rattle.rules.specs.Tables.{name}
 use Rattle.table.specs.View.{requestForm, waitingOf}
 use Rattle.sound.specs.Tests.{named}

@@ -1,3 +1,4 @@
+-- Each return gives the value of the test on its branch.
 use borrow.Author.Tests.{le-leb, lt-leb}
 use Rattle.sound.proofs.entries.is_lawful.Statement.{statement}
 use Rattle.sound.proofs.entries.is_lawful.Tie as tie

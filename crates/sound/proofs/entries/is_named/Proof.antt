@@ -1,3 +1,4 @@
+-- Each return gives the value of the test on its branch.
 use borrow.Author.Tests.{lt-ltb, le-ltb}
 use Rattle.sound.proofs.entries.is_named.Statement.{statement}
 use Rattle.sound.proofs.entries.is_named.Tie as tie

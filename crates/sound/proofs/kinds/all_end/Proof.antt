@@ -1,3 +1,4 @@
+-- The next numbers of the guests passed are right.
 use Prim.Native.Nat.{_≤_, _-_}
 use mathlib.Core.Path.{_≡_, refl, sym, _∙_}
 use mathlib.Core.Bool.{true}

@@ -1,3 +1,4 @@
+-- The three kinds one after the other are the order of every guest.
 use mathlib.Core.Path.{_≡_, sym, _∙_}
 use mathlib.Core.Bool.{Bool, true, false, _&&_}
 use borrow.Author.Tests.{not-true, not-false}

@@ -1,3 +1,4 @@
+-- The gap is the spacing of its kind.
 use borrow.Author.Tests.{eq-eqb, ne-eqb}
 use borrow.Author.Needs.{needs}
 use Rattle.sound.proofs.kinds.gap_of.Statement.{statement}

@@ -1,9 +1,9 @@
+-- The array holds the gaps of the guests passed.
 use Prim.Native.Nat.{_≤_, _-_}
 use mathlib.Core.Path.{_≡_}
 use native.Mathlib.Omega.{arith}
-use borrow.Author.Needs.{needs}
 use Rattle.sound.specs.Kinds.{Gaps}
-use Rattle.sound.proofs.Gapped.{gaps-start, gaps-next}
+use Rattle.sound.proofs.GapLaws.{gaps-start, gaps-next}
 use Rattle.sound.proofs.kinds.gaps_of.Statement.{statement}
 use Rattle.sound.proofs.kinds.gaps_of.Tie as tie
 

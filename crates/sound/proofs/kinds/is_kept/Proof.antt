@@ -1,11 +1,11 @@
-use Prim.Native.Nat.{ℕ, _+_, _*_, _≤_, _<_, _-_}
-use mathlib.Core.Path.{_≡_, refl, sym, _∙_}
+-- With the floors before each request the test of every guest still comes to the same.
+use Prim.Native.Nat.{_+_, _*_, _≤_, _-_}
+use mathlib.Core.Path.{refl, sym, _∙_}
 use native.Mathlib.Omega.{arith}
 use lib.ListN.{getD}
 use borrow.Author.Tests.{not-true, not-false}
 use borrow.Author.Needs.{needs}
-use Rattle.rules.specs.Numbers.{ceiling}
-use Rattle.sound.proofs.Rowed.{setting-low, guest-known, tag-low}
+use Rattle.sound.proofs.RowFacts.{setting-low, guest-known, tag-low}
 use Rattle.sound.proofs.OneKind.{Walked, walk-start, gap-fits, kind-fails, kind-next, kind-ends}
 use Rattle.sound.proofs.kinds.is_kept.Statement.{statement}
 use Rattle.sound.proofs.kinds.is_kept.Tie as tie

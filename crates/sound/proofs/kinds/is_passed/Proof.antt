@@ -1,3 +1,4 @@
+-- Each return gives the value of the test on its branch.
 use borrow.Author.Tests.{eq-eqb, ne-eqb}
 use Rattle.sound.proofs.kinds.is_passed.Statement.{statement}
 use Rattle.sound.proofs.kinds.is_passed.Tie as tie

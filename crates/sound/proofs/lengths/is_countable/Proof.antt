@@ -1,3 +1,4 @@
+-- Each return gives the value of the test on its branch.
 use mathlib.Core.Path.{_≡_}
 use mathlib.Core.Bool.{Bool, true, _&&_}
 use borrow.Author.Tests.{le-leb, lt-leb}

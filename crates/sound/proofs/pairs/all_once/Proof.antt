@@ -1,3 +1,4 @@
+-- Outer loop: no two of the places passed have one name, and the arrays link the places of each bucket. Inner loop: no place of the bucket that was passed has the name.
 use Prim.Native.Nat.{ℕ, _≤_, _-_}
 use mathlib.Core.Path.{_≡_, refl, ap, sym, _∙_}
 use mathlib.Core.Bool.{true}
@@ -7,7 +8,7 @@ use native.Mathlib.Omega.{arith}
 use borrow.Author.Needs.{needs}
 use Rattle.sound.specs.Names.{guestAt, idAt, bucketOf}
 use Rattle.sound.proofs.Places.{names-hit, names-none}
-use Rattle.sound.proofs.Buckets.{lastBefore, last-le, bucketAt, Apart, Chains, chains-none, chains-next, Passed, passed-start, passed-next, passed-end}
+use Rattle.sound.proofs.Buckets.{lastBefore, last-le, bucketAt, Apart, Linked, linked-start, linked-next, Passed, passed-start, passed-next, passed-end}
 use Rattle.sound.proofs.pairs.all_once.Statement.{statement}
 use Rattle.sound.proofs.pairs.all_once.Tie as tie
 
@@ -19,7 +20,7 @@ abbrev μ-loop : tie.MeasureT-loop
 
 abbrev Inv-pairs : tie.InvT-pairs
 Inv-pairs waiting count flight sent heads₀ links₀ total once₀ i₀ heads links once i =
-    (i ≤ total) × Chains (bucketAt (guestAt waiting count flight) (idAt waiting count flight)) heads links i
+    (i ≤ total) × Linked (bucketAt (guestAt waiting count flight) (idAt waiting count flight)) heads links i
     × Apart (guestAt waiting count flight) (idAt waiting count flight) i × (once ≡ true)
 
 abbrev μ-pairs : tie.MeasureT-pairs
@@ -29,7 +30,7 @@ add-total : tie.Need-add-total Inv-loop μ-loop Inv-pairs μ-pairs
 add-total c = omega arith
 
 pairs-holds : tie.Need-pairs-holds Inv-loop μ-loop Inv-pairs μ-pairs
-pairs-holds c = (omega arith, chains-none _, λ i j l. absurd (not-suc-le-zero l), refl)
+pairs-holds c = (omega arith, linked-start _, λ i j l. absurd (not-suc-le-zero l), refl)
 
 guest-of-requires : tie.Need-guest-of-requires Inv-loop μ-loop Inv-pairs μ-pairs
 guest-of-requires c κs = search needs
@@ -146,7 +147,7 @@ pairs-again c =
     in
     let s = c .before .loop in (
       omega arith,
-      chains-next (bucketAt guest id) (o .heads) (o .links) (o .i) (c .before .before .before .bucket .result) _ _ (o .inv .1) (omega arith) (c .before .before .before .bucket .ensures .1) e refl refl,
+      linked-next (bucketAt guest id) (o .heads) (o .links) (o .i) (c .before .before .before .bucket .result) _ _ (o .inv .1) (omega arith) (c .before .before .before .bucket .ensures .1) e refl refl,
       passed-end guest id (o .i) (s .next) (s .inv .0) (c .loop-test .left) (o .inv .2),
       s .inv .1,
     )

@@ -1,3 +1,4 @@
+-- The bucket is the one of the definition.
 use mathlib.Core.Path.{refl}
 use Rattle.sound.specs.Names.{bucketOf}
 use borrow.Author.Needs.{needs}

@@ -1,3 +1,4 @@
+-- Each branch reads its own table.
 use borrow.Author.Tests.{lt-ltb, le-ltb}
 use Rattle.sound.specs.Names.{guestAt}
 use borrow.Author.Needs.{needs}

@@ -1,3 +1,4 @@
+-- Each return gives the value of the test on its branch.
 use borrow.Author.Tests.{le-leb, lt-leb, lt-ltb, le-ltb}
 use Rattle.rules.specs.Sound.{settled}
 use Rattle.sound.proofs.settings.is_settled.Statement.{statement}

@@ -1,4 +1,5 @@
-use Prim.Native.Nat.{ℕ, _≤_, _-_}
+-- The walk goes from the last number to the first: every number behind it is zero.
+use Prim.Native.Nat.{_≤_, _-_}
 use mathlib.Core.Path.{_≡_, sym}
 use mathlib.Core.Bool.{true}
 use native.Mathlib.Omega.{arith}
