@@ -1,0 +1,62 @@
+//! Times the library's calls and the second program's on the same events of a bench trace. Each call of either tests
+//! the soundness of its tables first.
+//!
+//!     bench-calls WHICH TRACE SKIP COUNT ROUNDS
+//!
+//! WHICH is library, second or both. The first SKIP events fill the tables; the COUNT after them are played ROUNDS
+//! times, in turn where it is both. Prints for each round the name and the nanoseconds that the COUNT calls took.
+
+mod players;
+mod trace;
+
+use players::{Library, Player, Second};
+use std::process::ExitCode;
+use std::time::Instant;
+use trace::Trace;
+
+fn main() -> ExitCode {
+    let words: Vec<String> = std::env::args().skip(1).collect();
+    match run(&words) {
+        Some(()) => ExitCode::SUCCESS,
+        None => {
+            eprintln!("bench-calls library|second|both TRACE SKIP COUNT ROUNDS, TRACE one of 'traces fixed'");
+            ExitCode::FAILURE
+        }
+    }
+}
+
+fn run(words: &[String]) -> Option<()> {
+    let [which, file, skip, count, rounds] = words else {
+        return None;
+    };
+    let (skip, count): (usize, usize) = (skip.parse().ok()?, count.parse().ok()?);
+    let rounds: usize = rounds.parse().ok()?;
+    let trace = Trace::read(file, skip + count)?;
+    let (first, timed) = trace.events.split_at(skip);
+    // Neither is opened where it is not wanted: instructions are counted over the whole run.
+    let library = (which != "second").then(|| Library::after(&trace, first));
+    let second = (which != "library").then(|| Second::after(&trace, first));
+    for _ in 0..rounds {
+        let ours = library
+            .as_ref()
+            .map(|player| time("library", player, timed));
+        let theirs = second.as_ref().map(|player| time("second", player, timed));
+        let differ = ours
+            .zip(theirs)
+            .is_some_and(|(ours, theirs)| ours != theirs);
+        assert!(!differ, "the two do not answer alike");
+    }
+    Some(())
+}
+
+/// Plays the events from the same start and prints how long it took. Gives the answers folded into one number.
+fn time<P: Player + Clone>(name: &str, start: &P, events: &[second::trace::Event]) -> u64 {
+    let mut player = start.clone();
+    let mut folded = 0u64;
+    let begun = Instant::now();
+    for event in events {
+        folded = folded.wrapping_mul(31).wrapping_add(player.play(event));
+    }
+    println!("{name} {}", begun.elapsed().as_nanos());
+    folded
+}

@@ -1,0 +1,198 @@
+//! A gate that owns its tables.
+
+use crate::answer::{named, Answer, Refusal};
+use crate::raw::{self, Flight, Guest, Numbers, Request, Settings};
+use crate::{MOST_CAPACITY, MOST_DEPTH};
+
+/// An open gate with its tables.
+#[derive(Clone, Debug, PartialEq, Eq)]
+pub struct Gate {
+    numbers: Numbers,
+    guests: Vec<Guest>,
+    waiting: Vec<Request>,
+    flight: Vec<Flight>,
+}
+
+impl Gate {
+    /// Opens a gate for these guests, numbered from 0: `depth` places at the array, `capacity` waiting places.
+    ///
+    /// # Errors
+    ///
+    /// [`Refusal::Setting`] where depth, capacity, the number of guests or a guest's settings are out of range.
+    pub fn open(depth: u64, capacity: u64, guests: &[Settings]) -> Result<Gate, Refusal> {
+        // Counts out of range are refused before the lengths are looked at, so no table need be longer than the most.
+        let mut gate = Gate {
+            numbers: Numbers::default(),
+            guests: vec![Guest::default(); guests.len()],
+            waiting: vec![Request::default(); places(capacity, MOST_CAPACITY)],
+            flight: vec![Flight::default(); places(depth, MOST_DEPTH)],
+        };
+        gate.call_open(depth, capacity, guests)?;
+        Ok(gate)
+    }
+
+    fn call_open(
+        &mut self,
+        depth: u64,
+        capacity: u64,
+        settings: &[Settings],
+    ) -> Result<Answer, Refusal> {
+        let count = settings.len() as u64;
+        let lent = self.lend();
+        // SAFETY: see `lend`; the settings are rows of three numbers.
+        named(unsafe {
+            raw::sgq_open(
+                lent.gate,
+                depth,
+                count,
+                capacity,
+                settings.as_ptr().cast(),
+                numbers_in(settings),
+                lent.guests,
+                lent.guests_length,
+                lent.waiting,
+                lent.waiting_length,
+                lent.flight,
+                lent.flight_length,
+            )
+        })
+    }
+
+    /// A request of a guest arrives: it gets its tags, waits, and then the choice is made.
+    ///
+    /// # Errors
+    ///
+    /// Refusals 4 to 9 of document 01, the first that holds in this order: [`Refusal::UnknownGuest`],
+    /// [`Refusal::TimeAboveCeiling`], [`Refusal::TimeBeforeLast`], [`Refusal::IdInUse`], [`Refusal::WaitingFull`],
+    /// [`Refusal::TagAboveCeiling`]. The gate is then as it was.
+    pub fn arrive(&mut self, guest: u64, id: u32, time: u64) -> Result<Answer, Refusal> {
+        let lent = self.lend();
+        // SAFETY: see `lend`.
+        named(unsafe {
+            raw::sgq_arrive(
+                lent.gate,
+                lent.guests,
+                lent.guests_length,
+                lent.waiting,
+                lent.waiting_length,
+                lent.flight,
+                lent.flight_length,
+                guest,
+                id,
+                time,
+            )
+        })
+    }
+
+    /// A request in flight is done: it is taken out, and then the choice is made. Its id may be used again.
+    ///
+    /// # Errors
+    ///
+    /// The first that holds of [`Refusal::UnknownGuest`], [`Refusal::TimeAboveCeiling`], [`Refusal::TimeBeforeLast`],
+    /// [`Refusal::NotInFlight`]. The gate is then as it was.
+    pub fn complete(&mut self, guest: u64, id: u32, time: u64) -> Result<Answer, Refusal> {
+        let lent = self.lend();
+        // SAFETY: see `lend`.
+        named(unsafe {
+            raw::sgq_complete(
+                lent.gate,
+                lent.guests,
+                lent.guests_length,
+                lent.waiting,
+                lent.waiting_length,
+                lent.flight,
+                lent.flight_length,
+                guest,
+                id,
+                time,
+            )
+        })
+    }
+
+    /// "A tick only sets the time and makes the choice." With places free, tick again after each send until nothing is
+    /// sent, and then when the next waiting reservation or limit tag is reached.
+    ///
+    /// # Errors
+    ///
+    /// The first that holds of [`Refusal::TimeAboveCeiling`], [`Refusal::TimeBeforeLast`]. The gate is then as it was.
+    pub fn tick(&mut self, time: u64) -> Result<Answer, Refusal> {
+        let lent = self.lend();
+        // SAFETY: see `lend`.
+        named(unsafe {
+            raw::sgq_tick(
+                lent.gate,
+                lent.guests,
+                lent.guests_length,
+                lent.waiting,
+                lent.waiting_length,
+                lent.flight,
+                lent.flight_length,
+                time,
+            )
+        })
+    }
+
+    /// Places at the array.
+    pub fn depth(&self) -> u64 {
+        self.numbers.depth
+    }
+
+    /// Waiting places.
+    pub fn capacity(&self) -> u64 {
+        self.numbers.capacity
+    }
+
+    /// The time of the last accepted event.
+    pub fn time(&self) -> u64 {
+        self.numbers.time
+    }
+
+    /// The guests with their next numbers.
+    pub fn guests(&self) -> &[Guest] {
+        &self.guests
+    }
+
+    /// The waiting requests, in order of acceptance.
+    pub fn waiting(&self) -> &[Request] {
+        &self.waiting[..self.numbers.waiting as usize]
+    }
+
+    /// The requests in flight, in order of sending.
+    pub fn flight(&self) -> &[Flight] {
+        &self.flight[..self.numbers.flight as usize]
+    }
+
+    /// The tables as the library takes them. Each is its own memory, as long as is said, and no one else has it while
+    /// the gate is borrowed here; every row is 64-bit numbers alone, for which any bits are good.
+    fn lend(&mut self) -> Lent {
+        Lent {
+            gate: (&raw mut self.numbers).cast(),
+            guests_length: numbers_in(&self.guests),
+            guests: self.guests.as_mut_ptr().cast(),
+            waiting_length: numbers_in(&self.waiting),
+            waiting: self.waiting.as_mut_ptr().cast(),
+            flight_length: numbers_in(&self.flight),
+            flight: self.flight.as_mut_ptr().cast(),
+        }
+    }
+}
+
+/// Pointers and lengths, in the order of the calls.
+struct Lent {
+    gate: *mut u64,
+    guests: *mut u64,
+    guests_length: usize,
+    waiting: *mut u64,
+    waiting_length: usize,
+    flight: *mut u64,
+    flight_length: usize,
+}
+
+/// How many 64-bit numbers the records have.
+fn numbers_in<T>(records: &[T]) -> usize {
+    size_of_val(records) / size_of::<u64>()
+}
+
+fn places(wanted: u64, most: u64) -> usize {
+    wanted.min(most) as usize
+}

@@ -1,0 +1,58 @@
+//! The proved disc gate, for a host in Rust.
+//!
+//! The gate holds the requests of 1 to 64 guests for one disc array and decides, after each event, whether one goes to
+//! the array: at most one. [`Gate`] owns the tables that the library is lent; its methods are the library's calls. The
+//! rules are document 01's; words in quotes are that document's own.
+//!
+//! ```
+//! use sgq::{Answer, Gate, Phase, Refusal, Settings};
+//!
+//! # fn main() -> Result<(), Refusal> {
+//! const MS: u64 = 1_000_000;
+//! let by = |phase, id| Answer::Sent { phase, guest: 0, id };
+//!
+//! let guests = [Settings { reservation: 100, limit: 250, shares: 1 }];
+//! let mut gate = Gate::open(4, 8, &guests)?;
+//! assert_eq!(gate.arrive(0, 1, 0)?, by(Phase::Reservation, 1));
+//! assert_eq!(gate.arrive(0, 2, 0)?, Answer::Nothing);
+//! assert_eq!(gate.tick(4 * MS)?, by(Phase::Weight, 2));
+//! assert_eq!(gate.complete(0, 1, 10 * MS)?, Answer::Nothing);
+//! assert_eq!(gate.complete(0, 1, 10 * MS), Err(Refusal::NotInFlight));
+//! # Ok(())
+//! # }
+//! ```
+//!
+//! # Linking
+//!
+//! The build script links target/staticlib/libhost.a of this repository, which `rt staticlib host` writes; the
+//! environment variable `SGQ_LIB` may name another archive. The library is for x86-64 Linux.
+//!
+//! # What is proved
+//!
+//! The library's calls are. This wrapper is not: it keeps the tables, passes them on as pointers and lengths, and gives
+//! the answers names. Its `unsafe` blocks are those four calls.
+
+#![deny(missing_docs, unsafe_op_in_unsafe_fn)]
+
+mod answer;
+mod gate;
+pub mod raw;
+
+pub use answer::{Answer, Phase, Refusal};
+pub use gate::Gate;
+pub use raw::{Flight, Guest, Request, Settings};
+
+/// "Time and tags are whole nanoseconds, 0 to 4,611,686,018,427,387,903 (2^62 − 1, the ceiling)."
+pub const CEILING: u64 = (1 << 62) - 1;
+
+/// "Depth (places at the array) 1 to 64".
+pub const MOST_DEPTH: u64 = 64;
+
+/// "requests of 1 to 64 guests".
+pub const MOST_GUESTS: u64 = 64;
+
+/// "Capacity (waiting places) 1 to 1,024."
+pub const MOST_CAPACITY: u64 = 1_024;
+
+/// The largest reservation, limit and number of shares.
+pub const MOST_RATE: u64 = 1_000_000;

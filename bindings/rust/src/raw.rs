@@ -1,0 +1,148 @@
+//! The library's symbols as they are linked, and the rows of its tables. [`crate::Gate`] is the safe way to them.
+//!
+//! A table is a pointer to 64-bit numbers and how many there are. Whoever calls owes the library what the references in
+//! its own signatures say: pointers that are aligned and not null, true lengths, and tables that do not overlap and
+//! that nobody else reads or writes during the call. Nothing is asked of the numbers: any tables may be lent.
+
+/// The gate's six numbers: what it was opened with, the time and the counts.
+#[repr(C)]
+#[derive(Clone, Copy, Debug, Default, PartialEq, Eq)]
+pub struct Numbers {
+    /// Places at the array.
+    pub depth: u64,
+    /// How many guests; they are numbered from 0.
+    pub guests: u64,
+    /// Waiting places.
+    pub capacity: u64,
+    /// The time of the last accepted event.
+    pub time: u64,
+    /// How many requests wait.
+    pub waiting: u64,
+    /// How many requests are in flight.
+    pub flight: u64,
+}
+
+/// A guest's settings. "A reservation above a non-zero limit is bad; equal is good."
+#[repr(C)]
+#[derive(Clone, Copy, Debug, Default, PartialEq, Eq)]
+pub struct Settings {
+    /// Requests per second, "0 meaning none".
+    pub reservation: u64,
+    /// Requests per second, "0 meaning unlimited".
+    pub limit: u64,
+    /// Of what is left when the reservations are served, 1 to 1,000,000.
+    pub shares: u64,
+}
+
+/// "A guest record holds its settings and three next numbers: the tag its next request would get were time not looked
+/// at."
+#[repr(C)]
+#[derive(Clone, Copy, Debug, Default, PartialEq, Eq)]
+pub struct Guest {
+    /// The settings it was opened with.
+    pub settings: Settings,
+    /// The next reservation number; 0 and without meaning where there is no reservation.
+    pub rnext: u64,
+    /// The next limit number; 0 and without meaning where there is no limit.
+    pub lnext: u64,
+    /// The next share number.
+    pub snext: u64,
+}
+
+/// A waiting request with its tags, which are times in nanoseconds.
+#[repr(C)]
+#[derive(Clone, Copy, Debug, Default, PartialEq, Eq)]
+pub struct Request {
+    /// The guest's number, from 0.
+    pub guest: u64,
+    /// The id, 32 bits.
+    pub id: u64,
+    /// Reservation tag: at or before the time the request is due. 0 and without meaning where there is no reservation.
+    pub rtag: u64,
+    /// Limit tag: at or before the time it may go by weight. 0 and without meaning where there is no limit.
+    pub ltag: u64,
+    /// Share tag: by weight the smallest goes first.
+    pub stag: u64,
+}
+
+/// A request in flight, that is at the array.
+#[repr(C)]
+#[derive(Clone, Copy, Debug, Default, PartialEq, Eq)]
+pub struct Flight {
+    /// The guest's number, from 0.
+    pub guest: u64,
+    /// The id, 32 bits.
+    pub id: u64,
+}
+
+/// What a call answers; [`crate::Answer`] and [`crate::Refusal`] have names for it.
+#[repr(C)]
+#[derive(Clone, Copy, Debug, Default, PartialEq, Eq)]
+pub struct Answer {
+    /// 0 nothing, 1 sent by reservation, 2 by weight, 3 refused.
+    pub kind: u64,
+    /// The guest of the request sent, or 0.
+    pub guest: u64,
+    /// The id of the request sent, or 0.
+    pub id: u64,
+    /// The refusal number, or 0.
+    pub refusal: u64,
+}
+
+extern "C" {
+    /// Opens a gate; settings are three numbers a guest.
+    pub fn sgq_open(
+        gate: *mut u64,
+        depth: u64,
+        guests: u64,
+        capacity: u64,
+        settings: *const u64,
+        settings_length: usize,
+        guest_table: *mut u64,
+        guest_table_length: usize,
+        waiting: *mut u64,
+        waiting_length: usize,
+        flight: *mut u64,
+        flight_length: usize,
+    ) -> Answer;
+
+    /// A request arrives.
+    pub fn sgq_arrive(
+        gate: *mut u64,
+        guest_table: *mut u64,
+        guest_table_length: usize,
+        waiting: *mut u64,
+        waiting_length: usize,
+        flight: *mut u64,
+        flight_length: usize,
+        guest: u64,
+        id: u32,
+        time: u64,
+    ) -> Answer;
+
+    /// A request in flight is done.
+    pub fn sgq_complete(
+        gate: *mut u64,
+        guest_table: *mut u64,
+        guest_table_length: usize,
+        waiting: *mut u64,
+        waiting_length: usize,
+        flight: *mut u64,
+        flight_length: usize,
+        guest: u64,
+        id: u32,
+        time: u64,
+    ) -> Answer;
+
+    /// Time has gone on.
+    pub fn sgq_tick(
+        gate: *mut u64,
+        guest_table: *mut u64,
+        guest_table_length: usize,
+        waiting: *mut u64,
+        waiting_length: usize,
+        flight: *mut u64,
+        flight_length: usize,
+        time: u64,
+    ) -> Answer;
+}

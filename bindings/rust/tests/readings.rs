@@ -1,0 +1,177 @@
+//! Document 01's example and edge readings, and each refusal, through the wrapper.
+
+use sgq::{Answer, Flight, Gate, Phase, Refusal, Settings, CEILING};
+
+const MS: u64 = 1_000_000;
+
+fn settings(reservation: u64, limit: u64, shares: u64) -> Settings {
+    Settings {
+        reservation,
+        limit,
+        shares,
+    }
+}
+
+fn by_reservation(guest: u64, id: u32) -> Result<Answer, Refusal> {
+    let phase = Phase::Reservation;
+    Ok(Answer::Sent { phase, guest, id })
+}
+
+fn by_weight(guest: u64, id: u32) -> Result<Answer, Refusal> {
+    let phase = Phase::Weight;
+    Ok(Answer::Sent { phase, guest, id })
+}
+
+const NOTHING: Result<Answer, Refusal> = Ok(Answer::Nothing);
+
+fn open(depth: u64, capacity: u64, guests: &[Settings]) -> Gate {
+    Gate::open(depth, capacity, guests).expect("good settings")
+}
+
+/// Holds a refused call to its refusal, and the gate to what it was.
+fn refused(
+    gate: &mut Gate,
+    refusal: Refusal,
+    call: impl FnOnce(&mut Gate) -> Result<Answer, Refusal>,
+) {
+    let before = gate.clone();
+    assert_eq!(call(gate), Err(refusal));
+    assert_eq!(*gate, before);
+}
+
+#[test]
+fn example() {
+    let mut gate = open(4, 8, &[settings(100, 250, 1)]);
+    assert_eq!(gate.arrive(0, 1, 0), by_reservation(0, 1));
+    assert_eq!(gate.arrive(0, 2, 0), NOTHING);
+    assert_eq!(gate.arrive(0, 3, 0), NOTHING);
+    assert_eq!(gate.arrive(0, 4, 0), NOTHING);
+    assert_eq!(gate.tick(4 * MS), by_weight(0, 2));
+    assert_eq!(gate.tick(8 * MS), by_weight(0, 3));
+    assert_eq!(gate.tick(10 * MS), by_reservation(0, 4));
+    refused(&mut gate, Refusal::TimeBeforeLast, |gate| gate.tick(9 * MS));
+    assert_eq!(gate.complete(0, 1, 10 * MS), NOTHING);
+    refused(&mut gate, Refusal::NotInFlight, |gate| {
+        gate.complete(0, 1, 10 * MS)
+    });
+}
+
+/// A with shares 1 and B with shares 2 at depth 1; A's ids 1, 2, 3 at 0.
+fn two_guests() -> Gate {
+    let mut gate = open(1, 8, &[settings(0, 0, 1), settings(0, 0, 2)]);
+    assert_eq!(gate.arrive(0, 1, 0), by_weight(0, 1));
+    assert_eq!(gate.arrive(0, 2, 0), NOTHING);
+    assert_eq!(gate.arrive(0, 3, 0), NOTHING);
+    assert_eq!(share_tags(&gate), [1_000 * MS, 2_000 * MS]);
+    gate
+}
+
+fn share_tags(gate: &Gate) -> Vec<u64> {
+    gate.waiting().iter().map(|request| request.stag).collect()
+}
+
+#[test]
+fn shares_at_100_ms() {
+    let mut gate = two_guests();
+    assert_eq!(gate.arrive(1, 1, 100 * MS), NOTHING);
+    assert_eq!(share_tags(&gate), [100 * MS, 1_100 * MS, 100 * MS]);
+    assert_eq!(gate.complete(0, 1, 100 * MS), by_weight(0, 2));
+    assert_eq!(gate.complete(0, 2, 100 * MS), by_weight(1, 1));
+}
+
+#[test]
+fn shares_at_1500_ms() {
+    let mut gate = two_guests();
+    assert_eq!(gate.arrive(1, 1, 1_500 * MS), NOTHING);
+    assert_eq!(share_tags(&gate), [1_500 * MS, 2_500 * MS, 1_500 * MS]);
+}
+
+#[test]
+fn spacings() {
+    let mut gate = open(1, 8, &[settings(3, 3, 300)]);
+    assert_eq!(gate.arrive(0, 1, 0), by_reservation(0, 1));
+    let guest = gate.guests()[0];
+    assert_eq!(guest.settings, settings(3, 3, 300));
+    assert_eq!(
+        (guest.rnext, guest.lnext, guest.snext),
+        (333_333_333, 333_333_334, 3_333_333)
+    );
+}
+
+#[test]
+fn ceiling() {
+    let mut gate = open(1, 8, &[settings(0, 0, 1)]);
+    refused(&mut gate, Refusal::TimeAboveCeiling, |gate| {
+        gate.tick(CEILING + 1)
+    });
+    assert_eq!(gate.arrive(0, 1, CEILING), by_weight(0, 1));
+    refused(&mut gate, Refusal::TagAboveCeiling, |gate| {
+        gate.arrive(0, 2, CEILING)
+    });
+    assert_eq!(gate.time(), CEILING);
+}
+
+#[test]
+fn capacity_1_depth_1() {
+    let mut gate = open(1, 1, &[settings(0, 0, 1)]);
+    assert_eq!(gate.arrive(0, 1, 0), by_weight(0, 1));
+    assert_eq!(gate.arrive(0, 2, 0), NOTHING);
+    refused(&mut gate, Refusal::WaitingFull, |gate| gate.arrive(0, 3, 0));
+    assert_eq!(gate.complete(0, 1, 0), by_weight(0, 2));
+    assert_eq!(gate.arrive(0, 3, 0), NOTHING);
+}
+
+#[test]
+fn guest_64_of_64() {
+    let mut gate = open(2, 2, &[settings(0, 0, 1); 64]);
+    assert_eq!(gate.arrive(63, 1, 0), by_weight(63, 1));
+    refused(&mut gate, Refusal::UnknownGuest, |gate| {
+        gate.arrive(64, 1, 0)
+    });
+    refused(&mut gate, Refusal::UnknownGuest, |gate| {
+        gate.complete(u64::MAX, 1, 0)
+    });
+}
+
+#[test]
+fn an_id_in_use() {
+    let mut gate = open(1, 4, &[settings(0, 0, 1)]);
+    assert_eq!(gate.arrive(0, u32::MAX, 0), by_weight(0, u32::MAX));
+    assert_eq!(gate.arrive(0, 2, 0), NOTHING);
+    for id in [u32::MAX, 2] {
+        refused(&mut gate, Refusal::IdInUse, |gate| gate.arrive(0, id, 0));
+    }
+    assert_eq!(gate.complete(0, u32::MAX, 0), by_weight(0, 2));
+    assert_eq!(gate.arrive(0, u32::MAX, 0), NOTHING);
+}
+
+#[test]
+fn bad_settings() {
+    let good = settings(5, 5, 1);
+    let opened = |depth, capacity, guests: &[Settings]| Gate::open(depth, capacity, guests).err();
+    assert_eq!(opened(64, 1_024, &[good; 64]), None);
+    for (depth, capacity) in [(0, 1), (65, 1), (u64::MAX, 1), (1, 0), (1, u64::MAX)] {
+        assert_eq!(opened(depth, capacity, &[good]), Some(Refusal::Setting));
+    }
+    assert_eq!(opened(1, 1, &[]), Some(Refusal::Setting));
+    assert_eq!(opened(1, 1, &[good; 65]), Some(Refusal::Setting));
+    for bad in [
+        settings(6, 5, 1),
+        settings(0, 0, 0),
+        settings(0, 1_000_001, 1),
+    ] {
+        assert_eq!(opened(1, 1, &[good, bad]), Some(Refusal::Setting));
+    }
+}
+
+#[test]
+fn what_a_gate_shows() {
+    let mut gate = open(2, 3, &[settings(0, 1, 1)]);
+    assert_eq!((gate.depth(), gate.capacity(), gate.time()), (2, 3, 0));
+    assert_eq!((gate.waiting(), gate.flight()), (&[][..], &[][..]));
+    assert_eq!(gate.arrive(0, 7, 5), by_weight(0, 7));
+    assert_eq!(gate.arrive(0, 8, 6), NOTHING);
+    assert_eq!(gate.flight(), [Flight { guest: 0, id: 7 }]);
+    assert_eq!((gate.waiting().len(), gate.waiting()[0].id), (1, 8));
+    assert_eq!((gate.time(), gate.guests().len()), (6, 1));
+}

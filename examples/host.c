@@ -1,0 +1,272 @@
+/* host.c: a small host around the gate. It plays the day of lot 214 (samples/lot214.txt) against an array that is only
+ * simulated, and prints what the requests of each guest waited, from arrival to send.
+ *
+ *     cc -std=c99 -Iinclude examples/host.c target/staticlib/libhost.a -o host && ./host
+ *
+ * A host does three things: it hands every event to the gate, it sends what the answer names, and it ticks at the time
+ * when a waiting request may go next. Here time is simulated too: the host jumps from one event to the next.
+ */
+#include "sgq.h"
+
+#include <inttypes.h>
+#include <stdio.h>
+#include <stdlib.h>
+
+#define MS UINT64_C(1000000) /* nanoseconds */
+#define NEVER UINT64_MAX
+#define DEPTH 4
+#define CAPACITY 64
+#define PHASES 2
+
+enum { ROOM, DESK, PICTURES, ARCHIVE, GUESTS };
+
+static const char *const guest_name[GUESTS] = {"room tablet", "online desk", "pictures", "archive"};
+static const char *const phase_name[PHASES] = {"reservation", "weight"};
+
+/* Reservation, limit and shares of each guest. */
+static const sgq_settings settings[GUESTS] = {
+    {50, 0, 1},
+    {100, 200, 20},
+    {0, 0, 800},
+    {0, 10, 100},
+};
+
+/* The array takes for a request of each guest the least and, by its id, up to `more` ms on top: bids are small writes,
+ * plates and the archive's reads are large. */
+static const struct service {
+    uint64_t least, more;
+} service[GUESTS] = {{3, 1}, {3, 1}, {8, 3}, {12, 2}};
+
+/* What arrives in the day: the time in ms from noon, the guest, the first id, and how many ids in a row. */
+static const struct arrivals {
+    uint64_t ms, guest;
+    uint32_t first, count;
+} day[] = {
+    {0, ARCHIVE, 1, 5},
+    {7050000, PICTURES, 1, 1},
+    {7050020, ROOM, 21301, 1},
+    {7050045, DESK, 21301, 1},
+    {7199520, ROOM, 21401, 1},
+    {7199800, DESK, 21401, 1},
+    {7199999, ARCHIVE, 6, 1},
+    {7200000, PICTURES, 2, 28}, /* 14:00: all plates of lot 214 at once */
+    {7200004, ROOM, 21402, 1},  /* the bid that must not wait behind them */
+    {7200006, ROOM, 21402, 1},  /* and a second copy of it */
+    {7200016, ROOM, 21403, 1},
+    {7200022, DESK, 21402, 1},
+    {7200023, DESK, 21403, 1},
+    {7200024, DESK, 21404, 1},
+    {7200030, ARCHIVE, 7, 1},
+    {7201500, ROOM, 21404, 1},
+    {7260000, PICTURES, 30, 2},
+    {7260002, DESK, 21501, 1},
+    {7260750, ROOM, 21501, 1},
+    {21600000, ARCHIVE, 8, 4},
+};
+
+#define ROWS (sizeof day / sizeof day[0])
+
+/* A request that the host has under way, and when it arrived or, at the array, when it will be done. */
+struct job {
+    uint64_t guest, id, time;
+};
+
+struct waits {
+    uint64_t sent, total, longest;
+};
+
+struct host {
+    /* What the library is lent. */
+    sgq_gate gate;
+    sgq_guest guests[GUESTS];
+    sgq_request waiting[CAPACITY];
+    sgq_flight flight[DEPTH];
+    sgq_tables lent;
+    /* The host's own books. */
+    struct job asked[CAPACITY]; /* accepted and not yet sent */
+    size_t asked_count;
+    struct job busy[DEPTH]; /* at the array */
+    size_t busy_count;
+    size_t row; /* of the day, and how many ids of that row have arrived */
+    uint32_t within;
+    struct waits waits[GUESTS][PHASES];
+};
+
+static void stop(const char *what, sgq_answer answer)
+{
+    fprintf(stderr, "host: %s was refused, %" PRIu64 ": %s\n", what, answer.refusal, sgq_refusal_text(answer.refusal));
+    exit(1);
+}
+
+static void open_gate(struct host *host)
+{
+    host->lent.gate = &host->gate;
+    host->lent.guests = host->guests;
+    host->lent.guest_count = GUESTS;
+    host->lent.waiting = host->waiting;
+    host->lent.waiting_count = CAPACITY;
+    host->lent.flight = host->flight;
+    host->lent.flight_count = DEPTH;
+    sgq_answer answer = sgq_tables_open(&host->lent, DEPTH, GUESTS, CAPACITY, settings, GUESTS);
+    if (answer.kind == SGQ_REFUSED)
+        stop("opening", answer);
+}
+
+/* The place of a request among jobs; it is one of them. */
+static size_t place_of(const struct job *jobs, uint64_t guest, uint64_t id)
+{
+    size_t place = 0;
+    while (jobs[place].guest != guest || jobs[place].id != id)
+        place++;
+    return place;
+}
+
+static struct job take_out(struct job *jobs, size_t *count, size_t place)
+{
+    struct job taken = jobs[place];
+    *count -= 1;
+    for (; place < *count; place++)
+        jobs[place] = jobs[place + 1];
+    return taken;
+}
+
+static void note_wait(struct waits *waits, uint64_t waited)
+{
+    waits->sent += 1;
+    waits->total += waited;
+    if (waited > waits->longest)
+        waits->longest = waited;
+}
+
+/* Sends the request that the answer names to the array. */
+static void send_one(struct host *host, sgq_answer answer, uint64_t now)
+{
+    size_t place = place_of(host->asked, answer.guest, answer.id);
+    struct job job = take_out(host->asked, &host->asked_count, place);
+    size_t phase = answer.kind == SGQ_SENT_BY_RESERVATION ? 0 : 1;
+    note_wait(&host->waits[job.guest][phase], now - job.time);
+    const struct service *takes = &service[job.guest];
+    job.time = now + (takes->least + job.id % (takes->more + 1)) * MS;
+    host->busy[host->busy_count++] = job;
+}
+
+/* An event sends at most one request, so as long as one goes the gate is asked for another. */
+static void send_all(struct host *host, sgq_answer answer, uint64_t now)
+{
+    while (sgq_sent(answer)) {
+        send_one(host, answer, now);
+        answer = sgq_tables_tick(&host->lent, now);
+    }
+    if (answer.kind == SGQ_REFUSED)
+        stop("a tick", answer);
+}
+
+static void arrive(struct host *host, uint64_t now)
+{
+    const struct arrivals *row = &day[host->row];
+    struct job job = {row->guest, row->first + host->within, now};
+    host->within += 1;
+    if (host->within == row->count) {
+        host->row += 1;
+        host->within = 0;
+    }
+    sgq_answer answer = sgq_tables_arrive(&host->lent, job.guest, (uint32_t)job.id, now);
+    if (answer.kind == SGQ_REFUSED) { /* nothing has changed, so the host goes on */
+        printf("refused: %s, id %" PRIu64 " at %" PRIu64 " ms: %" PRIu64 ", %s\n\n", guest_name[job.guest], job.id,
+               now / MS, answer.refusal, sgq_refusal_text(answer.refusal));
+        return;
+    }
+    host->asked[host->asked_count++] = job;
+    send_all(host, answer, now);
+}
+
+/* The place at the array of the request that is done first. */
+static size_t first_done(const struct host *host)
+{
+    size_t first = 0;
+    for (size_t place = 1; place < host->busy_count; place++)
+        if (host->busy[place].time < host->busy[first].time)
+            first = place;
+    return first;
+}
+
+static void complete(struct host *host, uint64_t now)
+{
+    struct job job = take_out(host->busy, &host->busy_count, first_done(host));
+    sgq_answer answer = sgq_tables_complete(&host->lent, job.guest, (uint32_t)job.id, now);
+    if (answer.kind == SGQ_REFUSED)
+        stop("a completion", answer);
+    send_all(host, answer, now);
+}
+
+static uint64_t sooner(uint64_t a, uint64_t b)
+{
+    return a < b ? a : b;
+}
+
+/* When a tick may next send something: with a place free and nothing due now, at the first tag of those that wait. A
+ * request with no limit never waits for one. */
+static uint64_t next_wake(const struct host *host)
+{
+    uint64_t wake = NEVER;
+    if (host->gate.flight == host->gate.depth)
+        return NEVER;
+    for (size_t place = 0; place < host->gate.waiting; place++) {
+        const sgq_request *request = &host->waiting[place];
+        const sgq_guest *guest = &host->guests[request->guest];
+        if (guest->reservation != 0)
+            wake = sooner(wake, request->rtag);
+        if (guest->limit != 0)
+            wake = sooner(wake, request->ltag);
+    }
+    return wake;
+}
+
+/* Plays the day to its end. At equal times what is done goes first, then what arrives. */
+static void play(struct host *host)
+{
+    for (;;) {
+        uint64_t done = host->busy_count > 0 ? host->busy[first_done(host)].time : NEVER;
+        uint64_t arrival = host->row < ROWS ? day[host->row].ms * MS : NEVER;
+        uint64_t wake = next_wake(host);
+        uint64_t now = sooner(done, sooner(arrival, wake));
+        if (now == NEVER)
+            return;
+        if (now == done)
+            complete(host, now);
+        else if (now == arrival)
+            arrive(host, now);
+        else
+            send_all(host, sgq_tables_tick(&host->lent, now), now);
+    }
+}
+
+/* Nanoseconds as ms, to the microsecond. */
+static void print_ms(uint64_t nanoseconds)
+{
+    printf("%8" PRIu64 ".%03" PRIu64, nanoseconds / MS, nanoseconds / 1000 % 1000);
+}
+
+static void print_waits(const struct host *host)
+{
+    printf("guest        phase        sent     mean ms  longest ms\n");
+    for (size_t guest = 0; guest < GUESTS; guest++)
+        for (size_t phase = 0; phase < PHASES; phase++) {
+            const struct waits *waits = &host->waits[guest][phase];
+            if (waits->sent == 0)
+                continue;
+            printf("%-11s  %-11s  %4" PRIu64, guest_name[guest], phase_name[phase], waits->sent);
+            print_ms(waits->total / waits->sent);
+            print_ms(waits->longest);
+            printf("\n");
+        }
+}
+
+int main(void)
+{
+    static struct host host; /* zeros */
+    open_gate(&host);
+    play(&host);
+    print_waits(&host);
+    return 0;
+}

@@ -1,0 +1,271 @@
+/* sgq.h: the proved disc gate, for a host in C99 or C++.
+ *
+ * The gate holds the requests of 1 to 64 guests for one disc array and decides, after each event, whether one goes to
+ * the array: at most one. Events are an arrival (guest, id, time), a completion (guest, id, time) and a tick (time).
+ * The rules are document 01's; words in quotes are that document's own.
+ *
+ * The library keeps nothing between calls. The host lends it the gate and three tables at each call, and must not
+ * change them in between: every call tests that they are sound and refuses with a number where they are not. "Every
+ * refusal changes no lent number and not the time."
+ *
+ * What the host owes, since C does not check it:
+ * - A pointer is never NULL, points to 64-bit numbers, and the length beside it is true. A length is a count of numbers
+ *   in the calls, and a count of records in the helpers below.
+ * - The gate and the tables do not overlap, and nobody else reads or writes them during a call. Calls on different
+ *   gates may run at the same time.
+ *
+ * Link with libhost.a, which is for x86-64 Linux: cc -Iinclude host.c target/staticlib/libhost.a
+ */
+#ifndef SGQ_H
+#define SGQ_H
+
+#include <stddef.h>
+#include <stdint.h>
+
+#ifdef __cplusplus
+extern "C" {
+#endif
+
+/* "Time and tags are whole nanoseconds, 0 to 4,611,686,018,427,387,903 (2^62 - 1, the ceiling)." */
+#define SGQ_CEILING UINT64_C(4611686018427387903)
+
+/* "Depth (places at the array) 1 to 64", "requests of 1 to 64 guests", "Capacity (waiting places) 1 to 1,024." */
+#define SGQ_MOST_DEPTH 64
+#define SGQ_MOST_GUESTS 64
+#define SGQ_MOST_CAPACITY 1024
+
+/* "reservation 0 to 1,000,000 per second, 0 meaning none; limit 0 to 1,000,000 per second, 0 meaning unlimited; shares
+ * 1 to 1,000,000." */
+#define SGQ_MOST_RATE 1000000
+
+/* How many 64-bit numbers each record has; the structs below are these rows. */
+#define SGQ_GATE_NUMBERS 6
+#define SGQ_SETTINGS_NUMBERS 3
+#define SGQ_GUEST_NUMBERS 6
+#define SGQ_REQUEST_NUMBERS 5
+#define SGQ_FLIGHT_NUMBERS 2
+
+/* The gate: what it was opened with, the time and the counts. "A fresh table has time 0, nothing waiting or in
+ * flight". */
+typedef struct sgq_gate {
+    uint64_t depth;    /* places at the array */
+    uint64_t guests;   /* how many; they are numbered from 0 */
+    uint64_t capacity; /* waiting places */
+    uint64_t time;     /* of the last accepted event, in nanoseconds */
+    uint64_t waiting;  /* how many requests wait */
+    uint64_t flight;   /* how many are in flight, that is at the array */
+} sgq_gate;
+
+/* A guest's settings, as opening takes them. "A reservation above a non-zero limit is bad; equal is good." */
+typedef struct sgq_settings {
+    uint64_t reservation; /* requests per second, 0: none */
+    uint64_t limit;       /* requests per second, 0: unlimited */
+    uint64_t shares;      /* of what is left when the reservations are served */
+} sgq_settings;
+
+/* "A guest record holds its settings and three next numbers: the tag its next request would get were time not looked
+ * at." Without a reservation rnext is 0 and means nothing; so lnext of an unlimited guest. */
+typedef struct sgq_guest {
+    uint64_t reservation; /* requests per second, 0: none */
+    uint64_t limit;       /* requests per second, 0: unlimited */
+    uint64_t shares;      /* of what is left when the reservations are served */
+    uint64_t rnext;       /* the next reservation number */
+    uint64_t lnext;       /* the next limit number */
+    uint64_t snext;       /* the next share number */
+} sgq_guest;
+
+/* A waiting request. "Waiting requests stand in order of acceptance; when one is sent, the requests behind it move down
+ * one place." The tags are times in nanoseconds; those that the guest does not have are 0 and mean nothing. */
+typedef struct sgq_request {
+    uint64_t guest; /* its number, from 0 */
+    uint64_t id;    /* 32 bits, the guest's own */
+    uint64_t rtag;  /* reservation tag: at or before the time the request is due by reservation */
+    uint64_t ltag;  /* limit tag: at or before the time it may go by weight */
+    uint64_t stag;  /* share tag: by weight the smallest goes first */
+} sgq_request;
+
+/* A request in flight. "Requests in flight stand in order of sending and close up in the same way." */
+typedef struct sgq_flight {
+    uint64_t guest;
+    uint64_t id;
+} sgq_flight;
+
+/* What a call answers. Guest and id name the request sent and are 0 where none was; refusal is 0 where nothing was
+ * refused. */
+typedef struct sgq_answer {
+    uint64_t kind; /* enum sgq_kind */
+    uint64_t guest;
+    uint64_t id;
+    uint64_t refusal; /* enum sgq_refusal */
+} sgq_answer;
+
+/* The kinds of answer. */
+enum sgq_kind {
+    SGQ_NOTHING = 0,             /* accepted (at opening: opened), and nothing is sent */
+    SGQ_SENT_BY_RESERVATION = 1, /* accepted, and "of the waiting requests with a reservation tag at or before t, the
+                                  * one with the smallest, ties to the earlier accepted" is sent */
+    SGQ_SENT_BY_WEIGHT = 2,      /* accepted, none was due, and "of those that are unlimited or have a limit tag at or
+                                  * before t, the one with the smallest share tag, same tie rule" is sent */
+    SGQ_REFUSED = 3              /* refused, and nothing has changed */
+};
+
+/* The refusal numbers, each with the condition of document 01's table. Where several hold, the first in the call's
+ * order is given:
+ *   opening     depth, guests and capacity (1), lengths (2), guest settings (1)
+ *   arrival     2, 3, 4, 5, 6, 7, 8, 9
+ *   completion  2, 3, 4, 5, 6, 10
+ *   tick        2, 3, 5, 6
+ * "Settings inside an open table are judged by 3; to know the lengths needed, guests, depth and capacity out of range
+ * give 3 at once." */
+enum sgq_refusal {
+    SGQ_REFUSED_SETTING = 1,            /* "a setting is out of range, when opening" */
+    SGQ_REFUSED_SHORT_TABLE = 2,        /* "a lent table, or at opening the lent list of guest settings, is shorter than
+                                         * the settings need" */
+    SGQ_REFUSED_NOT_SOUND = 3,          /* "the table is not sound" */
+    SGQ_REFUSED_UNKNOWN_GUEST = 4,      /* "unknown guest" */
+    SGQ_REFUSED_TIME_ABOVE_CEILING = 5, /* "time above the ceiling" */
+    SGQ_REFUSED_TIME_BEFORE_LAST = 6,   /* "time before the last accepted time" */
+    SGQ_REFUSED_ID_IN_USE = 7,          /* "arrival: guest has this id waiting or in flight" */
+    SGQ_REFUSED_WAITING_FULL = 8,       /* "arrival: waiting count equals capacity" */
+    SGQ_REFUSED_TAG_ABOVE_CEILING = 9,  /* "arrival: a tag given, or a share tag moved, would pass the ceiling" */
+    SGQ_REFUSED_NOT_IN_FLIGHT = 10,     /* "completion: guest has no such id in flight" */
+
+    /* Only the program that reads a trace gives the rest; no call does. */
+    SGQ_REFUSED_TRACE_MARK = 11,       /* "trace mark" */
+    SGQ_REFUSED_TRACE_VERSION = 12,    /* "trace version" */
+    SGQ_REFUSED_TRACE_HEADER_CUT = 13, /* "trace header cut short" */
+    SGQ_REFUSED_TRACE_EVENT_KIND = 14, /* "event kind above 2, or a tick with non-zero guest or id" */
+    SGQ_REFUSED_TRACE_EVENT_CUT = 15   /* "last event cut short" */
+};
+
+/* The calls. A table is a pointer to numbers and how many there are; it may be longer than the settings need: "Places
+ * beyond what the settings need are neither read nor changed, at opening too." The needs are 6 numbers for the gate,
+ * 6 for each guest, 5 for each of the capacity's waiting places and 2 for each of the depth's places in flight. */
+
+/* Opens a gate: the answer is SGQ_NOTHING, or refused with 1 or 2. Settings are 3 numbers a guest. The gate and the
+ * tables may hold anything before; after it, "a fresh table has time 0, nothing waiting or in flight, all next numbers
+ * 0", and "every place past the count holds zeros". */
+sgq_answer sgq_open(uint64_t *gate, uint64_t depth, uint64_t guests, uint64_t capacity,
+                    const uint64_t *settings, size_t settings_length,
+                    uint64_t *guest_table, size_t guest_table_length,
+                    uint64_t *waiting, size_t waiting_length,
+                    uint64_t *flight, size_t flight_length);
+
+/* A request arrives: it gets its tags, "is placed last among the waiting, then the choice is made". What is sent need
+ * not be what arrived. "An id may be used again after its completion." */
+sgq_answer sgq_arrive(uint64_t *gate,
+                      uint64_t *guest_table, size_t guest_table_length,
+                      uint64_t *waiting, size_t waiting_length,
+                      uint64_t *flight, size_t flight_length,
+                      uint64_t guest, uint32_t id, uint64_t time);
+
+/* "A completion takes the named request out of flight, then the choice is made." */
+sgq_answer sgq_complete(uint64_t *gate,
+                        uint64_t *guest_table, size_t guest_table_length,
+                        uint64_t *waiting, size_t waiting_length,
+                        uint64_t *flight, size_t flight_length,
+                        uint64_t guest, uint32_t id, uint64_t time);
+
+/* "A tick only sets the time and makes the choice." With places free a host ticks again after each send, until nothing
+ * is sent, and then when the next waiting reservation or limit tag is reached. */
+sgq_answer sgq_tick(uint64_t *gate,
+                    uint64_t *guest_table, size_t guest_table_length,
+                    uint64_t *waiting, size_t waiting_length,
+                    uint64_t *flight, size_t flight_length,
+                    uint64_t time);
+
+/* What a host lends, in records: the helpers take this and turn counts of records into lengths. A count says how many
+ * records the table has room for, not how many it holds. */
+typedef struct sgq_tables {
+    sgq_gate *gate;
+    sgq_guest *guests;
+    size_t guest_count;
+    sgq_request *waiting;
+    size_t waiting_count;
+    sgq_flight *flight;
+    size_t flight_count;
+} sgq_tables;
+
+/* sgq_open over records. */
+static inline sgq_answer sgq_tables_open(const sgq_tables *lent, uint64_t depth, uint64_t guests, uint64_t capacity,
+                                         const sgq_settings *settings, size_t settings_count)
+{
+    return sgq_open(&lent->gate->depth, depth, guests, capacity,
+                    &settings->reservation, settings_count * SGQ_SETTINGS_NUMBERS,
+                    &lent->guests->reservation, lent->guest_count * SGQ_GUEST_NUMBERS,
+                    &lent->waiting->guest, lent->waiting_count * SGQ_REQUEST_NUMBERS,
+                    &lent->flight->guest, lent->flight_count * SGQ_FLIGHT_NUMBERS);
+}
+
+/* sgq_arrive over records. */
+static inline sgq_answer sgq_tables_arrive(const sgq_tables *lent, uint64_t guest, uint32_t id, uint64_t time)
+{
+    return sgq_arrive(&lent->gate->depth,
+                      &lent->guests->reservation, lent->guest_count * SGQ_GUEST_NUMBERS,
+                      &lent->waiting->guest, lent->waiting_count * SGQ_REQUEST_NUMBERS,
+                      &lent->flight->guest, lent->flight_count * SGQ_FLIGHT_NUMBERS,
+                      guest, id, time);
+}
+
+/* sgq_complete over records. */
+static inline sgq_answer sgq_tables_complete(const sgq_tables *lent, uint64_t guest, uint32_t id, uint64_t time)
+{
+    return sgq_complete(&lent->gate->depth,
+                        &lent->guests->reservation, lent->guest_count * SGQ_GUEST_NUMBERS,
+                        &lent->waiting->guest, lent->waiting_count * SGQ_REQUEST_NUMBERS,
+                        &lent->flight->guest, lent->flight_count * SGQ_FLIGHT_NUMBERS,
+                        guest, id, time);
+}
+
+/* sgq_tick over records. */
+static inline sgq_answer sgq_tables_tick(const sgq_tables *lent, uint64_t time)
+{
+    return sgq_tick(&lent->gate->depth,
+                    &lent->guests->reservation, lent->guest_count * SGQ_GUEST_NUMBERS,
+                    &lent->waiting->guest, lent->waiting_count * SGQ_REQUEST_NUMBERS,
+                    &lent->flight->guest, lent->flight_count * SGQ_FLIGHT_NUMBERS,
+                    time);
+}
+
+/* Whether the answer names a request that now goes to the array. */
+static inline int sgq_sent(sgq_answer answer)
+{
+    return answer.kind == SGQ_SENT_BY_RESERVATION || answer.kind == SGQ_SENT_BY_WEIGHT;
+}
+
+/* A refusal in document 01's words, for logs; a number that it does not have is "no refusal". */
+static inline const char *sgq_refusal_text(uint64_t refusal)
+{
+    switch (refusal) {
+    case SGQ_REFUSED_SETTING: return "a setting is out of range";
+    case SGQ_REFUSED_SHORT_TABLE: return "a lent table is shorter than the settings need";
+    case SGQ_REFUSED_NOT_SOUND: return "the table is not sound";
+    case SGQ_REFUSED_UNKNOWN_GUEST: return "unknown guest";
+    case SGQ_REFUSED_TIME_ABOVE_CEILING: return "time above the ceiling";
+    case SGQ_REFUSED_TIME_BEFORE_LAST: return "time before the last accepted time";
+    case SGQ_REFUSED_ID_IN_USE: return "guest has this id waiting or in flight";
+    case SGQ_REFUSED_WAITING_FULL: return "waiting count equals capacity";
+    case SGQ_REFUSED_TAG_ABOVE_CEILING: return "a tag given, or a share tag moved, would pass the ceiling";
+    case SGQ_REFUSED_NOT_IN_FLIGHT: return "guest has no such id in flight";
+    case SGQ_REFUSED_TRACE_MARK: return "trace mark";
+    case SGQ_REFUSED_TRACE_VERSION: return "trace version";
+    case SGQ_REFUSED_TRACE_HEADER_CUT: return "trace header cut short";
+    case SGQ_REFUSED_TRACE_EVENT_KIND: return "event kind above 2, or a tick with non-zero guest or id";
+    case SGQ_REFUSED_TRACE_EVENT_CUT: return "last event cut short";
+    default: return "no refusal";
+    }
+}
+
+/* The structs are the rows, with nothing between the numbers: these lines do not compile where that fails. */
+typedef char sgq_gate_is_its_row[sizeof(sgq_gate) == SGQ_GATE_NUMBERS * sizeof(uint64_t) ? 1 : -1];
+typedef char sgq_settings_is_its_row[sizeof(sgq_settings) == SGQ_SETTINGS_NUMBERS * sizeof(uint64_t) ? 1 : -1];
+typedef char sgq_guest_is_its_row[sizeof(sgq_guest) == SGQ_GUEST_NUMBERS * sizeof(uint64_t) ? 1 : -1];
+typedef char sgq_request_is_its_row[sizeof(sgq_request) == SGQ_REQUEST_NUMBERS * sizeof(uint64_t) ? 1 : -1];
+typedef char sgq_flight_is_its_row[sizeof(sgq_flight) == SGQ_FLIGHT_NUMBERS * sizeof(uint64_t) ? 1 : -1];
+typedef char sgq_answer_is_four_numbers[sizeof(sgq_answer) == 4 * sizeof(uint64_t) ? 1 : -1];
+
+#ifdef __cplusplus
+}
+#endif
+
+#endif

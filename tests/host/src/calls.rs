@@ -1,0 +1,189 @@
+//! One call, made of the library and of the second program on the same tables, and what differs afterwards.
+
+use crate::fence::Fenced;
+use second::calls::table_refusal;
+use second::sample::Owned;
+use second::{first_broken, Answer, Phase, Rule};
+use sgq::raw;
+
+#[derive(Clone, Debug)]
+pub enum Call {
+    Open(Opening),
+    Arrive { guest: u64, id: u32, time: u64 },
+    Complete { guest: u64, id: u32, time: u64 },
+    Tick { time: u64 },
+}
+
+#[derive(Clone, Debug)]
+pub struct Opening {
+    pub depth: u64,
+    pub guests: u64,
+    pub capacity: u64,
+    pub settings: Vec<u64>,
+}
+
+/// Where the tables stand while they are lent to the library.
+pub struct Fences {
+    gate: Fenced,
+    settings: Fenced,
+    guests: Fenced,
+    waiting: Fenced,
+    flight: Fenced,
+}
+
+impl Fences {
+    pub fn new() -> Fences {
+        Fences {
+            gate: Fenced::new(),
+            settings: Fenced::new(),
+            guests: Fenced::new(),
+            waiting: Fenced::new(),
+            flight: Fenced::new(),
+        }
+    }
+}
+
+/// Makes the call of both, the tables being left as the second program leaves them. Gives its answer, or what differs.
+pub fn hold(call: &Call, tables: &mut Owned, fences: &mut Fences) -> Result<raw::Answer, String> {
+    let before = tables.clone();
+    let mut ours = before.clone();
+    let answer = of_library(call, &mut ours, fences).map_err(|why| format!("{call:?}: {why}"))?;
+    let expected = of_second(call, tables);
+    match difference(answer, expected, &before, &ours, tables) {
+        None => Ok(expected),
+        Some(why) => Err(format!("{call:?}: {why}{}", judgement(call, &before))),
+    }
+}
+
+/// The library's answer, or which memory beside the tables it changed.
+fn of_library(
+    call: &Call,
+    tables: &mut Owned,
+    fences: &mut Fences,
+) -> Result<raw::Answer, &'static str> {
+    let gate = fences.gate.put(&tables.gate);
+    let guests = fences.guests.put(&tables.guests);
+    let waiting = fences.waiting.put(&tables.waiting);
+    let flight = fences.flight.put(&tables.flight);
+    let (g, w, f) = (
+        tables.guests.len(),
+        tables.waiting.len(),
+        tables.flight.len(),
+    );
+    // SAFETY: six numbers of the gate and the tables as long as they are, each in memory of its own.
+    let answer = unsafe {
+        match call {
+            Call::Open(o) => {
+                let settings = fences.settings.put(&o.settings);
+                let s = o.settings.len();
+                raw::sgq_open(
+                    gate, o.depth, o.guests, o.capacity, settings, s, guests, g, waiting, w,
+                    flight, f,
+                )
+            }
+            &Call::Arrive { guest, id, time } => {
+                raw::sgq_arrive(gate, guests, g, waiting, w, flight, f, guest, id, time)
+            }
+            &Call::Complete { guest, id, time } => {
+                raw::sgq_complete(gate, guests, g, waiting, w, flight, f, guest, id, time)
+            }
+            &Call::Tick { time } => raw::sgq_tick(gate, guests, g, waiting, w, flight, f, time),
+        }
+    };
+    taken_back(call, tables, fences)?;
+    Ok(answer)
+}
+
+fn taken_back(call: &Call, tables: &mut Owned, fences: &mut Fences) -> Result<(), &'static str> {
+    let marks = [
+        fences.gate.take(&mut tables.gate),
+        fences.guests.take(&mut tables.guests),
+        fences.waiting.take(&mut tables.waiting),
+        fences.flight.take(&mut tables.flight),
+    ];
+    if marks.contains(&false) {
+        return Err("the library wrote before the beginning of a table");
+    }
+    if let Call::Open(opening) = call {
+        let mut settings = opening.settings.clone();
+        if !fences.settings.take(&mut settings) || settings != opening.settings {
+            return Err("the library changed the settings");
+        }
+    }
+    Ok(())
+}
+
+fn of_second(call: &Call, tables: &mut Owned) -> raw::Answer {
+    let mut lent = tables.lend();
+    four_numbers(match call {
+        Call::Open(o) => second::open(o.depth, o.guests, o.capacity, &o.settings, &mut lent),
+        &Call::Arrive { guest, id, time } => second::arrive(&mut lent, guest, id, time),
+        &Call::Complete { guest, id, time } => second::complete(&mut lent, guest, id, time),
+        &Call::Tick { time } => second::tick(&mut lent, time),
+    })
+}
+
+/// The second program's answer as the C interface gives it.
+fn four_numbers(answer: Answer) -> raw::Answer {
+    let (kind, guest, id, refusal) = match answer {
+        Answer::Nothing => (0, 0, 0, 0),
+        Answer::Sent { phase, guest, id } => match phase {
+            Phase::Reservation => (1, guest, id, 0),
+            Phase::Weight => (2, guest, id, 0),
+        },
+        Answer::Refused(number) => (3, 0, 0, number as u64),
+    };
+    raw::Answer {
+        kind,
+        guest,
+        id,
+        refusal,
+    }
+}
+
+/// What differs between the two, the first number of each table.
+fn difference(
+    answer: raw::Answer,
+    expected: raw::Answer,
+    before: &Owned,
+    ours: &Owned,
+    theirs: &Owned,
+) -> Option<String> {
+    let mut found = Vec::new();
+    if answer != expected {
+        found.push(format!(
+            "the library answers {answer:?}, second {expected:?}"
+        ));
+    }
+    let tables = [
+        ("gate", &before.gate, &ours.gate, &theirs.gate),
+        ("guest table", &before.guests, &ours.guests, &theirs.guests),
+        ("waiting", &before.waiting, &ours.waiting, &theirs.waiting),
+        ("flight", &before.flight, &ours.flight, &theirs.flight),
+    ];
+    for (name, before, ours, theirs) in tables {
+        if let Some(at) = (0..ours.len()).find(|&at| ours[at] != theirs[at]) {
+            let (was, has, wants) = (before[at], ours[at], theirs[at]);
+            found.push(format!(
+                "{name} number {at} was {was}, the library leaves {has}, second {wants}"
+            ));
+        }
+    }
+    (!found.is_empty()).then(|| found.join("; "))
+}
+
+/// How the second program judges the tables that were handed over.
+fn judgement(call: &Call, before: &Owned) -> String {
+    match (call, broken_rule(before)) {
+        (Call::Open(_), _) | (_, None) => String::new(),
+        (_, Some(rule)) => format!("; second finds broken: {rule:?}"),
+    }
+}
+
+/// The first rule of soundness that lent tables break, where they are long enough to ask.
+pub fn broken_rule(tables: &Owned) -> Option<Rule> {
+    match table_refusal(&tables.view()) {
+        Some(3) => first_broken(&tables.view()),
+        _ => None,
+    }
+}

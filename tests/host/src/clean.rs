@@ -1,0 +1,68 @@
+//! Sound tables through many calls: a gate is opened and the events of a random trace are played on it.
+
+use crate::calls::{hold, Call, Fences, Opening};
+use crate::tally::Seen;
+use second::kinds::trace;
+use second::sample::Owned;
+use second::tables::{FLIGHT_NUMBERS, GATE_NUMBERS, GUEST_NUMBERS, WAITING_NUMBERS};
+use second::trace::{Event, EVENT_BYTES, GUEST_BYTES, START_BYTES};
+
+/// Numbers past the need of each table, which must stay as they are.
+const REST: usize = 3;
+
+/// Plays the opening and the first events of a trace; gives the tables then, or what differs first.
+pub fn play(
+    kind: &str,
+    seed: u64,
+    most: usize,
+    fences: &mut Fences,
+    seen: &mut Seen,
+) -> Result<Owned, String> {
+    let bytes = trace(kind, seed).ok_or("there is no such kind of trace")?;
+    let opening = opening(&bytes);
+    let events = &bytes[START_BYTES + opening.guests as usize * GUEST_BYTES..];
+    let mut tables = dusty(&opening);
+    let mut make = |call: &Call, number: usize| {
+        let answer =
+            hold(call, &mut tables, fences).map_err(|why| format!("event {number}, {why}"))?;
+        seen.note(answer);
+        Ok::<(), String>(())
+    };
+    make(&Call::Open(opening), 0)?;
+    for (number, event) in events.chunks_exact(EVENT_BYTES).take(most).enumerate() {
+        make(&call(event), number + 1)?;
+    }
+    Ok(tables)
+}
+
+/// What the header of a good trace asks for.
+fn opening(bytes: &[u8]) -> Opening {
+    let guests = bytes[6] as usize;
+    let records = &bytes[START_BYTES..START_BYTES + guests * GUEST_BYTES];
+    let number = |b: &[u8]| u32::from_le_bytes([b[0], b[1], b[2], b[3]]) as u64;
+    Opening {
+        depth: bytes[5] as u64,
+        guests: guests as u64,
+        capacity: u16::from_le_bytes([bytes[7], bytes[8]]) as u64,
+        settings: records.chunks_exact(4).map(number).collect(),
+    }
+}
+
+fn dusty(opening: &Opening) -> Owned {
+    Owned::dusty(
+        GATE_NUMBERS,
+        opening.guests as usize * GUEST_NUMBERS + REST,
+        opening.capacity as usize * WAITING_NUMBERS + REST,
+        opening.depth as usize * FLIGHT_NUMBERS + REST,
+    )
+}
+
+fn call(bytes: &[u8]) -> Call {
+    let event = Event::from_bytes(bytes.try_into().expect("a whole event"));
+    let (guest, id, time) = (event.guest as u64, event.id, event.time);
+    match event.kind {
+        0 => Call::Arrive { guest, id, time },
+        1 => Call::Complete { guest, id, time },
+        _ => Call::Tick { time },
+    }
+}

@@ -1,0 +1,202 @@
+//! Random tables, most of them damaged, and random calls on them.
+
+use crate::calls::{Call, Opening};
+use second::numbers::{CEILING, MOST_RATE};
+use second::sample::{sound_tables, spoil, Owned, Prng};
+use second::tables::{FLIGHT_NUMBERS, GATE_NUMBERS, GUEST_NUMBERS, WAITING_NUMBERS};
+
+/// Tables with no damage or up to three.
+pub fn tables(rng: &mut Prng) -> Owned {
+    let mut tables = sound_tables(rng);
+    tables.gate.truncate(GATE_NUMBERS);
+    for _ in 0..rng.pick(&[0, 0, 0, 1, 1, 1, 2, 3]) {
+        damage(rng, &mut tables);
+    }
+    tables
+}
+
+/// One damage, or none that can be seen.
+pub fn damage(rng: &mut Prng, tables: &mut Owned) {
+    match rng.below(10) {
+        0 => rubbish(rng, tables),
+        1 => cut(rng, tables),
+        2..=3 => repeat_id(rng, tables),
+        _ => spoil_lent(rng, tables),
+    }
+}
+
+/// Any number of any table or of the gate changed, or a table cut anywhere. The gate keeps its six numbers, which the C
+/// interface always lends.
+fn spoil_lent(rng: &mut Prng, tables: &mut Owned) {
+    let gate = tables.gate.clone();
+    spoil(rng, tables);
+    if tables.gate.len() < gate.len() {
+        tables.gate = gate;
+    }
+}
+
+/// Places past the need filled with rubbish.
+fn rubbish(rng: &mut Prng, tables: &mut Owned) {
+    let table = some_table(rng, tables);
+    for _ in 0..rng.between(1, 20) {
+        table.push(rng.sized(64));
+    }
+}
+
+/// A table cut by one number, by a row or so, or to nothing.
+fn cut(rng: &mut Prng, tables: &mut Owned) {
+    let table = some_table(rng, tables);
+    let gone = rng.pick(&[1, 1, 2, 5, 6, table.len()]);
+    table.truncate(table.len().saturating_sub(gone));
+}
+
+fn some_table<'a>(rng: &mut Prng, tables: &'a mut Owned) -> &'a mut Vec<u64> {
+    match rng.below(3) {
+        0 => &mut tables.guests,
+        1 => &mut tables.waiting,
+        _ => &mut tables.flight,
+    }
+}
+
+/// One request gets the id of another of its guest; one in flight also the guest. Nothing else is wrong then.
+fn repeat_id(rng: &mut Prng, tables: &mut Owned) {
+    let all = rows(tables);
+    if all.is_empty() {
+        return;
+    }
+    match rng.pick(&all) {
+        Row::Waiting(at) => {
+            let guest = tables.waiting[at];
+            let like = all.into_iter().filter(|row| row.guest(tables) == guest);
+            let like: Vec<_> = like.collect();
+            tables.waiting[at + 1] = rng.pick(&like).id(tables);
+        }
+        Row::Flight(at) => {
+            let from = rng.pick(&all);
+            let (guest, id) = (from.guest(tables), from.id(tables));
+            tables.flight[at..at + FLIGHT_NUMBERS].copy_from_slice(&[guest, id]);
+        }
+    }
+}
+
+/// Where a request begins in its table.
+#[derive(Clone, Copy)]
+enum Row {
+    Waiting(usize),
+    Flight(usize),
+}
+
+impl Row {
+    fn guest(self, tables: &Owned) -> u64 {
+        match self {
+            Row::Waiting(at) => tables.waiting[at],
+            Row::Flight(at) => tables.flight[at],
+        }
+    }
+
+    fn id(self, tables: &Owned) -> u64 {
+        match self {
+            Row::Waiting(at) => tables.waiting[at + 1],
+            Row::Flight(at) => tables.flight[at + 1],
+        }
+    }
+}
+
+/// The requests that the gate counts, as far as the tables reach.
+fn rows(tables: &Owned) -> Vec<Row> {
+    let places = |length: usize, row: usize, count: u64| {
+        (0..(length / row).min(count as usize)).map(move |place| place * row)
+    };
+    let waiting = places(tables.waiting.len(), WAITING_NUMBERS, tables.gate[4]);
+    let flight = places(tables.flight.len(), FLIGHT_NUMBERS, tables.gate[5]);
+    waiting
+        .map(Row::Waiting)
+        .chain(flight.map(Row::Flight))
+        .collect()
+}
+
+/// The four calls, each with numbers that have to do with the tables.
+pub fn calls(rng: &mut Prng, tables: &Owned) -> [Call; 4] {
+    let (guest, id) = named(rng, tables);
+    let time = time(rng, tables);
+    let arrive = Call::Arrive { guest, id, time };
+    let (guest, id) = named(rng, tables);
+    let time = self::time(rng, tables);
+    let complete = Call::Complete { guest, id, time };
+    let time = self::time(rng, tables);
+    let tick = Call::Tick { time };
+    [Call::Open(opening(rng, tables)), arrive, complete, tick]
+}
+
+/// A guest and an id, often of a request that the tables hold.
+fn named(rng: &mut Prng, tables: &Owned) -> (u64, u32) {
+    let guests = tables.gate[1];
+    let any_id = rng.sized(10) as u32;
+    let rows = rows(tables);
+    match rng.below(10) {
+        0 => (rng.pick(&[guests, 64, u64::MAX, guests | 1 << 32]), any_id),
+        1..=4 if !rows.is_empty() => {
+            let row = rng.pick(&rows);
+            (row.guest(tables), row.id(tables) as u32)
+        }
+        _ => (rng.below(guests.clamp(1, 64)), any_id),
+    }
+}
+
+/// A time near the gate's, near a tag, near the ceiling, or any.
+fn time(rng: &mut Prng, tables: &Owned) -> u64 {
+    let last = tables.gate[3];
+    match rng.below(16) {
+        0 => last.wrapping_sub(rng.between(1, 3)),
+        1 => rng.pick(&[CEILING, CEILING + 1, u64::MAX, CEILING - 1]),
+        2 => rng.sized(64),
+        3..=5 => last,
+        6..=9 if !tables.waiting.is_empty() => {
+            let tag = rng.pick(&tables.waiting);
+            tag.wrapping_add(rng.pick(&[0, 0, 1])).max(last)
+        }
+        _ => last.saturating_add(rng.sized(34)),
+    }
+}
+
+/// An opening for which the tables are just long enough, then often something wrong with it.
+fn opening(rng: &mut Prng, tables: &Owned) -> Opening {
+    let fits = |length: usize, row: usize, most: u64| ((length / row) as u64).clamp(1, most);
+    let guests = fits(tables.guests.len(), GUEST_NUMBERS, 64);
+    let mut opening = Opening {
+        depth: fits(tables.flight.len(), FLIGHT_NUMBERS, 64),
+        guests,
+        capacity: fits(tables.waiting.len(), WAITING_NUMBERS, 1_024),
+        settings: (0..guests).flat_map(|_| settings(rng)).collect(),
+    };
+    for _ in 0..rng.pick(&[0, 1, 1, 2]) {
+        spoil_opening(rng, &mut opening);
+    }
+    opening
+}
+
+fn settings(rng: &mut Prng) -> [u64; 3] {
+    let settings = second::sample::any_settings(rng);
+    [settings.reservation, settings.limit, settings.shares]
+}
+
+fn spoil_opening(rng: &mut Prng, opening: &mut Opening) {
+    let out = [0, 65, 1_025, u64::MAX, 1 << 32 | 1];
+    let listed = opening.settings.len();
+    match rng.below(10) {
+        0 => opening.depth = rng.pick(&out),
+        1 => opening.guests = rng.pick(&out),
+        2 => opening.capacity = rng.pick(&out),
+        // One more than a table has room for.
+        3 => opening.depth += 1,
+        4 => opening.guests += 1,
+        5 => opening.capacity += 1,
+        6 => opening.settings.truncate(listed.saturating_sub(1)),
+        7 => opening.settings.push(rng.sized(64)),
+        _ if listed > 0 => {
+            let at = rng.below(listed as u64) as usize;
+            opening.settings[at] = rng.pick(&[0, 1, MOST_RATE, MOST_RATE + 1, u64::MAX]);
+        }
+        _ => {}
+    }
+}

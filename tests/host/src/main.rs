@@ -1,0 +1,165 @@
+//! Hands random tables, most of them damaged, to each call of the library through the C interface, and compares the
+//! answer and every number of every table afterwards with the second program; then plays whole runs on sound tables.
+//!
+//!     host-tests [FIRST]     the seeds begin at FIRST, 1 where none is named
+//!
+//! A failure names the seed, the call and what differs. Ends with 'N passed, M failed'.
+
+mod calls;
+mod clean;
+mod damage;
+mod fence;
+mod tally;
+
+use calls::{broken_rule, hold, Fences};
+use second::sample::{Owned, Prng};
+use second::Rule;
+use std::process::ExitCode;
+use tally::{Seen, Tally};
+
+/// Seeds of damaged tables, small and large, with four calls each.
+const SEEDS: usize = 10_000;
+const LARGE_SEEDS: usize = 400;
+const LEAST_CALLS: u64 = 20_000;
+
+/// Kinds of traces for clean runs, how many of each, and how many events at most. The large ones come last.
+const RUNS: [(&str, usize, usize); 4] = [
+    ("small", 60, 400),
+    ("ceiling", 60, 400),
+    ("jumps", 30, 400),
+    ("large", 2, 3_000),
+];
+
+fn main() -> ExitCode {
+    let mut arguments = std::env::args().skip(1);
+    let first = arguments.next().unwrap_or("1".to_string());
+    let Ok(first) = first.parse() else {
+        eprintln!("host-tests takes one number, the first seed");
+        return ExitCode::FAILURE;
+    };
+    let mut tally = Tally::default();
+    let mut fences = Fences::new();
+    fence::watch();
+    damaged(first, &mut fences, &mut tally);
+    clean(first, &mut fences, &mut tally);
+    println!("{} passed, {} failed", tally.passed, tally.failed);
+    ExitCode::from(if tally.failed == 0 { 0 } else { 1 })
+}
+
+/// Small tables of every shape.
+fn damaged(first: u64, fences: &mut Fences, tally: &mut Tally) {
+    let mut seen = Seen::default();
+    let mut rules = Rules::default();
+    for seed in (first..).take(SEEDS) {
+        let mut rng = Prng::new(seed);
+        let tables = damage::tables(&mut rng);
+        rules.note(broken_rule(&tables));
+        let result = four_calls(seed, &mut rng, &tables, fences, &mut seen);
+        tally.add(&format!("seed {seed}"), result);
+    }
+    println!("damaged tables: {SEEDS} seeds, {} calls", seen.calls);
+    seen.print();
+    rules.print();
+    tally.add("damaged tables", seen.all_seen().and(rules.all_seen()));
+    let enough = seen.calls >= LEAST_CALLS || tally.failed > 0;
+    let too_few = || format!("only {} calls were made", seen.calls);
+    tally.add("calls", enough.then_some(()).ok_or_else(too_few));
+}
+
+/// Each of the four calls on the same tables.
+fn four_calls(
+    seed: u64,
+    rng: &mut Prng,
+    tables: &Owned,
+    fences: &mut Fences,
+    seen: &mut Seen,
+) -> Result<(), String> {
+    fence::playing(seed);
+    for call in damage::calls(rng, tables) {
+        seen.note(hold(&call, &mut tables.clone(), fences)?);
+    }
+    Ok(())
+}
+
+fn clean(first: u64, fences: &mut Fences, tally: &mut Tally) {
+    let mut seen = Seen::default();
+    let mut last = Err(String::new());
+    for (kind, runs, most) in RUNS {
+        for seed in (first..).take(runs) {
+            fence::playing(seed);
+            last = clean::play(kind, seed, most, fences, &mut seen);
+            let result = last.as_ref().map(|_| ()).map_err(String::clone);
+            tally.add(&format!("{kind} trace of seed {seed}"), result);
+        }
+    }
+    println!("clean runs: {} calls", seen.calls);
+    seen.print();
+    if let Ok(large) = last {
+        damaged_large(first, &large, fences, tally);
+    }
+}
+
+/// The tables at the end of a large run, each time with one damage.
+fn damaged_large(first: u64, large: &Owned, fences: &mut Fences, tally: &mut Tally) {
+    let mut seen = Seen::default();
+    for seed in (first..).take(LARGE_SEEDS) {
+        let mut rng = Prng::new(seed);
+        let mut tables = large.clone();
+        damage::damage(&mut rng, &mut tables);
+        let result = four_calls(seed, &mut rng, &tables, fences, &mut seen);
+        tally.add(&format!("large tables, seed {seed}"), result);
+    }
+    let waiting = large.gate[4];
+    println!(
+        "damaged tables with {waiting} waiting: {} calls",
+        seen.calls
+    );
+    seen.print();
+}
+
+/// The rules of soundness, each with how often it was the first that was broken.
+struct Rules([(Rule, u64); 12]);
+
+impl Default for Rules {
+    fn default() -> Rules {
+        use Rule::*;
+        Rules(
+            [
+                SettingsInRange,
+                CountsFit,
+                TimeAtMostCeiling,
+                GuestsExist,
+                IdsFit,
+                NoIdTwice,
+                TagsAtMostCeiling,
+                TagsSpaced,
+                NextFollowsLast,
+                IdleNextBounded,
+                MeaninglessZero,
+                UnusedZero,
+            ]
+            .map(|rule| (rule, 0)),
+        )
+    }
+}
+
+impl Rules {
+    fn note(&mut self, broken: Option<Rule>) {
+        for (rule, times) in &mut self.0 {
+            *times += u64::from(broken == Some(*rule));
+        }
+    }
+
+    fn print(&self) {
+        let lines = self.0.map(|(rule, times)| format!("{rule:?} {times}"));
+        println!("  first broken rule: {}", lines.join(", "));
+    }
+
+    /// Whether each rule was the first broken one somewhere.
+    fn all_seen(&self) -> Result<(), String> {
+        match self.0.iter().find(|(_, times)| *times == 0) {
+            Some((rule, _)) => Err(format!("{rule:?} was never the first broken rule")),
+            None => Ok(()),
+        }
+    }
+}
