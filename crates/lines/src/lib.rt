@@ -2,6 +2,7 @@
 use rules::Answer;
 use rules::Phase;
 use rules::Refusal;
+use rules::number;
 ghost use mathlib.Core.Path.{_≡_};
 ghost use mathlib.Core.List.{[], _∷_};
 ghost use Prim.Native.Nat.{_+_, _≤_, _<_};
@@ -17,29 +18,6 @@ fn letter(phase: Phase) -> u8
     match phase {
         Phase::Reservation => b'R',
         Phase::Weight => b'W',
-    }
-}
-
-// The number of a refusal.
-pub fn number(refusal: Refusal) -> u64
-    ensures { λ r. ⌜ r ≡ numberOf refusal ⌝ }
-{
-    match refusal {
-        Refusal::BadSetting => 1,
-        Refusal::ShortTable => 2,
-        Refusal::Unsound => 3,
-        Refusal::UnknownGuest => 4,
-        Refusal::TimeAboveCeiling => 5,
-        Refusal::TimeBeforeLast => 6,
-        Refusal::IdInUse => 7,
-        Refusal::NoRoom => 8,
-        Refusal::TagAboveCeiling => 9,
-        Refusal::NotInFlight => 10,
-        Refusal::BadMark => 11,
-        Refusal::BadVersion => 12,
-        Refusal::HeaderCut => 13,
-        Refusal::BadEvent => 14,
-        Refusal::EventCut => 15,
     }
 }
 

@@ -1,4 +1,6 @@
 // The types that the code and the definitions of document 01 share. What each case means to the paper is in specs/Answers.antt.
+ghost use mathlib.Core.Path.{_≡_};
+ghost use Rattle.rules.specs.Answers.{numberOf};
 
 // One guest of the lent table of records: its settings and its three next numbers.
 pub struct Guest {
@@ -56,4 +58,27 @@ pub enum Answer {
 pub struct Outcome {
     pub gate: Gate,
     pub answer: Answer,
+}
+
+// The paper's number of a refusal.
+pub fn number(refusal: Refusal) -> u64
+    ensures { λ r. ⌜ r ≡ numberOf refusal ⌝ }
+{
+    match refusal {
+        Refusal::BadSetting => 1,
+        Refusal::ShortTable => 2,
+        Refusal::Unsound => 3,
+        Refusal::UnknownGuest => 4,
+        Refusal::TimeAboveCeiling => 5,
+        Refusal::TimeBeforeLast => 6,
+        Refusal::IdInUse => 7,
+        Refusal::NoRoom => 8,
+        Refusal::TagAboveCeiling => 9,
+        Refusal::NotInFlight => 10,
+        Refusal::BadMark => 11,
+        Refusal::BadVersion => 12,
+        Refusal::HeaderCut => 13,
+        Refusal::BadEvent => 14,
+        Refusal::EventCut => 15,
+    }
 }
