@@ -10,3 +10,4 @@ pub mod Rows
 pub mod RowsLaws
 pub mod FillLaws
 pub mod Sets
+pub mod AlikeLaws

@@ -156,6 +156,15 @@ length-without k (x ∷ l) =
     let h = length-without k l in
     elim (k x) as (λ z. length (if z then l else x ∷ without k l) ≤ suc (length l)) [ true ↦ omega arith | false ↦ omega arith ]
 
+-- by one, where an entry passes
+pub length-without-one : {A : Type 0} (k : A → Bool) (l : List A) → all (λ x. not (k x)) l ≡ false → suc (length (without k l)) ≡ length l
+length-without-one k [] h = absurd (true≢false h)
+length-without-one k (x ∷ l) h = go (k x) h (length-without-one k l)
+  where
+    go : (b : Bool) → not b && all (λ x. not (k x)) l ≡ false → (all (λ x. not (k x)) l ≡ false → suc (length (without k l)) ≡ length l) → suc (length (if b then l else x ∷ without k l)) ≡ suc (length l)
+    go true h i = refl
+    go false h i = ap suc (i h)
+
 -- no entry is below the smallest
 pub lowest-all : (l : List ℕ) (m : ℕ) → m ≤ lowest l → all (leb m) l ≡ true
 unfolding lowest

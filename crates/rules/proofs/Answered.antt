@@ -25,13 +25,13 @@ use Rattle.rules.proofs.Judged.{Gives}
 use Rattle.rules.proofs.Refused.{Tells, arrival-refused, completion-refused, tick-refused}
 
 -- the answer is a refusal
-abbrev isRefused : Answer → Bool
+abbrev pub isRefused : Answer → Bool
 isRefused Nothing = false
 isRefused (Sent p g i) = false
 isRefused (Refused r) = true
 
 -- a choice refuses nothing
-unrefused : (t : Table) → isRefused (choice t .answer) ≡ false
+pub unrefused : (t : Table) → isRefused (choice t .answer) ≡ false
 unfolding choice byReservation byWeight
 unrefused t =
     elim (room t) as (λ b. isRefused ((if b then byReservation t (least (due t) Request.rtag (t .waiting)) else record { table = t; answer = Nothing }) .answer) ≡ false)

@@ -94,7 +94,7 @@ decided-waits g t e accept q = sym (enter-waits g t e) ∙ choice-waits (enter t
 decided-waits g t e (refuse r) q = append-nil (waits g t)
 
 -- what waited and what came is what left and what waits
-step-waits : (g : ℕ) (t : Table) (e : Event)
+pub step-waits : (g : ℕ) (t : Table) (e : Event)
     → waits g t ++ (if accepted t e then brings g e else []) ≡ sends g ((step t e) .answer) ++ waits g ((step t e) .table)
 unfolding step
 step-waits g t e = decided-waits g t e (verdict t e) refl

@@ -1,0 +1,11 @@
+pub mod Once
+pub mod Verdicts
+pub mod Beyond
+pub mod Unread
+pub mod Refusing
+pub mod Runs
+pub mod Order
+pub mod Demand3
+pub mod Opened
+pub mod Returns
+pub mod OpenReturns

@@ -1,0 +1,41 @@
+-- What the functions of src/numbers.rt find before a call moves anything. Their own contracts, no promise of a public call.
+use Prim.Native.Nat.{ℕ, _*_, _≤_}
+use mathlib.Core.Path.{_≡_}
+use mathlib.Core.List.{List}
+use lib.ListN.{length}
+use Rattle.rules.specs.Events.{Event}
+use Rattle.rules.specs.Refusals.{accept, refuse}
+use Rattle.rules.specs.declared.Gate.{Gate}
+use Rattle.rules.specs.declared.Answer.the-variants.{Refused}
+use Rattle.rules.specs.declared.Outcome.{Outcome}
+use Rattle.rules.specs.declared.Refusal.{Refusal}
+use Rattle.table.specs.View.{Known}
+use Rattle.gate.specs.Promise.{unchanged, called, unopened, openingAt}
+use Rattle.gate.specs.declared.numbers.Judged.{Judged}
+use Rattle.gate.specs.declared.numbers.Judged.the-variants.{Good, Bad}
+
+-- lent tables are known; or every call on them is refused so
+abbrev pub Judges : Gate → (gs ws fs : List ℕ) → Judged → Type 0
+Judges g gs ws fs Good = Known g gs ws fs
+Judges g gs ws fs (Bad r) = (e : Event) → called e g gs ws fs ≡ unchanged g gs ws fs (Refused r)
+
+-- the lent lists of an opening are as long as it needs, and that is not much
+pub record OpenRoom (d n c : ℕ) (ss gs ws fs : List ℕ) : Type 0 where
+  pub settings : n * 3 ≤ length ss
+  pub guests : n * 6 ≤ length gs
+  pub waiting : c * 5 ≤ length ws
+  pub flight : d * 2 ≤ length fs
+  pub most : (d ≤ 64) × (n ≤ 64) × (c ≤ 1024)
+
+-- an opening is accepted; or it is refused so
+abbrev pub JudgesOpening : (d n c : ℕ) (ss gs ws fs : List ℕ) → Judged → Type 0
+JudgesOpening d n c ss gs ws fs Good = (openingAt d n c ss gs ws fs ≡ accept) × OpenRoom d n c ss gs ws fs
+JudgesOpening d n c ss gs ws fs (Bad r) = openingAt d n c ss gs ws fs ≡ refuse r
+
+-- the gate of a fresh table
+abbrev pub freshGate : (d n c : ℕ) → Gate
+freshGate d n c = record { depth = d; guests = n; capacity = c; time = 0; waiting = 0; flight = 0 }
+
+-- an opening that is refused
+abbrev pub notOpened : Refusal → Outcome
+notOpened r = record { gate = unopened; answer = Refused r }

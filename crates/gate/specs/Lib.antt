@@ -1,0 +1,4 @@
+pub mod Promise
+pub mod Calls
+pub mod Needs
+pub mod Judges
