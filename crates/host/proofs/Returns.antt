@@ -1,0 +1,22 @@
+-- What a call of the host hands back, from what the call over numbers promises. Assumes nothing.
+use Prim.Native.Nat.{ℕ}
+use mathlib.Core.Path.{_≡_, refl, sym, ap, _∙_}
+use mathlib.Core.List.{List}
+use Rattle.rules.specs.declared.Gate.{Gate}
+use Rattle.rules.specs.declared.Answer.{Answer}
+use Rattle.rules.specs.declared.Outcome.{Outcome}
+use Rattle.table.specs.View.{Handed}
+use Rattle.rules.specs.Events.{Event}
+use Rattle.gate.specs.Promise.{seen, called}
+use Rattle.gate.proofs.Once.{seen-once}
+use Rattle.host.specs.declared.Reply.{Reply}
+use Rattle.host.specs.Host.{gateIn, replyOf, written, hosted}
+
+-- what was handed back, with the six numbers written and the answer as four
+pub returned : (v v′ : List ℕ) (r : Reply) (h k : Handed) → seen h ≡ seen k → r ≡ replyOf (h .0 .answer) → v′ ≡ written (h .0 .answer) (h .0 .gate) v → (r, v′, h .1, h .2, h .3) ≡ hosted v k
+returned v v′ r h k p er ev = (λ i. (er i, ev i, h .1, h .2, h .3)) ∙ ap (hosted v) (seen-once h k p)
+
+-- the same of a call on the gate that the six numbers are
+pub call-returned : (e : Event) (v v′ : List ℕ) (g : Gate) → g ≡ gateIn v → (gs ws fs : List ℕ) (r : Reply) (h : Handed) → seen h ≡ seen (called e g gs ws fs)
+    → r ≡ replyOf (h .0 .answer) → v′ ≡ written (h .0 .answer) (h .0 .gate) v → (r, v′, h .1, h .2, h .3) ≡ hosted v (called e (gateIn v) gs ws fs)
+call-returned e v v′ g eg gs ws fs r h p er ev = returned v v′ r h (called e (gateIn v) gs ws fs) (p ∙ ap (λ (x : Gate). seen (called e x gs ws fs)) eg) er ev

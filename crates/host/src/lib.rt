@@ -1,0 +1,175 @@
+// What a C or Rust host links: the four calls over numbers, under the names of include/sgq.h. The gate is six numbers (depth, guests,
+// capacity, time, waiting, flight), the answer four (kind, guest, id, refusal). Each call takes whatever it is handed.
+use rules::Answer;
+use rules::Gate;
+use rules::Outcome;
+use rules::Phase;
+ghost use mathlib.Core.Path.{_≡_};
+ghost use Rattle.rules.specs.Events.{Event};
+ghost use Rattle.gate.specs.Promise.{called, opened};
+ghost use Rattle.host.specs.Host.{kindOf, gateIn, gateOver, replyOf, written, hosted};
+
+// What an answer does not have is 0; the kinds are 0 nothing, 1 sent by reservation, 2 sent by weight, 3 refused.
+#[repr(C)]
+pub struct Reply {
+    pub kind: u64,
+    pub guest: u64,
+    pub id: u64,
+    pub refusal: u64,
+}
+
+fn kind_of(phase: Phase) -> u64
+    ensures { λ n. ⌜ n ≡ kindOf phase ⌝ }
+{
+    match phase {
+        Phase::Reservation => 1,
+        Phase::Weight => 2,
+    }
+}
+
+// The answer as four numbers.
+fn four_of(answer: Answer) -> Reply
+    ensures { λ r. ⌜ r ≡ replyOf answer ⌝ }
+{
+    match answer {
+        Answer::Nothing => Reply {
+            kind: 0,
+            guest: 0,
+            id: 0,
+            refusal: 0,
+        },
+        Answer::Sent { phase, guest, id } => {
+            let kind = kind_of(phase);
+            Reply {
+                kind: kind,
+                guest: guest,
+                id: id as u64,
+                refusal: 0,
+            }
+        }
+        Answer::Refused(why) => {
+            let n = rules::number(why);
+            Reply {
+                kind: 3,
+                guest: 0,
+                id: 0,
+                refusal: n,
+            }
+        }
+    }
+}
+
+// The gate that six numbers are.
+fn gate_in(six: &[u64; 6]) -> Gate
+    ensures { λ g. ⌜ g ≡ gateIn (now (six .entry)) ⌝ }
+{
+    Gate {
+        depth: six[0],
+        guests: six[1],
+        capacity: six[2],
+        time: six[3],
+        waiting: six[4],
+        flight: six[5],
+    }
+}
+
+// The six numbers of a gate, written over those that were lent.
+fn gate_over(six: &mut [u64; 6], gate: Gate)
+    ensures { λ _. ⌜ now (six .exit) ≡ gateOver gate (now (six .entry)) ⌝ }
+{
+    six[0] = gate.depth;
+    six[1] = gate.guests;
+    six[2] = gate.capacity;
+    six[3] = gate.time;
+    six[4] = gate.waiting;
+    six[5] = gate.flight;
+}
+
+// A refusal leaves the six numbers as they stood.
+fn hand_back(six: &mut [u64; 6], outcome: Outcome) -> Reply
+    ensures { λ r. ⌜ (r ≡ replyOf (outcome .answer)) × (now (six .exit) ≡ written (outcome .answer) (outcome .gate) (now (six .entry))) ⌝ }
+{
+    let answer = outcome.answer;
+    let gate = outcome.gate;
+    match answer {
+        Answer::Refused(_) => four_of(answer),
+        Answer::Nothing => {
+            gate_over(six, gate);
+            four_of(answer)
+        }
+        Answer::Sent { .. } => {
+            gate_over(six, gate);
+            four_of(answer)
+        }
+    }
+}
+
+// Opens the lent tables: depth, guests and capacity, and three settings a guest.
+#[no_mangle]
+pub extern "C" fn sgq_open(
+    six: &mut [u64; 6],
+    depth: u64,
+    known: u64,
+    capacity: u64,
+    settings: &[u64],
+    guests: &mut [u64],
+    waiting: &mut [u64],
+    flight: &mut [u64],
+) -> Reply
+    ensures { λ r. ⌜ (r, now (six .exit), now (guests .exit), now (waiting .exit), now (flight .exit)) ≡ hosted (now (six .entry)) (opened depth known capacity (now (settings .entry)) (now (guests .entry)) (now (waiting .entry)) (now (flight .entry))) ⌝ }
+{
+    let outcome = gate::numbers::open(depth, known, capacity, settings, guests, waiting, flight);
+    hand_back(six, outcome)
+}
+
+// An arrival.
+#[no_mangle]
+pub extern "C" fn sgq_arrive(
+    six: &mut [u64; 6],
+    guests: &mut [u64],
+    waiting: &mut [u64],
+    flight: &mut [u64],
+    guest: u64,
+    id: u32,
+    time: u64,
+) -> Reply
+    ensures { λ r. ⌜ (r, now (six .exit), now (guests .exit), now (waiting .exit), now (flight .exit)) ≡ hosted (now (six .entry)) (called (Event.arrival (record { guest = guest; id = id }) time) (gateIn (now (six .entry))) (now (guests .entry)) (now (waiting .entry)) (now (flight .entry))) ⌝ }
+{
+    let gate = gate_in(six);
+    let outcome = gate::numbers::arrive(gate, guests, waiting, flight, guest, id, time);
+    hand_back(six, outcome)
+}
+
+// A completion.
+#[no_mangle]
+pub extern "C" fn sgq_complete(
+    six: &mut [u64; 6],
+    guests: &mut [u64],
+    waiting: &mut [u64],
+    flight: &mut [u64],
+    guest: u64,
+    id: u32,
+    time: u64,
+) -> Reply
+    ensures { λ r. ⌜ (r, now (six .exit), now (guests .exit), now (waiting .exit), now (flight .exit)) ≡ hosted (now (six .entry)) (called (Event.completion (record { guest = guest; id = id }) time) (gateIn (now (six .entry))) (now (guests .entry)) (now (waiting .entry)) (now (flight .entry))) ⌝ }
+{
+    let gate = gate_in(six);
+    let outcome = gate::numbers::complete(gate, guests, waiting, flight, guest, id, time);
+    hand_back(six, outcome)
+}
+
+// A tick.
+#[no_mangle]
+pub extern "C" fn sgq_tick(
+    six: &mut [u64; 6],
+    guests: &mut [u64],
+    waiting: &mut [u64],
+    flight: &mut [u64],
+    time: u64,
+) -> Reply
+    ensures { λ r. ⌜ (r, now (six .exit), now (guests .exit), now (waiting .exit), now (flight .exit)) ≡ hosted (now (six .entry)) (called (Event.tick time) (gateIn (now (six .entry))) (now (guests .entry)) (now (waiting .entry)) (now (flight .entry))) ⌝ }
+{
+    let gate = gate_in(six);
+    let outcome = gate::numbers::tick(gate, guests, waiting, flight, time);
+    hand_back(six, outcome)
+}
