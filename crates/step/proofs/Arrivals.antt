@@ -27,8 +27,8 @@ use Rattle.table.specs.ViewLaws.{guest-exact, request-exact, flight-exact}
 use Rattle.table.specs.Moves.{appended, followed}
 use Rattle.table.specs.MovesLaws.{appended-is}
 use Rattle.table.specs.FollowLaws.{followed-is}
-use Rattle.step.specs.Does.{does, placedGate}
-use Rattle.step.proofs.Lens.{written, known-written}
+use Rattle.step.specs.Does.{written, does, placedGate}
+use Rattle.step.proofs.Lens.{known-written}
 use Rattle.step.proofs.Enter.{narrow, entered-known, entered-moves}
 use Rattle.step.proofs.Facts.{Facts, facts}
 

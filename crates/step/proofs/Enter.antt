@@ -17,8 +17,8 @@ use Rattle.rules.specs.declared.Refusal.{Refusal}
 use Rattle.rules.specs.declared.Answer.{Answer}
 use Rattle.rules.specs.declared.Answer.the-variants.{Refused}
 use Rattle.table.specs.View.{tableOf, gateOf, handed, identified, Known}
-use Rattle.step.specs.Does.{does}
-use Rattle.step.proofs.Lens.{Lent, written, Room, written-shown, written-known, handed-again, known-room, known-written, handed-written}
+use Rattle.step.specs.Does.{Lent, written, does}
+use Rattle.step.proofs.Lens.{Room, written-shown, written-known, handed-again, known-room, known-written, handed-written}
 use Rattle.step.proofs.Ids.{Brings, enter-all}
 
 -- an id of 32 bits

@@ -15,20 +15,8 @@ use Rattle.rules.proofs.Settings.{SameSettings, same-count}
 use Rattle.rules.specs.declared.Gate.{Gate}
 use Rattle.rules.specs.declared.Answer.{Answer}
 use Rattle.table.specs.View.{guestForm, requestForm, flightForm, guestsOf, waitingOf, flightsOf, tableOf, gateOf, Handed, handed, identified, Whole, Known}
+use Rattle.step.specs.Does.{Lent, written}
 use Rattle.table.specs.ViewLaws.{guest-exact, request-exact, flight-exact}
-
--- a gate and the three tables
-abbrev pub Lent : Type 0
-Lent = Gate × List ℕ × List ℕ × List ℕ
-
--- the table u, written over the lent numbers
-abbrev pub written : (gs ws fs : List ℕ) → Table → Lent
-written gs ws fs u = (
-  gateOf u,
-  overRows guestForm (length (u .guests)) (u .guests) gs,
-  overRows requestForm (u .setup .capacity) (u .waiting) ws,
-  overRows flightForm (u .setup .depth) (u .flight) fs,
-)
 
 -- the lent tables have room for what the table u needs
 pub record Room (gs ws fs : List ℕ) (u : Table) : Type 0 where

@@ -23,8 +23,8 @@ use Rattle.table.specs.MovesLaws.{gone-is, joined-is}
 use Rattle.table.specs.Walks.{Picks}
 use Rattle.table.specs.declared.Found.{Found}
 use Rattle.table.specs.declared.Found.the-variants.{At, Nothing as NoPlace}
-use Rattle.step.specs.Does.{does, weightPhase, reservationPhase, sentGate}
-use Rattle.step.proofs.Lens.{Lent, written, known-written, handed-written}
+use Rattle.step.specs.Does.{Lent, written, does, weightPhase, reservationPhase, sentGate}
+use Rattle.step.proofs.Lens.{known-written, handed-written}
 use Rattle.step.proofs.Facts.{Facts, facts, row-is}
 
 module _ (g : Gate) (gs ws fs : List ℕ) (k : Known g gs ws fs) where

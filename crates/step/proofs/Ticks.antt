@@ -26,8 +26,8 @@ use Rattle.table.specs.Walks.{Finds}
 use Rattle.table.specs.Moves.{freed}
 use Rattle.table.specs.MovesLaws.{freed-is}
 use Rattle.table.specs.declared.Found.the-variants.{At, Nothing as NoPlace}
-use Rattle.step.specs.Does.{does, timedGate, freedGate}
-use Rattle.step.proofs.Lens.{written, known-written}
+use Rattle.step.specs.Does.{written, does, timedGate, freedGate}
+use Rattle.step.proofs.Lens.{known-written}
 use Rattle.step.proofs.Enter.{entered-known, entered-moves}
 use Rattle.step.proofs.Facts.{Facts, facts}
 

@@ -20,8 +20,8 @@ use Rattle.table.specs.MovesLaws.{gone-is}
 use Rattle.table.specs.DropLaws.{dropped-is}
 use Rattle.table.specs.Walks.{Picks}
 use Rattle.table.specs.declared.Found.the-variants.{At}
-use Rattle.step.specs.Does.{does, weightPhase, sentGate}
-use Rattle.step.proofs.Lens.{written, handed-written}
+use Rattle.step.specs.Does.{written, does, weightPhase, sentGate}
+use Rattle.step.proofs.Lens.{handed-written}
 use Rattle.step.proofs.Facts.{Facts, facts}
 use Rattle.step.proofs.Sends.{goes, stay, goesGuest, goesId, guest-goes, id-goes, length-stay, sent-written}
 

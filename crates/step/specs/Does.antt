@@ -1,6 +1,8 @@
 -- What a call over lent numbers hands back: a function of the table that they show, written over them.
 use Prim.Native.Nat.{ℕ, _+_, _-_}
 use mathlib.Core.List.{List}
+use lib.ListN.{length}
+use Rattle.lists.specs.Rows.{overRows}
 use Rattle.rules.specs.Tables.{Request, Table}
 use Rattle.rules.specs.Choice.{Result, least, due, open?, byReservation, byWeight}
 use Rattle.rules.specs.declared.Gate.{Gate}
@@ -8,7 +10,20 @@ use Rattle.rules.specs.declared.Phase.{Phase}
 use Rattle.rules.specs.declared.Refusal.{Refusal}
 use Rattle.rules.specs.declared.Answer.the-variants.{Sent, Refused}
 use Rattle.rules.specs.declared.Outcome.{Outcome}
-use Rattle.table.specs.View.{tableOf, Handed, handed}
+use Rattle.table.specs.View.{guestForm, requestForm, flightForm, tableOf, gateOf, Handed, handed}
+
+-- a gate and the three tables
+abbrev pub Lent : Type 0
+Lent = Gate × List ℕ × List ℕ × List ℕ
+
+-- the table u, written over the lent numbers
+abbrev pub written : (gs ws fs : List ℕ) → Table → Lent
+written gs ws fs u = (
+  gateOf u,
+  overRows guestForm (length (u .guests)) (u .guests) gs,
+  overRows requestForm (u .setup .capacity) (u .waiting) ws,
+  overRows flightForm (u .setup .depth) (u .flight) fs,
+)
 
 -- what a call that does f to the table hands back
 abbrev pub does : (Table → Result) → Gate → (gs ws fs : List ℕ) → Handed

@@ -1,0 +1,4 @@
+pub mod Judging
+pub mod Going
+pub mod Shift
+pub mod Cut

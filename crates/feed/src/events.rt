@@ -1,0 +1,142 @@
+// The events of a part of a trace, each judged and its line written.
+use rules::Answer;
+use rules::Gate;
+use rules::Outcome;
+use rules::Refusal;
+use trace::Read;
+ghost use mathlib.Core.Path.{_≡_};
+ghost use Prim.Native.Nat.{_+_, _≤_, _<_, _^_, min};
+ghost use lib.ListN.{length, drop};
+ghost use Rattle.table.specs.View.{tableOf, Known};
+ghost use Rattle.step.specs.Does.{does};
+ghost use Rattle.lines.specs.Line.{LINE};
+ghost use Rattle.trace.specs.Event.{eventOf};
+ghost use Rattle.trace.specs.Printed.{answered};
+ghost use Rattle.feed.specs.Promise.{Judged, FedBy};
+
+// One event as it was read: a bad one is refused 14 and changes nothing.
+fn judge(
+    gate: Gate,
+    guests: &mut [u64],
+    waiting: &mut [u64],
+    flight: &mut [u64],
+    event: Read,
+) -> Outcome
+    requires { ⌜ Known gate (now guests) (now waiting) (now flight) ⌝ }
+    ensures { λ r. ⌜ (r, now (guests .exit), now (waiting .exit), now (flight .exit)) ≡ does (λ t. answered t event) gate (now (guests .entry)) (now (waiting .entry)) (now (flight .entry)) ⌝ }
+    ensures { λ r. ⌜ Known (r .gate) (now (guests .exit)) (now (waiting .exit)) (now (flight .exit)) ⌝ }
+{
+    match event {
+        Read::Arrival { guest, id, time } => step::arrive::arrive(
+            gate,
+            guests,
+            waiting,
+            flight,
+            guest,
+            id,
+            time,
+        ),
+        Read::Completion { guest, id, time } => step::events::complete(
+            gate,
+            guests,
+            waiting,
+            flight,
+            guest,
+            id,
+            time,
+        ),
+        Read::Tick { time } => step::events::tick(gate, guests, waiting, flight, time),
+        Read::Bad => Outcome {
+            gate,
+            answer: Answer::Refused(Refusal::BadEvent),
+        },
+    }
+}
+
+// The gate after an event, and the place after its line.
+pub struct After {
+    pub gate: Gate,
+    pub at: usize,
+}
+
+// The event at `from`: it is judged, and its line written at `at`.
+fn one(
+    bytes: &[u8],
+    from: usize,
+    number: u64,
+    gate: Gate,
+    guests: &mut [u64],
+    waiting: &mut [u64],
+    flight: &mut [u64],
+    out: &mut [u8],
+    at: usize,
+) -> After
+    requires { ⌜ from + 14 ≤ length (now bytes) ⌝ }
+    requires { ⌜ Known gate (now guests) (now waiting) (now flight) ⌝ }
+    requires { ⌜ at + LINE ≤ length (now out) ⌝ }
+    ensures { λ r. ⌜ Judged (eventOf (drop from (now (bytes .entry)))) number gate (now (guests .entry)) (now (waiting .entry)) (now (flight .entry)) (r .gate) (now (guests .exit)) (now (waiting .exit)) (now (flight .exit)) at (now (out .entry)) (r .at) (now (out .exit)) ⌝ }
+{
+    let event = trace::events::read_event(&bytes[from..from + 14]);
+    let judged = judge(gate, guests, waiting, flight, event);
+    let after = judged.gate;
+    let answer = judged.answer;
+    let next = lines::put_line(out, at, number, answer);
+    After {
+        gate: after,
+        at: next,
+    }
+}
+
+fn least(a: usize, b: usize) -> usize
+    ensures { λ r. ⌜ r ≡ min a b ⌝ }
+{
+    if a < b { a } else { b }
+}
+
+// The gate after a run of events, how many they were, and how many bytes of lines they gave.
+pub struct Fed {
+    pub gate: Gate,
+    pub events: usize,
+    pub bytes: usize,
+}
+
+// As many whole events of the bytes as `out` has room for, the first of which has the number after `number`.
+pub fn feed(
+    bytes: &[u8],
+    number: u64,
+    first: Gate,
+    guests: &mut [u64],
+    waiting: &mut [u64],
+    flight: &mut [u64],
+    out: &mut [u8],
+) -> Fed
+    requires { ⌜ Known first (now guests) (now waiting) (now flight) ⌝ }
+    requires { ⌜ number + length (now bytes) < 2 ^ 64 ⌝ }
+    ensures { λ r. ⌜ FedBy (now (bytes .entry)) number first (now (guests .entry)) (now (waiting .entry)) (now (flight .entry)) (r .gate) (now (guests .exit)) (now (waiting .exit)) (now (flight .exit)) (now (out .entry)) (now (out .exit)) (r .events) (r .bytes) ⌝ }
+{
+    let n = least(bytes.len() / 14, out.len() / 65);
+    let mut gate = first;
+    let mut i: usize = 0;
+    let mut at: usize = 0;
+    while i < n {
+        let after = one(
+            bytes,
+            i * 14,
+            number + (i as u64) + 1,
+            gate,
+            guests,
+            waiting,
+            flight,
+            out,
+            at,
+        );
+        gate = after.gate;
+        at = after.at;
+        i += 1;
+    }
+    Fed {
+        gate,
+        events: n,
+        bytes: at,
+    }
+}
