@@ -8,7 +8,7 @@ use Rattle.feed.proofs.buffer.put_cut.Tie as tie
 returns : tie.Need-returns
 returns c =
     let a = c .before .before .before .args in
-    (cut-none (a .number) (a .bytes .now) (c .if1 .taken) (a .out .now), omega arith)
+    (cut-none (a .number) (a .bytes .now) (omega (arith, c .if1 .taken)) (a .out .now), omega arith)
 
 add-put-line : tie.Need-add-put-line
 add-put-line c = search needs
@@ -23,7 +23,7 @@ returns-2 : tie.Need-returns-2
 returns-2 c =
     let a = c .before .before .before .before .before .before .before .args in
     let l = c .before .before .put-line in
-    (cut-some (a .number) (a .bytes .now) (c .before .before .before .before .if1 .left) (a .out .now) _ _ (l .ensures .0), omega (arith, l .ensures .1))
+    (cut-some (a .number) (a .bytes .now) (omega (arith, c .before .before .before .before .if1 .left)) (a .out .now) _ _ (l .ensures .0), omega (arith, l .ensures .1))
 
 pub put-cut-spec : {M : Type 1} → statement M
 put-cut-spec = tie.close (tie.spec returns add-put-line put-line-requires same-length returns-2)
