@@ -9,3 +9,4 @@ pub mod Demand3
 pub mod Opened
 pub mod Returns
 pub mod OpenReturns
+pub mod Example

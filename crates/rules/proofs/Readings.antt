@@ -9,11 +9,11 @@ use Rattle.rules.specs.Run.{fresh}
 use Rattle.rules.proofs.Trials.{ms, settings, comes, ends, -, R, W, X, lines, waitingAfter}
 
 -- "depth 4, one guest (reservation 100, limit 250, shares 1), capacity 8"
-abbrev one : Table
+abbrev pub one : Table
 one = fresh 4 8 (settings 100 250 1 ∷ [])
 
 -- "arrivals of ids 1, 2, 3, 4 at 0; ticks at 4, 8, 10, 9; completion of id 1 at 10, twice"
-abbrev ten : List Event
+abbrev pub ten : List Event
 ten =
     comes 0 1 0 ∷ comes 0 2 0 ∷ comes 0 3 0 ∷ comes 0 4 0
     ∷ tick (ms 4) ∷ tick (ms 8) ∷ tick (ms 10) ∷ tick (ms 9)
