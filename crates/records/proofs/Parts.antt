@@ -1,0 +1,13 @@
+-- What a call over numbers leaves where it was handed the first rows of a list. Assumes nothing.
+use Prim.Native.Nat.{ℕ}
+use mathlib.Core.Path.{_≡_, ap}
+use mathlib.Core.List.{List, _++_}
+use lib.ListN.{drop}
+use Rattle.gate.specs.Promise.{Seen}
+
+-- what a caller sees, with the numbers past place k behind those of the guests
+abbrev behind : ℕ → List ℕ → Seen → Seen
+behind k xs s = (s .0, s .1, s .2 ++ drop k xs, s .3, s .4)
+
+pub in-part : (k : ℕ) (xs : List ℕ) (s t : Seen) → s ≡ t → behind k xs s ≡ behind k xs t
+in-part k xs s t e = ap (behind k xs) e

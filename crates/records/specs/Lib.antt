@@ -1,0 +1,4 @@
+pub mod Records
+pub mod RecordsLaws
+pub mod Promise
+pub mod Needs
