@@ -19,8 +19,8 @@ use Rattle.rules.specs.declared.Refusal.the-variants.{BadSetting, ShortTable}
 use Rattle.rules.specs.declared.Answer.the-variants.{Nothing}
 use Rattle.rules.specs.declared.Outcome.{Outcome}
 use Rattle.table.specs.View.{settingsForm, guestForm, handed, countable, short}
-use Rattle.table.specs.Moves.{started}
-use Rattle.table.specs.MovesLaws.{cleared-waiting, cleared-flight}
+use Rattle.moves.specs.Moves.{started}
+use Rattle.moves.specs.MovesLaws.{cleared-waiting, cleared-flight}
 use Rattle.gate.specs.Promise.{seen, settingsIn, openShort, openedBy, openingAt, opened}
 use Rattle.gate.specs.Judges.{OpenRoom, JudgesOpening, freshGate, notOpened}
 use Rattle.gate.specs.declared.numbers.Judged.{Judged}

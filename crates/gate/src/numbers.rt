@@ -160,9 +160,9 @@ pub fn open(
             let count = known as usize;
             let rooms = capacity as usize;
             let places = depth as usize;
-            table::moves::start(guests, settings, count);
-            table::moves::clear(waiting, rooms * 5);
-            table::moves::clear(flight, places * 2);
+            moves::rows::start(guests, settings, count);
+            moves::rows::clear(waiting, rooms * 5);
+            moves::rows::clear(flight, places * 2);
             Outcome {
                 gate: gate,
                 answer: Answer::Nothing,

@@ -24,9 +24,9 @@ use Rattle.rules.specs.declared.Gate.{Gate}
 use Rattle.rules.specs.declared.Refusal.the-variants.{UnknownGuest, TimeAboveCeiling, TimeBeforeLast, IdInUse, NoRoom, TagAboveCeiling}
 use Rattle.table.specs.View.{guestForm, requestForm, flightForm, guestsOf, waitingOf, tableOf, Known}
 use Rattle.table.specs.ViewLaws.{guest-exact, request-exact, flight-exact}
-use Rattle.table.specs.Moves.{appended, followed}
-use Rattle.table.specs.MovesLaws.{appended-is}
-use Rattle.table.specs.FollowLaws.{followed-is}
+use Rattle.moves.specs.Moves.{appended, followed}
+use Rattle.moves.specs.MovesLaws.{appended-is}
+use Rattle.moves.specs.FollowLaws.{followed-is}
 use Rattle.step.specs.Does.{written, does, placedGate}
 use Rattle.step.proofs.Lens.{known-written}
 use Rattle.step.proofs.Enter.{narrow, entered-known, entered-moves}

@@ -25,13 +25,13 @@ use Rattle.rules.specs.declared.Gate.{Gate}
 use Rattle.rules.specs.declared.Refusal.the-variants.{IdInUse, NoRoom, TagAboveCeiling}
 use Rattle.table.specs.View.{guestForm, requestForm, guestsOf, waitingOf, tableOf, Known}
 use Rattle.table.specs.ViewLaws.{guest-exact, request-exact}
-use Rattle.table.specs.Moves.{appended, followed}
+use Rattle.moves.specs.Moves.{appended, followed}
 use Rattle.table.specs.Stamp.{lawfulTags, movesFit}
-use Rattle.table.specs.Survey.{idleIn, highest}
-use Rattle.table.specs.Shares.{TagsMove, NextsMove, movedTags, movedNexts}
-use Rattle.table.specs.SharesLaws.{adjusted-is}
-use Rattle.table.specs.MovableLaws.{tags-movable, nexts-movable}
-use Rattle.table.specs.Passing.{passing-is, lowest-highest, highest-fits}
+use Rattle.walks.specs.Survey.{idleIn, highest}
+use Rattle.moves.specs.Shares.{TagsMove, NextsMove, movedTags, movedNexts}
+use Rattle.moves.specs.SharesLaws.{adjusted-is}
+use Rattle.moves.specs.MovableLaws.{tags-movable, nexts-movable}
+use Rattle.moves.specs.Passing.{passing-is, lowest-highest, highest-fits}
 use Rattle.step.specs.declared.arrive.Stamp.{Stamp}
 use Rattle.step.specs.Does.{does, placedGate}
 use Rattle.step.specs.Arrive.{stampOf, requestOf, Timely, Ready, PlacedKnown, Placeable}

@@ -15,10 +15,10 @@ use Rattle.rules.specs.declared.Refusal.{Refusal}
 use Rattle.rules.specs.declared.Refusal.the-variants.{NotInFlight}
 use Rattle.rules.specs.declared.Outcome.{Outcome}
 use Rattle.table.specs.View.{tableOf, Handed, Known}
-use Rattle.table.specs.Moves.{freed}
-use Rattle.table.specs.Walks.{Finds}
-use Rattle.table.specs.declared.Found.{Found}
-use Rattle.table.specs.declared.Found.the-variants.{At, Nothing as NoPlace}
+use Rattle.moves.specs.Moves.{freed}
+use Rattle.walks.specs.Walks.{Finds}
+use Rattle.walks.specs.declared.Found.{Found}
+use Rattle.walks.specs.declared.Found.the-variants.{At, Nothing as NoPlace}
 use Rattle.step.specs.Does.{does, refusing, timedGate, freedGate}
 use Rattle.step.proofs.Enter.{refused-same}
 use Rattle.step.proofs.Facts.{facts}

@@ -20,11 +20,11 @@ use Rattle.rules.proofs.Facts.{Sound, Orderly, orderly-is, any-orderly}
 use Rattle.rules.proofs.WeightFits.{weight-fits}
 use Rattle.rules.specs.declared.Gate.{Gate}
 use Rattle.table.specs.View.{guestForm, requestForm, guestsOf, waitingOf, tableOf, Known}
-use Rattle.table.specs.LeastLaws.{least-ext, open-by-tag}
-use Rattle.table.specs.Moves.{gone, spacingOf}
-use Rattle.table.specs.Walks.{Picks, Owned, SharesFit}
-use Rattle.table.specs.declared.Found.{Found}
-use Rattle.table.specs.declared.Found.the-variants.{At}
+use Rattle.walks.specs.LeastLaws.{least-ext, open-by-tag}
+use Rattle.moves.specs.Moves.{gone, spacingOf}
+use Rattle.walks.specs.Walks.{Picks, Owned, SharesFit}
+use Rattle.walks.specs.declared.Found.{Found}
+use Rattle.walks.specs.declared.Found.the-variants.{At}
 use Rattle.step.proofs.Facts.{Facts, facts, row-is, guest-is}
 use Rattle.step.proofs.Sends.{goes, stay, goesGuest, guest-goes, length-stay}
 use Rattle.step.proofs.WeightSend.{left, left-rows, left-room}

@@ -13,11 +13,11 @@ use Rattle.rules.specs.declared.Outcome.{Outcome}
 use Rattle.rules.specs.declared.Answer.the-variants.{Nothing, Sent}
 use Rattle.rules.specs.declared.Phase.the-variants.{Reservation, Weight}
 use Rattle.table.specs.View.{guestsOf, tableOf, Known}
-use Rattle.table.specs.Moves.{gone, joined, Named, spacingOf, nextDropped, tagsDropped}
-use Rattle.table.specs.Walks.{Picks}
-use Rattle.table.specs.declared.moves.Name.{Name}
-use Rattle.table.specs.declared.Found.{Found}
-use Rattle.table.specs.declared.Found.the-variants.{At, Nothing as NoPlace}
+use Rattle.moves.specs.Moves.{gone, joined, Named, spacingOf, nextDropped, tagsDropped}
+use Rattle.walks.specs.Walks.{Picks}
+use Rattle.moves.specs.declared.rows.Name.{Name}
+use Rattle.walks.specs.declared.Found.{Found}
+use Rattle.walks.specs.declared.Found.the-variants.{At, Nothing as NoPlace}
 use Rattle.step.specs.Does.{does, weightPhase, reservationPhase, sentGate, sending}
 use Rattle.step.proofs.Facts.{facts}
 use Rattle.step.proofs.Sends.{found-at, reservation-sent, weight-none, reservation-none}

@@ -18,11 +18,11 @@ use Rattle.rules.specs.declared.Answer.the-variants.{Nothing, Sent}
 use Rattle.rules.specs.declared.Phase.the-variants.{Reservation}
 use Rattle.table.specs.View.{guestForm, requestForm, flightForm, guestsOf, waitingOf, flightsOf, tableOf, handed, Known}
 use Rattle.table.specs.ViewLaws.{guest-exact}
-use Rattle.table.specs.Moves.{gone, joined, Named}
-use Rattle.table.specs.MovesLaws.{gone-is, joined-is}
-use Rattle.table.specs.Walks.{Picks}
-use Rattle.table.specs.declared.Found.{Found}
-use Rattle.table.specs.declared.Found.the-variants.{At, Nothing as NoPlace}
+use Rattle.moves.specs.Moves.{gone, joined, Named}
+use Rattle.moves.specs.MovesLaws.{gone-is, joined-is}
+use Rattle.walks.specs.Walks.{Picks}
+use Rattle.walks.specs.declared.Found.{Found}
+use Rattle.walks.specs.declared.Found.the-variants.{At, Nothing as NoPlace}
 use Rattle.step.specs.Does.{Lent, written, does, weightPhase, reservationPhase, sentGate}
 use Rattle.step.proofs.Lens.{known-written, handed-written}
 use Rattle.step.proofs.Facts.{Facts, facts, row-is}

@@ -22,10 +22,10 @@ use Rattle.rules.proofs.EnterSound.{enter-sound}
 use Rattle.rules.specs.declared.Gate.{Gate}
 use Rattle.rules.specs.declared.Refusal.the-variants.{UnknownGuest, TimeAboveCeiling, TimeBeforeLast, NotInFlight}
 use Rattle.table.specs.View.{guestForm, requestForm, flightForm, tableOf, Known}
-use Rattle.table.specs.Walks.{Finds}
-use Rattle.table.specs.Moves.{freed}
-use Rattle.table.specs.MovesLaws.{freed-is}
-use Rattle.table.specs.declared.Found.the-variants.{At, Nothing as NoPlace}
+use Rattle.walks.specs.Walks.{Finds}
+use Rattle.moves.specs.Moves.{freed}
+use Rattle.moves.specs.MovesLaws.{freed-is}
+use Rattle.walks.specs.declared.Found.the-variants.{At, Nothing as NoPlace}
 use Rattle.step.specs.Does.{written, does, timedGate, freedGate}
 use Rattle.step.proofs.Lens.{known-written}
 use Rattle.step.proofs.Enter.{entered-known, entered-moves}

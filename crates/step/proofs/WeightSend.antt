@@ -15,11 +15,11 @@ use Rattle.rules.specs.declared.Answer.the-variants.{Sent}
 use Rattle.rules.specs.declared.Phase.the-variants.{Weight}
 use Rattle.table.specs.View.{guestForm, requestForm, waitingOf, tableOf, handed, Known}
 use Rattle.table.specs.ViewLaws.{request-exact}
-use Rattle.table.specs.Moves.{gone, joined, spacingOf, nextDropped, tagsDropped}
-use Rattle.table.specs.MovesLaws.{gone-is}
-use Rattle.table.specs.DropLaws.{dropped-is}
-use Rattle.table.specs.Walks.{Picks}
-use Rattle.table.specs.declared.Found.the-variants.{At}
+use Rattle.moves.specs.Moves.{gone, joined, spacingOf, nextDropped, tagsDropped}
+use Rattle.moves.specs.MovesLaws.{gone-is}
+use Rattle.moves.specs.DropLaws.{dropped-is}
+use Rattle.walks.specs.Walks.{Picks}
+use Rattle.walks.specs.declared.Found.the-variants.{At}
 use Rattle.step.specs.Does.{written, does, weightPhase, sentGate}
 use Rattle.step.proofs.Lens.{handed-written}
 use Rattle.step.proofs.Facts.{Facts, facts}

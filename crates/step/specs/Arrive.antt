@@ -9,7 +9,7 @@ use Rattle.rules.specs.Tables.{Guest, Request, Flight, reserved, limited, lacks
 use Rattle.rules.specs.Events.{tagIf, shareTag}
 use Rattle.rules.specs.declared.Gate.{Gate}
 use Rattle.table.specs.View.{tableOf, Known}
-use Rattle.table.specs.Moves.{appended, followed}
+use Rattle.moves.specs.Moves.{appended, followed}
 use Rattle.step.specs.Does.{placedGate}
 use Rattle.step.specs.declared.arrive.Stamp.{Stamp}
 

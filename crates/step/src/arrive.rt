@@ -5,8 +5,8 @@ use crate::gates;
 use rules::Gate;
 use rules::Outcome;
 use rules::Refusal;
-use table::Found;
-use table::survey::Own;
+use walks::Found;
+use walks::survey::Own;
 ghost use mathlib.Core.Path.{_≡_};
 ghost use mathlib.Core.Bool.{Bool, true, false};
 ghost use mathlib.Core.List.{map};
@@ -18,7 +18,7 @@ ghost use Rattle.rules.specs.Choice.{choice};
 ghost use Rattle.rules.specs.Events.{Event};
 ghost use Rattle.rules.specs.Run.{step};
 ghost use Rattle.table.specs.View.{guestForm, waitingOf, tableOf, Known};
-ghost use Rattle.table.specs.Moves.{appended, followed};
+ghost use Rattle.moves.specs.Moves.{appended, followed};
 ghost use Rattle.step.specs.Does.{does, placedGate};
 ghost use Rattle.step.specs.Arrive.{stampOf, requestOf, Timely, Ready, PlacedKnown, Placeable};
 
@@ -81,8 +81,8 @@ fn place(
     let rtag = tags.rtag;
     let ltag = tags.ltag;
     let stag = tags.stag;
-    table::moves::append(waiting, count, guest, id as u64, rtag, ltag, stag);
-    table::moves::follow(guests, guest, rtag, ltag, stag);
+    moves::rows::append(waiting, count, guest, id as u64, rtag, ltag, stag);
+    moves::rows::follow(guests, guest, rtag, ltag, stag);
     let moved = gates::placed(gate, time);
     choose(moved, guests, waiting, flight)
 }
@@ -136,13 +136,13 @@ fn arrive_idle(
     if !table::numbers::stamp_fits(rtag, ltag, stag) {
         return gates::refused(gate, Refusal::TagAboveCeiling);
     }
-    let span = table::survey::ends(&waiting[..], count);
+    let span = walks::survey::ends(&waiting[..], count);
     let least = span.least;
     let most = span.most;
     if CEILING < most + time - least {
         return gates::refused(gate, Refusal::TagAboveCeiling);
     }
-    table::shares::adjust(guests, known, waiting, count, time, least);
+    moves::shares::adjust(guests, known, waiting, count, time, least);
     place(gate, guests, waiting, flight, guest, id, time, tags)
 }
 
@@ -164,7 +164,7 @@ fn arrive_new(
     ensures { λ r. ⌜ (r, now (guests .exit), now (waiting .exit), now (flight .exit)) ≡ does (λ t. step t (Event.arrival (record { guest = guest; id = id }) time)) gate (now (guests .entry)) (now (waiting .entry)) (now (flight .entry)) ⌝ }
 {
     let flying = gate.flight as usize;
-    let found = table::walks::find_flight(&flight[..], flying, guest, id as u64);
+    let found = walks::rows::find_flight(&flight[..], flying, guest, id as u64);
     match found {
         Found::At(_) => gates::refused(gate, Refusal::IdInUse),
         Found::Nothing => {
@@ -203,7 +203,7 @@ pub fn arrive(
         return gates::refused(gate, Refusal::TimeBeforeLast);
     }
     let count = gate.waiting as usize;
-    let own = table::survey::own_rows(&waiting[..], count, guest, id as u64);
+    let own = walks::survey::own_rows(&waiting[..], count, guest, id as u64);
     match own {
         Own::Repeated => gates::refused(gate, Refusal::IdInUse),
         Own::Waits => arrive_new(gate, guests, waiting, flight, guest, id, time, false),

@@ -4,7 +4,7 @@ use rules::Answer;
 use rules::Gate;
 use rules::Outcome;
 use rules::Phase;
-use table::Found;
+use walks::Found;
 ghost use mathlib.Core.Path.{_≡_};
 ghost use Prim.Native.Nat.{_<_};
 ghost use Rattle.rules.specs.Choice.{choice};
@@ -20,13 +20,13 @@ fn by_weight(gate: Gate, guests: &mut [u64], waiting: &mut [u64], flight: &mut [
     let count = gate.waiting as usize;
     let flying = gate.flight as usize;
     let time = gate.time;
-    let found = table::walks::first_open(&waiting[..], count, time);
+    let found = walks::rows::first_open(&waiting[..], count, time);
     match found {
         Found::At(place) => {
-            let name = table::moves::send(waiting, flight, place, count, flying);
+            let name = moves::rows::send(waiting, flight, place, count, flying);
             let guest = name.guest;
             let id = name.id as u32;
-            table::moves::drop_tags(guests, waiting, count - 1, guest);
+            moves::rows::drop_tags(guests, waiting, count - 1, guest);
             gates::sent(gate, Phase::Weight, guest, id)
         }
         Found::Nothing => Outcome {
@@ -51,10 +51,10 @@ fn by_reservation(
     let count = gate.waiting as usize;
     let flying = gate.flight as usize;
     let time = gate.time;
-    let found = table::walks::first_due(&waiting[..], count, &guests[..], known, time);
+    let found = walks::rows::first_due(&waiting[..], count, &guests[..], known, time);
     match found {
         Found::At(place) => {
-            let name = table::moves::send(waiting, flight, place, count, flying);
+            let name = moves::rows::send(waiting, flight, place, count, flying);
             let guest = name.guest;
             let id = name.id as u32;
             gates::sent(gate, Phase::Reservation, guest, id)

@@ -4,7 +4,7 @@ use crate::gates;
 use rules::Gate;
 use rules::Outcome;
 use rules::Refusal;
-use table::Found;
+use walks::Found;
 ghost use mathlib.Core.Path.{_≡_};
 ghost use Rattle.rules.specs.Events.{Event};
 ghost use Rattle.rules.specs.Run.{step};
@@ -57,10 +57,10 @@ pub fn complete(
         return gates::refused(gate, Refusal::TimeBeforeLast);
     }
     let flying = gate.flight as usize;
-    let found = table::walks::find_flight(&flight[..], flying, guest, id as u64);
+    let found = walks::rows::find_flight(&flight[..], flying, guest, id as u64);
     match found {
         Found::At(place) => {
-            table::moves::take_out(flight, place, flying);
+            moves::rows::take_out(flight, place, flying);
             let moved = gates::freed(gate, time);
             choose(moved, guests, waiting, flight)
         }

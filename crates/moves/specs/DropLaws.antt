@@ -1,0 +1,58 @@
+-- What a drop after a weight send shows: the guests and the waiting requests of the definition `dropped`.
+-- Assumes nothing.
+use Prim.Native.Nat.{ℕ, _+_, _-_, _*_, _≤_, _<_}
+use mathlib.Core.Path.{_≡_, refl, sym, ap, _∙_}
+use mathlib.Core.Bool.{true, false}
+use mathlib.Core.List.{List, map}
+use native.Mathlib.Omega.{arith}
+use lib.Dec.{lit<, eqb}
+use lib.ListN.{length, getD, set}
+use Rattle.lists.specs.Words.{if_then_else_}
+use Rattle.lists.specs.Lines.{whether, lineAt}
+use Rattle.lists.specs.Rows.{overRows, Unused}
+use Rattle.lists.specs.RowsLaws.{row-at, row-put, rows-changed, all-used, each-map}
+use Rattle.rules.specs.Numbers.{down}
+use Rattle.rules.specs.Tables.{Guest, Request, Table, owner, of}
+use Rattle.rules.specs.Choice.{earlier, sooner, dropOf, dropped}
+use Rattle.table.specs.View.{guestForm, requestForm, guestsOf, waitingOf}
+use Rattle.table.specs.ViewLaws.{guest-exact, request-exact}
+use Rattle.moves.specs.Moves.{spacingOf, nextDropped, tagDropped, tagsDropped}
+
+module _ (n : ℕ) (gs : List ℕ) (g : ℕ) (known : g < n) where
+  -- the spacing that the numbers show is the guest's
+  pub spacing-is : spacingOf g gs ≡ down ((owner (guestsOf gs n) g) .settings .reservation)
+  spacing-is = ap (λ (h : Guest). down (h .settings .reservation)) (sym (row-at guestForm gs n g known))
+
+  -- the guest's next reservation number drops
+  pub next-dropped-is : n * 6 ≤ length gs → nextDropped g gs ≡ overRows guestForm n (set (guestsOf gs n) g (sooner (down ((owner (guestsOf gs n) g) .settings .reservation)) (owner (guestsOf gs n) g))) gs
+  unfolding sooner
+  next-dropped-is room =
+      row-put guestForm guest-exact n n gs room (omega arith) (all-used guestForm guest-exact n gs) g 3 _ _ known (lit< tt)
+      (ap (λ (h : Guest). guestForm .line (sooner (down (h .settings .reservation)) h)) (row-at guestForm gs n g known))
+
+-- the guest's waiting reservation tags drop
+pub tags-dropped-is : (cap n : ℕ) (ws : List ℕ) → cap * 5 ≤ length ws → n ≤ cap → Unused requestForm cap n ws → (g d : ℕ)
+    → tagsDropped g d ws n ≡ overRows requestForm cap (map (λ p. if of g p then earlier d p else p) (waitingOf ws n)) ws
+unfolding earlier
+tags-dropped-is cap n ws room fit unused g d =
+    rows-changed requestForm request-exact cap n ws room fit unused 2 (lit< tt) (tagDropped g d ws) (λ k p. if of g p then earlier d p else p) (λ k l. one k)
+    ∙ ap (λ (l : List Request). overRows requestForm cap l ws) (each-map (λ p. if of g p then earlier d p else p) 0 (waitingOf ws n))
+  where
+    one : (k : ℕ) → set (lineAt 5 ws k) 2 (tagDropped g d ws k) ≡ requestForm .line (if of g (requestForm .read (lineAt 5 ws k)) then earlier d (requestForm .read (lineAt 5 ws k)) else requestForm .read (lineAt 5 ws k))
+    one k =
+        elim (eqb (getD ws (k * 5 + 0) 0) g) as
+        (λ b. set (lineAt 5 ws k) 2 (whether b (getD ws (k * 5 + 2) 0 - d) (getD ws (k * 5 + 2) 0)) ≡ requestForm .line (if b then earlier d (requestForm .read (lineAt 5 ws k)) else requestForm .read (lineAt 5 ws k)))
+        [ true ↦ refl | false ↦ refl ]
+
+-- both, for the table t that the numbers show, where q was sent
+pub dropped-is : (n cap count : ℕ) (gs ws : List ℕ) (t : Table) (q : Request) → t .guests ≡ guestsOf gs n → t .waiting ≡ waitingOf ws count → n * 6 ≤ length gs → q .guest < n → cap * 5 ≤ length ws → count ≤ cap → Unused requestForm cap count ws
+    → (nextDropped (q .guest) gs ≡ overRows guestForm n (dropped q t .guests) gs) × (tagsDropped (q .guest) (spacingOf (q .guest) gs) ws count ≡ overRows requestForm cap (dropped q t .waiting) ws)
+unfolding dropped
+dropped-is n cap count gs ws t q eg ew room known rows fit unused = (
+  next-dropped-is n gs (q .guest) known room
+      ∙ ap (λ (hs : List Guest). overRows guestForm n (set hs (q .guest) (sooner (down ((owner hs (q .guest)) .settings .reservation)) (owner hs (q .guest)))) gs) (sym eg),
+  tags-dropped-is cap count ws rows fit unused (q .guest) (spacingOf (q .guest) gs)
+      ∙ ap (λ (d : ℕ). overRows requestForm cap (map (λ p. if of (q .guest) p then earlier d p else p) (waitingOf ws count)) ws)
+      (spacing-is n gs (q .guest) known ∙ ap (λ (hs : List Guest). down ((owner hs (q .guest)) .settings .reservation)) (sym eg))
+      ∙ ap (λ (l : List Request). overRows requestForm cap (map (λ p. if of (q .guest) p then earlier (dropOf t q) p else p) l) ws) (sym ew),
+)

@@ -1,0 +1,10 @@
+pub mod Moves
+pub mod MovesLaws
+pub mod DropLaws
+pub mod FollowLaws
+pub mod Lower
+pub mod Start
+pub mod Shares
+pub mod SharesLaws
+pub mod MovableLaws
+pub mod Passing

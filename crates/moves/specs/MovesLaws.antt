@@ -1,0 +1,72 @@
+-- Which entries the numbers show that the functions of src/moves.rt leave: the lists of document 01's definitions, written over what was
+-- lent. The rooms suffice, and the unused places are zero.
+-- Assumes nothing.
+use Prim.Native.Nat.{ℕ, _+_, _*_, _≤_, _<_}
+use mathlib.Core.Path.{_≡_, refl, sym, ap, _∙_}
+use mathlib.Core.List.{List, [], _∷_, _++_}
+use native.Mathlib.Omega.{arith}
+use lib.ListN.{length, getD}
+use Rattle.lists.specs.Tab.{removeAt}
+use Rattle.lists.specs.Stores.{stores}
+use Rattle.lists.specs.Parts.{zeros}
+use Rattle.lists.specs.Lines.{lineAt}
+use Rattle.lists.specs.Rows.{overRows, Unused}
+use Rattle.lists.specs.RowsLaws.{row-at, row-out, row-in}
+use Rattle.lists.specs.FillLaws.{rows-cleared}
+use Rattle.rules.specs.Tables.{Request, Flight, name}
+use Rattle.table.specs.View.{requestForm, flightForm, waitingOf, flightsOf}
+use Rattle.table.specs.ViewLaws.{request-exact, flight-exact}
+use Rattle.moves.specs.Moves.{gone, joined, Named, freed, appended}
+use Rattle.moves.specs.declared.rows.Name.{Name}
+
+-- IN FLIGHT
+
+module _ (depth n : ℕ) (fs : List ℕ) (room : depth * 2 ≤ length fs) (unused : Unused flightForm depth n fs) where
+  -- a request leaves
+  pub freed-is : n ≤ depth → (place : ℕ) → place < n → freed place n fs ≡ overRows flightForm depth (removeAt place (flightsOf fs n)) fs
+  freed-is fit place here = row-out flightForm flight-exact depth n fs room fit unused place here
+
+  -- a name stands last
+  pub joined-is : n < depth → (ws : List ℕ) (count place : ℕ) → place < count → joined place n ws fs ≡ overRows flightForm depth (flightsOf fs n ++ (name (getD (waitingOf ws count) place (requestForm .read [])) ∷ [])) fs
+  joined-is free ws count place here =
+      let a : Flight = name (requestForm .read (lineAt 5 ws place)) in
+      let e : joined place n ws fs ≡ stores (λ j. n * 2 + j) (λ j. getD (flightForm .line a) j 0) 2 fs = unfold stores in refl in
+      e
+      ∙ row-in flightForm flight-exact depth n fs room (omega arith) unused a free
+      ∙ ap (λ (q : Request). overRows flightForm depth (flightsOf fs n ++ (name q ∷ [])) fs) (sym (row-at requestForm ws count place here))
+
+-- WAITING
+
+module _ (cap n : ℕ) (ws : List ℕ) (room : cap * 5 ≤ length ws) (unused : Unused requestForm cap n ws) where
+  -- a request stands last
+  pub appended-is : n < cap → (q : Request) → appended n q ws ≡ overRows requestForm cap (waitingOf ws n ++ (q ∷ [])) ws
+  appended-is free q = row-in requestForm request-exact cap n ws room (omega arith) unused q free
+
+  -- a request goes
+  pub gone-is : n ≤ cap → (place : ℕ) → place < n → gone place n ws ≡ overRows requestForm cap (removeAt place (waitingOf ws n)) ws
+  gone-is fit place here = row-out requestForm request-exact cap n ws room fit unused place here
+
+  -- a request is sent: it goes, its name stands last among those in flight, and it is the one that is answered
+  module _ (depth flying : ℕ) (fs : List ℕ) (places : depth * 2 ≤ length fs) (free : flying < depth) (rest : Unused flightForm depth flying fs) (place : ℕ) (here : place < n) where
+    abbrev sentOne : Request
+    sentOne = getD (waitingOf ws n) place (requestForm .read [])
+
+    pub sent-is : n ≤ cap → (r : Name) → Named place ws r
+        → (gone place n ws ≡ overRows requestForm cap (removeAt place (waitingOf ws n)) ws)
+        × (joined place flying ws fs ≡ overRows flightForm depth (flightsOf fs flying ++ (name sentOne ∷ [])) fs)
+        × (r .guest ≡ sentOne .guest)
+        × (r .id ≡ sentOne .id)
+    sent-is fit r e = (
+      gone-is fit place here,
+      joined-is depth flying fs places rest free ws n place here,
+      e .0 ∙ ap Request.guest (sym (row-at requestForm ws n place here)),
+      e .1 ∙ ap Request.id (sym (row-at requestForm ws n place here)),
+    )
+
+-- AT OPENING nothing waits and nothing is in flight; what `start` gives the guests, its contract says
+
+pub cleared-waiting : (cap : ℕ) (ws : List ℕ) → cap * 5 ≤ length ws → zeros 0 ws (cap * 5) ≡ overRows requestForm cap [] ws
+cleared-waiting cap ws room = rows-cleared requestForm request-exact cap ws room
+
+pub cleared-flight : (depth : ℕ) (fs : List ℕ) → depth * 2 ≤ length fs → zeros 0 fs (depth * 2) ≡ overRows flightForm depth [] fs
+cleared-flight depth fs room = rows-cleared flightForm flight-exact depth fs room

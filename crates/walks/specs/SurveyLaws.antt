@@ -1,0 +1,154 @@
+-- What the walks of the survey find, a row to a turn: the rows passed so far are the first rows. Assumes nothing.
+use Prim.Native.Nat.{ℕ, zero, suc, _+_, _-_, _*_, _≤_, _<_, min, max}
+use mathlib.Core.Path.{_≡_, refl, sym, ap, _∙_}
+use mathlib.Core.Bool.{Bool, true, false, not, _&&_, and-true, and-false}
+use mathlib.Core.List.{List, [], _∷_, _++_, map}
+use mathlib.Core.Logic.{⊎-elim}
+use native.Mathlib.Numerals.{add-one}
+use native.Mathlib.Omega.{arith}
+use lib.Dec.{eqb}
+use lib.ListN.{length, getD, length-map}
+use borrow.Author.Tests.{eq-eqb, ne-eqb}
+use Rattle.lists.specs.Words.{all, lowest}
+use Rattle.lists.specs.WordsLaws.{join, all-of-map, all-snoc, none-left, place-not, lowest-snoc}
+use Rattle.lists.specs.Tab.{lt-or-le}
+use Rattle.lists.specs.Lines.{lineAt, linesOf}
+use Rattle.lists.specs.Rows.{rowsOf}
+use Rattle.lists.specs.RowsLaws.{length-rows, row-at, rows-snoc, map-snoc}
+use Rattle.rules.specs.Tables.{Request, of, name, same, lacks}
+use Rattle.table.specs.View.{requestForm, waitingOf}
+use Rattle.walks.specs.Survey.{idleIn, tagOf, highest}
+
+-- THE GUEST'S OWN ROWS
+
+-- row k of the waiting table
+abbrev rowAt : List ℕ → ℕ → Request
+rowAt ws k = requestForm .read (lineAt 5 ws k)
+
+-- a test of every waiting request, one row more
+all-next : (f : Request → Bool) (ws : List ℕ) (k : ℕ) → all f (waitingOf ws (k + 1)) ≡ all f (waitingOf ws k) && f (rowAt ws k)
+all-next f ws k = rw (add-one k) (ap (all f) (rows-snoc requestForm ws k) ∙ all-snoc f (waitingOf ws k) (rowAt ws k))
+
+module _ (ws : List ℕ) (g : ℕ) where
+  pub idle-none : idleIn ws 0 g ≡ true
+  unfolding rowsOf linesOf
+  idle-none = refl
+
+  idle-next : (k : ℕ) → idleIn ws (k + 1) g ≡ idleIn ws k g && not (of g (rowAt ws k))
+  idle-next k =
+      none-left (of g) (waitingOf ws (k + 1)) ∙ all-next (λ q. not (of g q)) ws k
+      ∙ ap (λ (b : Bool). b && not (of g (rowAt ws k))) (sym (none-left (of g) (waitingOf ws k)))
+
+  -- a row of another guest
+  pub idle-same : (k : ℕ) → (getD ws (k * 5 + 0) 0 ≡ g → ⊥) → idleIn ws (k + 1) g ≡ idleIn ws k g
+  idle-same k h = idle-next k ∙ ap (λ (b : Bool). idleIn ws k g && not b) (ne-eqb _ _ h) ∙ and-true (idleIn ws k g)
+
+  -- a row of the guest
+  pub idle-not : (k : ℕ) → getD ws (k * 5 + 0) 0 ≡ g → idleIn ws (k + 1) g ≡ false
+  idle-not k h = idle-next k ∙ ap (λ (b : Bool). idleIn ws k g && not b) (eq-eqb _ _ h) ∙ and-false (idleIn ws k g)
+
+-- no request of this guest and this id stands in the first n rows
+abbrev pub lacksIn : List ℕ → (n g id : ℕ) → Bool
+lacksIn ws n g id = lacks (record { guest = g; id = id }) (map name (waitingOf ws n))
+
+module _ (ws : List ℕ) (g id : ℕ) where
+  -- the test that the walk makes of a request
+  abbrev another : Request → Bool
+  another q = not (eqb g (q .guest) && eqb id (q .id))
+
+  lacks-all : (n : ℕ) → lacksIn ws n g id ≡ all another (waitingOf ws n)
+  lacks-all n = all-of-map (λ f. not (same (record { guest = g; id = id }) f)) name (waitingOf ws n)
+
+  pub lacks-none : lacksIn ws 0 g id ≡ true
+  unfolding rowsOf linesOf
+  lacks-none = refl
+
+  lacks-next : (k : ℕ) → lacksIn ws k g id ≡ true → another (rowAt ws k) ≡ true → lacksIn ws (k + 1) g id ≡ true
+  lacks-next k e h = lacks-all (k + 1) ∙ all-next another ws k ∙ join (sym (lacks-all k) ∙ e) h
+
+  -- a row of another guest, and one with another id
+  pub lacks-guest : (k : ℕ) → lacksIn ws k g id ≡ true → (getD ws (k * 5 + 0) 0 ≡ g → ⊥) → lacksIn ws (k + 1) g id ≡ true
+  lacks-guest k e h = lacks-next k e (rw (ne-eqb g (getD ws (k * 5 + 0) 0) (λ q. h (sym q))))
+
+  pub lacks-id : (k : ℕ) → lacksIn ws k g id ≡ true → (getD ws (k * 5 + 1) 0 ≡ id → ⊥) → lacksIn ws (k + 1) g id ≡ true
+  lacks-id k e h = lacks-next k e (rw (ne-eqb id (getD ws (k * 5 + 1) 0) (λ q. h (sym q)), and-false (eqb g (getD ws (k * 5 + 0) 0))))
+
+  -- the row is there
+  pub lacks-not : (n k : ℕ) → k < n → getD ws (k * 5 + 0) 0 ≡ g → getD ws (k * 5 + 1) 0 ≡ id → lacksIn ws n g id ≡ false
+  lacks-not n k h e i =
+      lacks-all n
+      ∙ place-not another (waitingOf ws n) (requestForm .read []) k (omega (arith, length-rows requestForm ws n))
+      (ap another (row-at requestForm ws n k h) ∙ rw (eq-eqb g (getD ws (k * 5 + 0) 0) (sym e), eq-eqb id (getD ws (k * 5 + 1) 0) (sym i)))
+
+-- THE ENDS
+
+highest-snoc : (l : List ℕ) (x : ℕ) → highest (l ++ (x ∷ [])) ≡ max (highest l) x
+unfolding highest
+highest-snoc [] x = omega arith
+highest-snoc (y ∷ l) x = omega (arith, highest-snoc l x)
+
+-- the share tags of the first n rows
+abbrev pub tags : List ℕ → ℕ → List ℕ
+tags ws n = map Request.stag (waitingOf ws n)
+
+module _ (ws : List ℕ) where
+  length-tags : (n : ℕ) → length (tags ws n) ≡ n
+  length-tags n = length-map (waitingOf ws n) Request.stag ∙ length-rows requestForm ws n
+
+  tags-snoc : (n : ℕ) → tags ws (suc n) ≡ tags ws n ++ (tagOf ws n ∷ [])
+  tags-snoc n = ap (map Request.stag) (rows-snoc requestForm ws n) ∙ map-snoc Request.stag (waitingOf ws n) (rowAt ws n)
+
+  pub ends-none : (0 ≡ lowest (tags ws 0)) × (0 ≡ highest (tags ws 0))
+  unfolding rowsOf linesOf lowest highest
+  ends-none = (refl, refl)
+
+  pub ends-first : (tagOf ws 0 ≡ lowest (tags ws 1)) × (tagOf ws 0 ≡ highest (tags ws 1))
+  unfolding rowsOf linesOf lowest highest
+  ends-first = (refl, omega arith)
+
+  low-suc : (n : ℕ) → 0 < n → lowest (tags ws (suc n)) ≡ min (lowest (tags ws n)) (tagOf ws n)
+  low-suc n h = ap lowest (tags-snoc n) ∙ lowest-snoc (tags ws n) (tagOf ws n) (omega (arith, length-tags n))
+
+  high-suc : (n : ℕ) → highest (tags ws (suc n)) ≡ max (highest (tags ws n)) (tagOf ws n)
+  high-suc n = ap highest (tags-snoc n) ∙ highest-snoc (tags ws n) (tagOf ws n)
+
+  -- one row more
+  pub low-next : (n m : ℕ) → 0 < n → m ≡ lowest (tags ws n) → min m (tagOf ws n) ≡ lowest (tags ws (n + 1))
+  low-next n m h e = rw (add-one n, e) (sym (low-suc n h))
+
+  pub high-next : (n m : ℕ) → m ≡ highest (tags ws n) → max m (tagOf ws n) ≡ highest (tags ws (n + 1))
+  high-next n m e = rw (add-one n, e) (sym (high-suc n))
+
+  -- rows that lie inside the ends change neither
+  low-skip : (n d m : ℕ) → 0 < n → m ≡ lowest (tags ws n) → ((k : ℕ) → n ≤ k → k < n + d → m ≤ tagOf ws k) → m ≡ lowest (tags ws (n + d))
+  low-skip n zero m s e h = let q : n ≡ n + 0 = omega arith in e ∙ ap (λ i. lowest (tags ws i)) q
+  low-skip n (suc d) m s e h =
+      let inner : m ≡ lowest (tags ws (n + d)) = low-skip n d m s e (λ k l g. h k l (omega arith)) in
+      let q : suc (n + d) ≡ n + suc d = omega arith in
+      let here : m ≤ tagOf ws (n + d) = h (n + d) (omega arith) (omega arith) in
+      let next : m ≡ lowest (tags ws (suc (n + d))) = omega (arith, low-suc (n + d) (omega arith)) in
+      next ∙ ap (λ i. lowest (tags ws i)) q
+
+  high-skip : (n d m : ℕ) → m ≡ highest (tags ws n) → ((k : ℕ) → n ≤ k → k < n + d → tagOf ws k ≤ m) → m ≡ highest (tags ws (n + d))
+  high-skip n zero m e h = let q : n ≡ n + 0 = omega arith in e ∙ ap (λ i. highest (tags ws i)) q
+  high-skip n (suc d) m e h =
+      let inner : m ≡ highest (tags ws (n + d)) = high-skip n d m e (λ k l g. h k l (omega arith)) in
+      let q : suc (n + d) ≡ n + suc d = omega arith in
+      let here : tagOf ws (n + d) ≤ m = h (n + d) (omega arith) (omega arith) in
+      let next : m ≡ highest (tags ws (suc (n + d))) = omega (arith, high-suc (n + d)) in
+      next ∙ ap (λ i. highest (tags ws i)) q
+
+  -- so the ends at place n are those at place r, where no row between lies outside them
+  pub ends-skip : (n r least most : ℕ) → 0 < n → n ≤ r → (least ≡ lowest (tags ws n)) × (most ≡ highest (tags ws n))
+      → ((k : ℕ) → n ≤ k → k < r → (least ≤ tagOf ws k) × (tagOf ws k ≤ most)) → (least ≡ lowest (tags ws r)) × (most ≡ highest (tags ws r))
+  ends-skip n r least most s h e inside =
+      let q : n + (r - n) ≡ r = omega arith in (
+        low-skip n (r - n) least s (e .0) (λ k l g. inside k l (omega arith) .0) ∙ ap (λ i. lowest (tags ws i)) q,
+        high-skip n (r - n) most (e .1) (λ k l g. inside k l (omega arith) .1) ∙ ap (λ i. highest (tags ws i)) q,
+      )
+
+  -- what holds of a run of rows, one row more
+  pub inside-next : (from i least most : ℕ) → ((k : ℕ) → from ≤ k → k < i → (least ≤ tagOf ws k) × (tagOf ws k ≤ most)) → least ≤ tagOf ws i → tagOf ws i ≤ most
+      → (k : ℕ) → from ≤ k → k < i + 1 → (least ≤ tagOf ws k) × (tagOf ws k ≤ most)
+  inside-next from i least most h low high k l b =
+      ⊎-elim (λ g. h k l g) (λ g. let e : k ≡ i = omega arith in rw e (low, high)) (lt-or-le k i)

@@ -1,0 +1,42 @@
+-- What the walks over the lent rows answer: the place of the request that the choice picks, and the place of a name in flight.
+use Prim.Native.Nat.{ℕ, _+_, _*_, _≤_, _<_}
+use mathlib.Core.Path.{_≡_}
+use mathlib.Core.Bool.{Bool, true, false}
+use mathlib.Core.List.{List}
+use lib.ListN.{length, getD}
+use Rattle.lists.specs.Words.{without}
+use Rattle.lists.specs.Tab.{removeAt}
+use Rattle.rules.specs.Numbers.{ceiling}
+use Rattle.rules.specs.Tables.{Request, Flight, same, lacks}
+use Rattle.rules.specs.Choice.{Pick, nobody, picked, least}
+use Rattle.rules.specs.Chosen.{at}
+use Rattle.walks.specs.declared.Found.{Found}
+use Rattle.walks.specs.declared.Found.the-variants.{At, Nothing}
+
+-- every waiting request's guest is one of the first n
+abbrev pub Owned : List ℕ → (count n : ℕ) → Type 0
+Owned ws count n = (k : ℕ) → k < count → getD ws (k * 5 + 0) 0 < n
+
+-- every share tag is at most the ceiling
+abbrev pub SharesFit : List ℕ → (count : ℕ) → Type 0
+SharesFit ws count = (k : ℕ) → k < count → getD ws (k * 5 + 4) 0 ≤ ceiling
+
+-- a place that is found is one of n
+abbrev pub Inside : Found → ℕ → Type 0
+Inside Nothing n = Unit {0}
+Inside (At i) n = i < n
+
+-- the pick of a place: its request, and the others in their order
+abbrev pub pickAt : Found → List Request → Pick
+pickAt Nothing rows = nobody
+pickAt (At i) rows = picked (at rows i) (removeAt i rows)
+
+-- f is the place of the request that `least` picks, or says that it picks nobody
+pub record Picks (ok : Request → Bool) (tag : Request → ℕ) (rows : List Request) (f : Found) : Type 0 where
+  pub pick : least ok tag rows ≡ pickAt f rows
+  pub inside : Inside f (length rows)
+
+-- f is the first place of the name a in l, the one that a completion takes out, or says that l lacks it
+abbrev pub Finds : Flight → List Flight → Found → Type 0
+Finds a l Nothing = lacks a l ≡ true
+Finds a l (At i) = (i < length l) × (lacks a l ≡ false) × (without (same a) l ≡ removeAt i l)
