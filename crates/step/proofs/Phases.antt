@@ -22,10 +22,11 @@ use Rattle.rules.specs.declared.Gate.{Gate}
 use Rattle.table.specs.View.{guestForm, requestForm, guestsOf, waitingOf, tableOf, Known}
 use Rattle.walks.specs.LeastLaws.{least-ext, open-by-tag}
 use Rattle.moves.specs.Moves.{gone, spacingOf}
-use Rattle.walks.specs.Walks.{Picks, Owned, SharesFit}
+use Rattle.walks.specs.Walks.{Picks, Owned, Rising, SharesFit}
 use Rattle.walks.specs.declared.Found.{Found}
 use Rattle.walks.specs.declared.Found.the-variants.{At}
 use Rattle.step.proofs.Facts.{Facts, facts, row-is, guest-is}
+use Rattle.step.proofs.Rising.{rising-rows}
 use Rattle.step.proofs.Sends.{goes, stay, goesGuest, guest-goes, length-stay}
 use Rattle.step.proofs.WeightSend.{left, left-rows, left-room}
 
@@ -40,13 +41,13 @@ module _ (g : Gate) (gs ws fs : List ℕ) (k : Known g gs ws fs) where
   pub rows-ask : (g .waiting ≤ 1024) × (g .waiting * 5 ≤ length ws)
   rows-ask = (omega (arith, f .waits, f .counts .capacity .1), omega (arith, f .waits, k .waitingRoom))
 
-  -- what the reservation phase's walk asks
-  pub due-asks : ((g .waiting ≤ 1024) × (g .waiting * 5 ≤ length ws) × (g .guests ≤ 64) × (g .guests * 6 ≤ length gs)) × (Owned ws (g .waiting) (g .guests) × (g .time ≤ ceiling))
-  due-asks = ((rows-ask .0, rows-ask .1, f .counts .guests .1, k .guestRoom), (f .owners, f .timed))
-
-  -- what the weight phase's walk asks
-  pub open-asks : (g .waiting ≤ 1024) × (g .waiting * 5 ≤ length ws) × SharesFit ws (g .waiting)
-  open-asks = (rows-ask .0, rows-ask .1, λ j h. omega (arith, f .lawfuls j h .share, ap Request.stag (row-is g gs ws fs k j h)))
+  -- what the walk asks
+  pub line-asks : ((g .waiting ≤ 1024) × (g .waiting * 5 ≤ length ws) × (g .guests ≤ 64) × (g .guests * 6 ≤ length gs))
+      × ((Owned ws (g .waiting) (g .guests) × Rising ws (g .waiting) × SharesFit ws (g .waiting)) × (g .time ≤ ceiling))
+  line-asks = (
+    (rows-ask .0, rows-ask .1, f .counts .guests .1, k .guestRoom),
+    ((f .owners, rising-rows g gs ws fs k, λ j h. omega (arith, f .lawfuls j h .share, ap Request.stag (row-is g gs ws fs k j h))), f .timed),
+  )
 
   -- the walk's test is the reservation phase's
   pub due-picks : (x : Found) → Picks (λ q. dueAt (settingsOf (guestsOf gs (g .guests)) q) (g .time) q) Request.rtag (t .waiting) x → Picks (due t) Request.rtag (t .waiting) x

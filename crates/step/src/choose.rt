@@ -1,4 +1,4 @@
-// The choice on a table that is known to be sound: one walk over the waiting rows for each phase.
+// The choice on a table that is known to be sound: one walk over the waiting rows finds what each phase would send.
 use crate::gates;
 use rules::Answer;
 use rules::Gate;
@@ -7,20 +7,28 @@ use rules::Phase;
 use walks::Found;
 ghost use mathlib.Core.Path.{_≡_};
 ghost use Prim.Native.Nat.{_<_};
+ghost use lib.Dec.{leb};
+ghost use Rattle.rules.specs.Tables.{Request};
 ghost use Rattle.rules.specs.Choice.{choice};
-ghost use Rattle.table.specs.View.{Known};
+ghost use Rattle.table.specs.View.{waitingOf, Known};
+ghost use Rattle.walks.specs.Walks.{Picks};
 ghost use Rattle.step.specs.Does.{does, weightPhase, reservationPhase};
 
-// The weight phase: the open request with the smallest share tag goes, and its guest's reservation tags drop.
-fn by_weight(gate: Gate, guests: &mut [u64], waiting: &mut [u64], flight: &mut [u64]) -> Outcome
+// The weight phase: the open request with the smallest share tag, which the walk found, goes, and its guest's reservation tags drop.
+fn by_weight(
+    gate: Gate,
+    guests: &mut [u64],
+    waiting: &mut [u64],
+    flight: &mut [u64],
+    found: Found,
+) -> Outcome
     requires { ⌜ Known gate (now guests) (now waiting) (now flight) ⌝ }
     requires { ⌜ gate .flight < gate .depth ⌝ }
+    requires { ⌜ Picks (λ q. leb (q .ltag) (gate .time)) Request.stag (waitingOf (now waiting) (gate .waiting)) found ⌝ }
     ensures { λ r. ⌜ (r, now (guests .exit), now (waiting .exit), now (flight .exit)) ≡ does weightPhase gate (now (guests .entry)) (now (waiting .entry)) (now (flight .entry)) ⌝ }
 {
     let count = gate.waiting as usize;
     let flying = gate.flight as usize;
-    let time = gate.time;
-    let found = walks::rows::first_open(&waiting[..], count, time);
     match found {
         Found::At(place) => {
             let name = moves::rows::send(waiting, flight, place, count, flying);
@@ -51,7 +59,9 @@ fn by_reservation(
     let count = gate.waiting as usize;
     let flying = gate.flight as usize;
     let time = gate.time;
-    let found = walks::rows::first_due(&waiting[..], count, &guests[..], known, time);
+    let firsts = walks::rows::first_in_line(&waiting[..], count, &guests[..], known, time);
+    let found = firsts.due;
+    let spare = firsts.open;
     match found {
         Found::At(place) => {
             let name = moves::rows::send(waiting, flight, place, count, flying);
@@ -59,7 +69,7 @@ fn by_reservation(
             let id = name.id as u32;
             gates::sent(gate, Phase::Reservation, guest, id)
         }
-        Found::Nothing => by_weight(gate, guests, waiting, flight),
+        Found::Nothing => by_weight(gate, guests, waiting, flight, spare),
     }
 }
 

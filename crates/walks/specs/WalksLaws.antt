@@ -1,17 +1,20 @@
 -- A walk from the first row with a falling bound holds the row that stands foremost so far, and so ends at what `least` picks.
 -- Assumes nothing.
-use Prim.Native.Nat.{ℕ, _+_, _≤_, _<_}
+use Prim.Native.Nat.{ℕ, _+_, _*_, _/_, _≤_, _<_}
 use mathlib.Core.Path.{_≡_, refl, sym, _∙_}
-use mathlib.Core.Bool.{Bool, true, false, true≢false}
+use mathlib.Core.Bool.{Bool, true, false}
 use mathlib.Core.List.{List}
 use mathlib.Core.Logic.{_⊎_, inl, inr, ⊎-elim}
 use native.Mathlib.Omega.{arith}
+use lib.Dec.{ltb}
 use lib.ListN.{length}
 use borrow.Author.Count.{below-none, below-more}
+use borrow.Author.Tests.{ltb-true, ltb-false}
+use Rattle.lists.specs.Words.{if_then_else_}
 use Rattle.rules.specs.Tables.{Request}
 use Rattle.rules.specs.Chosen.{at, Foremost}
 use Rattle.rules.proofs.Places.{least-at, least-none}
-use Rattle.walks.specs.Walks.{Picks}
+use Rattle.walks.specs.Walks.{Picks, placeIn}
 use Rattle.walks.specs.declared.Found.the-variants.{At, Nothing}
 
 -- of the first i rows that are ok, the one at `place` has the smallest tag, `bound`, and is the earliest of equal ones
@@ -54,9 +57,9 @@ module _ {ok : Request → Bool} {tag : Request → ℕ} {rows : List Request} {
         still : Holds ok tag rows i place bound → Holds ok tag rows (i + 1) place bound
         still h = record { passed = omega (arith, h .passed); good = h .good; tagged = h .tagged; earliest = h .earliest }
 
-    -- row i is not ok
-    pub walk-not : ok (at rows i) ≡ false → Walk ok tag rows top none (i + 1) place bound
-    walk-not e = walk-pass (λ o. absurd (true≢false (sym o ∙ e)))
+    -- row i is ok only where an earlier row is, whose tag is no larger: its tag is not below the bound
+    pub walk-behind : (j : ℕ) → j < i → (ok (at rows i) ≡ true → (ok (at rows j) ≡ true) × (tag (at rows j) ≤ tag (at rows i))) → ok (at rows i) ≡ true → bound ≤ tag (at rows i)
+    walk-behind j h b o = omega (arith, w .above j h (b o .0), b o .1)
 
   module _ {place bound : ℕ} (size : length rows ≡ none) (w : Walk ok tag rows top none none place bound) where
     -- the end, with a place of a row
@@ -81,3 +84,35 @@ module _ {ok : Request → Bool} {tag : Request → ℕ} {rows : List Request} {
         go (inr h) j k b o = absurd (omega (arith, h .passed))
         go (inl e) j k false o = refl
         go (inl e) j k true o = absurd (omega (arith, w .above j k o, small j k o))
+
+-- the walk, its place told by where the numbers of that row begin: five a row
+pub record Told (ok : Request → Bool) (tag : Request → ℕ) (rows : List Request) (top none i from bound : ℕ) : Type 0 where
+  pub place : ℕ
+  pub begins : from ≡ place * 5
+  pub walk : Walk ok tag rows top none i place bound
+
+module _ {ok : Request → Bool} {tag : Request → ℕ} {rows : List Request} {top none : ℕ} where
+  pub told-start : Told ok tag rows top none 0 (none * 5) top
+  told-start = record { place = none; begins = refl; walk = walk-start }
+
+  module _ {i from bound : ℕ} (w : Told ok tag rows top none i from bound) where
+    -- row i, which begins at b, is taken
+    pub told-take : {b m : ℕ} → b ≡ i * 5 → ok (at rows i) ≡ true → tag (at rows i) ≡ m → m < bound → Told ok tag rows top none (i + 1) b m
+    told-take e o t l = record { place = i; begins = e; walk = walk-take (w .walk) o t l }
+
+    -- row i is passed over
+    pub told-pass : (ok (at rows i) ≡ true → bound ≤ tag (at rows i)) → Told ok tag rows top none (i + 1) from bound
+    told-pass p = record { place = w .place; begins = w .begins; walk = walk-pass (w .walk) p }
+
+  -- the end
+  pub told-picks : {from bound : ℕ} → length rows ≡ none → Told ok tag rows top none none from bound → ((j : ℕ) → j < none → ok (at rows j) ≡ true → tag (at rows j) < top)
+      → Picks ok tag rows (placeIn from (none * 5))
+  unfolding placeIn
+  told-picks {from} {bound} size w small = go (ltb from (none * 5)) refl
+    where
+      go : (b : Bool) → ltb from (none * 5) ≡ b → Picks ok tag rows (if b then At (from / 5) else Nothing)
+      go true e =
+          let l : w .place < none = omega (arith, w .begins, ltb-true from (none * 5) e) in
+          let p : from / 5 ≡ w .place = omega (arith, w .begins) in
+          rw p (walk-found size (w .walk) l)
+      go false e = walk-nothing size (w .walk) (omega (arith, w .begins, ltb-false from (none * 5) e)) small

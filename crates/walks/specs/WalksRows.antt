@@ -9,17 +9,21 @@ use lib.Dec.{ltb, leb, eqb}
 use lib.ListN.{length, getD}
 use borrow.Author.Tests.{lt-ltb, le-leb, lt-leb, leb-true, eq-eqb, ne-eqb}
 use Rattle.lists.specs.RowsLaws.{row-at, length-rows}
-use Rattle.lists.specs.WordsLaws.{both, places-all, place-not, without-at}
+use Rattle.lists.specs.WordsLaws.{both, join, places-all, place-not, without-at}
 use Rattle.rules.specs.Tables.{Guest, Request, Flight, settingsOf, same}
 use Rattle.rules.specs.Choice.{dueAt}
 use Rattle.rules.specs.Chosen.{at}
 use Rattle.table.specs.View.{guestForm, requestForm, flightForm, guestsOf, waitingOf, flightsOf}
-use Rattle.walks.specs.Walks.{Owned, Finds}
+use Rattle.walks.specs.Walks.{Owned, Rising, Finds}
 use Rattle.walks.specs.declared.Found.the-variants.{At, Nothing}
 
 -- the test of the reservation phase, with the guests' settings read from the lent guest table
 abbrev pub dueIn : List ℕ → (known time : ℕ) → Request → Bool
 dueIn gs known time q = dueAt (settingsOf (guestsOf gs known) q) time q
+
+-- the test of the weight phase, where an unlimited guest's limit tags are 0
+abbrev pub openIn : (time : ℕ) → Request → Bool
+openIn time q = leb (q .ltag) time
 
 -- THE WAITING ROWS
 
@@ -32,7 +36,7 @@ module _ (ws : List ℕ) (count k : ℕ) (here : k < count) where
   stag-at = ap Request.stag (row-at requestForm ws count k here)
 
   -- its limit tag too, so its number says whether the request is open
-  open-at : (time : ℕ) → leb ((at (waitingOf ws count) k) .ltag) time ≡ leb (getD ws (k * 5 + 3) 0) time
+  pub open-at : (time : ℕ) → leb ((at (waitingOf ws count) k) .ltag) time ≡ leb (getD ws (k * 5 + 3) 0) time
   open-at time = ap (λ (q : Request). leb (q .ltag) time) (row-at requestForm ws count k here)
 
   -- a limit tag at or before the time
@@ -45,7 +49,7 @@ module _ (ws : List ℕ) (count k : ℕ) (here : k < count) where
 
   module _ (gs : List ℕ) (known time : ℕ) (owned : Owned ws count known) where
     -- the row's guest and tag, and the guest's reservation, say whether the request is due
-    due-at : dueIn gs known time (at (waitingOf ws count) k) ≡ (ltb 0 (getD gs (getD ws (k * 5 + 0) 0 * 6 + 0) 0) && leb (getD ws (k * 5 + 2) 0) time)
+    pub due-at : dueIn gs known time (at (waitingOf ws count) k) ≡ (ltb 0 (getD gs (getD ws (k * 5 + 0) 0 * 6 + 0) 0) && leb (getD ws (k * 5 + 2) 0) time)
     unfolding dueAt
     due-at =
         ap (dueIn gs known time) (row-at requestForm ws count k here)
@@ -64,6 +68,30 @@ module _ (ws : List ℕ) (count k : ℕ) (here : k < count) where
     due-tag e =
         let l = both (ltb 0 (getD gs (getD ws (k * 5 + 0) 0 * 6 + 0) 0)) (leb (getD ws (k * 5 + 2) 0) time) (sym due-at ∙ e) .1 in
         omega (arith, rtag-at, leb-true (getD ws (k * 5 + 2) 0) time l)
+
+-- ROWS OF ONE GUEST
+
+module _ (ws : List ℕ) (count : ℕ) where
+  -- a request is due only where an earlier one of its guest is, whose tag is no larger
+  pub due-behind : (gs : List ℕ) (known time : ℕ) → Owned ws count known → Rising ws count → (j k : ℕ) → j < k → k < count → getD ws (j * 5 + 0) 0 ≡ getD ws (k * 5 + 0) 0
+      → dueIn gs known time (at (waitingOf ws count) k) ≡ true
+      → (dueIn gs known time (at (waitingOf ws count) j) ≡ true) × ((at (waitingOf ws count) j) .rtag ≤ (at (waitingOf ws count) k) .rtag)
+  due-behind gs known time owned rising j k l h e d =
+      let c = both (ltb 0 (getD gs (getD ws (k * 5 + 0) 0 * 6 + 0) 0)) (leb (getD ws (k * 5 + 2) 0) time) (sym (due-at ws count k h gs known time owned) ∙ d) in
+      let r = rising j k l h e .0 in
+      let i : j < count = omega arith in (
+        due-at ws count j i gs known time owned ∙ rw e (join (c .0) (le-leb (getD ws (j * 5 + 2) 0) time (omega (arith, r, leb-true (getD ws (k * 5 + 2) 0) time (c .1))))),
+        omega (arith, r, rtag-at ws count j i, rtag-at ws count k h),
+      )
+
+  -- a request is open only where an earlier one of its guest is, whose share tag is no larger
+  pub open-behind : (time : ℕ) → Rising ws count → (j k : ℕ) → j < k → k < count → getD ws (j * 5 + 0) 0 ≡ getD ws (k * 5 + 0) 0
+      → openIn time (at (waitingOf ws count) k) ≡ true → (openIn time (at (waitingOf ws count) j) ≡ true) × ((at (waitingOf ws count) j) .stag ≤ (at (waitingOf ws count) k) .stag)
+  open-behind time rising j k l h e d =
+      let r = rising j k l h e in
+      let i : j < count = omega arith in
+      let z = leb-true (getD ws (k * 5 + 3) 0) time (sym (open-at ws count k h time) ∙ d) in
+      (open-is ws count j i time (omega (arith, r .1)), omega (arith, r .2, stag-at ws count j i, stag-at ws count k h))
 
 -- THE ROWS IN FLIGHT
 

@@ -1,13 +1,16 @@
-// The walks over the lent rows that read and change nothing: the pick of each phase, and the place of a name in flight.
+// The walks over the lent rows that read and change nothing: the request that each phase of the choice would send, and the place of a name
+// in flight.
 use super::Found;
-ghost use Prim.Native.Nat.{_*_, _≤_};
-ghost use lib.Dec.{leb};
-ghost use lib.ListN.{length};
+ghost use mathlib.Core.Path.{_≡_};
+ghost use mathlib.Core.Bool.{_&&_};
+ghost use Prim.Native.Nat.{_+_, _*_, _≤_};
+ghost use lib.Dec.{ltb, leb};
+ghost use lib.ListN.{length, getD};
 ghost use Rattle.rules.specs.Numbers.{ceiling};
 ghost use Rattle.rules.specs.Tables.{Request, settingsOf};
 ghost use Rattle.rules.specs.Choice.{dueAt};
 ghost use Rattle.table.specs.View.{guestsOf, waitingOf, flightsOf};
-ghost use Rattle.walks.specs.Walks.{Picks, Finds, Owned, SharesFit};
+ghost use Rattle.walks.specs.Walks.{Picks, Finds, Owned, Rising, SharesFit, placeIn};
 
 const RESERVATION: usize = 0;
 
@@ -24,58 +27,87 @@ const STAG: usize = 4;
 // One past the ceiling: no share tag is as large.
 const PAST: u64 = 4611686018427387904;
 
-// The reservation phase. The bound begins one above the time, so that one test says due and smaller; what is read is read before the tests.
-pub fn first_due(waiting: &[u64], count: usize, guests: &[u64], known: usize, time: u64) -> Found
-    requires { ⌜ (count ≤ 1024) × (count * 5 ≤ length (now waiting)) × (known ≤ 64) × (known * 6 ≤ length (now guests)) ⌝ }
-    requires { ⌜ Owned (now waiting) count known ⌝ }
-    requires { ⌜ time ≤ ceiling ⌝ }
-    ensures { λ f. ⌜ Picks (λ q. dueAt (settingsOf (guestsOf (now (guests .entry)) known) q) time q) Request.rtag (waitingOf (now (waiting .entry)) count) f ⌝ }
+// What the walk of the choice finds: the request that each phase would send.
+pub struct Firsts {
+    pub due: Found,
+    pub open: Found,
+}
+
+// Whether the row at `at` has a reservation tag below the bound. The guest is read only where it is so: an unreserved guest's tags are 0.
+fn due_before(waiting: &[u64], at: usize, guests: &[u64], guest: usize, bound: u64) -> bool
+    requires { ⌜ (at + 5 ≤ length (now waiting)) × (guest * 6 + 6 ≤ length (now guests)) × (guest ≤ 64) ⌝ }
+    ensures { λ b. ⌜ b ≡ (ltb (getD (now (waiting .entry)) (at + 2) 0) bound && ltb 0 (getD (now (guests .entry)) (guest * 6 + 0) 0)) ⌝ }
 {
-    let mut place = count;
-    let mut bound = time + 1;
-    let mut i: usize = 0;
-    while i < count {
-        let guest = waiting[i * 5 + GUEST] as usize;
-        let rtag = waiting[i * 5 + RTAG];
-        let reservation = guests[guest * 6 + RESERVATION];
-        if reservation != 0 {
-            if rtag < bound {
-                place = i;
-                bound = rtag;
-            }
-        }
-        i += 1;
+    if waiting[at + RTAG] < bound {
+        0 < guests[guest * 6 + RESERVATION]
+    } else {
+        false
     }
-    if place < count {
-        Found::At(place)
+}
+
+// Whether the row at `at` has a share tag below the bound, and a limit tag at or before the time. An unlimited guest's limit tags are 0.
+fn open_before(waiting: &[u64], at: usize, time: u64, bound: u64) -> bool
+    requires { ⌜ at + 5 ≤ length (now waiting) ⌝ }
+    ensures { λ b. ⌜ b ≡ (ltb (getD (now (waiting .entry)) (at + 4) 0) bound && leb (getD (now (waiting .entry)) (at + 3) 0) time) ⌝ }
+{
+    if waiting[at + STAG] < bound {
+        waiting[at + LTAG] <= time
+    } else {
+        false
+    }
+}
+
+// The place of the row at `at`, or none where all rows are passed.
+fn place_in(at: usize, used: usize) -> Found
+    ensures { λ f. ⌜ f ≡ placeIn at used ⌝ }
+{
+    if at < used {
+        Found::At(at / 5)
     } else {
         Found::Nothing
     }
 }
 
-// The weight phase, where an unlimited guest's limit tags are 0. The share tag is held against the bound first, the limit tag read only then.
-pub fn first_open(waiting: &[u64], count: usize, time: u64) -> Found
-    requires { ⌜ (count ≤ 1024) × (count * 5 ≤ length (now waiting)) × SharesFit (now waiting) count ⌝ }
-    ensures { λ f. ⌜ Picks (λ q. leb (q .ltag) time) Request.stag (waitingOf (now (waiting .entry)) count) f ⌝ }
+// One walk for both phases. Only the first row of each guest is looked at: within a guest no later tag is smaller. A bound falls with what is
+// found; the first one begins one above the time, so that one test says due and smaller. Rows are told by where their numbers begin.
+pub fn first_in_line(
+    waiting: &[u64],
+    count: usize,
+    guests: &[u64],
+    known: usize,
+    time: u64,
+) -> Firsts
+    requires { ⌜ (count ≤ 1024) × (count * 5 ≤ length (now waiting)) × (known ≤ 64) × (known * 6 ≤ length (now guests)) ⌝ }
+    requires { ⌜ Owned (now waiting) count known × Rising (now waiting) count × SharesFit (now waiting) count ⌝ }
+    requires { ⌜ time ≤ ceiling ⌝ }
+    ensures { λ r. ⌜ Picks (λ q. dueAt (settingsOf (guestsOf (now (guests .entry)) known) q) time q) Request.rtag (waitingOf (now (waiting .entry)) count) (r .due) ⌝ }
+    ensures { λ r. ⌜ Picks (λ q. leb (q .ltag) time) Request.stag (waitingOf (now (waiting .entry)) count) (r .open) ⌝ }
 {
-    let mut place = count;
-    let mut bound = PAST;
-    let mut i: usize = 0;
-    while i < count {
-        let stag = waiting[i * 5 + STAG];
-        if stag < bound {
-            let ltag = waiting[i * 5 + LTAG];
-            if ltag <= time {
-                place = i;
-                bound = stag;
+    let used = count * 5;
+    let mut seen = [0u8; 64];
+    let mut first = used;
+    let mut soonest = time + 1;
+    let mut spare = used;
+    let mut smallest = PAST;
+    let mut at: usize = 0;
+    while at < used {
+        let guest = waiting[at + GUEST] as usize;
+        if seen[guest] == 0 {
+            seen[guest] = 1;
+            if due_before(waiting, at, guests, guest, soonest) {
+                first = at;
+                soonest = waiting[at + RTAG];
+            }
+            if open_before(waiting, at, time, smallest) {
+                spare = at;
+                smallest = waiting[at + STAG];
             }
         }
-        i += 1;
+        at += 5;
     }
-    if place < count {
-        Found::At(place)
-    } else {
-        Found::Nothing
+    Firsts {
+        due: place_in(first, used),
+        open: place_in(spare, used),
     }
 }
 

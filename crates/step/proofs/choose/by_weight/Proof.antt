@@ -1,62 +1,52 @@
 use mathlib.Core.Path.{_≡_}
 use native.Mathlib.Omega.{arith}
-use Rattle.step.proofs.Phases.{open-asks, send-asks, sent-asks}
+use Rattle.step.proofs.Phases.{send-asks, sent-asks}
 use Rattle.step.proofs.Returns.{narrow-id, open-here, drop-asked, weight-returns, none-open}
 use borrow.Author.Needs.{needs}
 use Rattle.step.proofs.choose.by_weight.Statement.{statement}
 use Rattle.step.proofs.choose.by_weight.Tie as tie
-
-first-open-requires : tie.Need-first-open-requires
-first-open-requires c κs =
-    let s = c .before .before .before .before in
-    open-asks (s .args .gate) (s .args .guests .now) (s .args .waiting .now) (s .args .flight .now) (s .pre .0)
 
 enum-known-found : tie.Need-enum-known-found
 enum-known-found c = search needs
 
 send-requires : tie.Need-send-requires
 send-requires c κs =
-    let s = c .before .before .before .before .before .before .before .before .before .before in
-    let w = c .before .before .before .before .before .first-open in
+    let s = c .before .before .before .before .before .before .before .before in
     let f = c .before .before .before .found .given in
-    send-asks (s .args .gate) (s .args .guests .now) (s .args .waiting .now) (s .args .flight .now) (s .pre .0) (s .pre .1) (f .0 .0)
-    (open-here (s .args .gate) (s .args .guests .now) (s .args .waiting .now) (s .args .flight .now) (s .pre .0) (s .pre .1) (w .result) (f .0 .0) (w .ensures) (f .1))
+    send-asks (s .args .gate) (s .args .guests .now) (s .args .waiting .now) (s .args .flight .now) (s .pre .0) (s .pre .1 .0) (f .0 .0)
+    (open-here (s .args .gate) (s .args .guests .now) (s .args .waiting .now) (s .args .flight .now) (s .pre .0) (s .pre .1 .0) (s .args .found) (f .0 .0) (s .pre .1 .1) (f .1))
 
 cast-id : tie.Need-cast-id
 cast-id c =
-    let s = c .before .before .before .before .before .before .before .before .before .before .before .before .before .before .before .before in
-    let w = c .before .before .before .before .before .before .before .before .before .before .before .first-open in
+    let s = c .before .before .before .before .before .before .before .before .before .before .before .before .before .before in
     let f = c .before .before .before .before .before .before .before .before .before .found .given in
     let n = c .before .before .before .before .before .send in
     omega (
       arith,
       narrow-id (s .args .gate) (s .args .guests .now) (s .args .waiting .now) (s .args .flight .now) (s .pre .0) (f .0 .0)
-          (open-here (s .args .gate) (s .args .guests .now) (s .args .waiting .now) (s .args .flight .now) (s .pre .0) (s .pre .1) (w .result) (f .0 .0) (w .ensures) (f .1))
+          (open-here (s .args .gate) (s .args .guests .now) (s .args .waiting .now) (s .args .flight .now) (s .pre .0) (s .pre .1 .0) (s .args .found) (f .0 .0) (s .pre .1 .1) (f .1))
           (n .result) (n .ensures .1 .1),
     )
 
 sub-drop-tags : tie.Need-sub-drop-tags
 sub-drop-tags c =
-    let s = c .before .before .before .before .before .before .before .before .before .before .before .before .before .before .before .before .before .before in
-    let w = c .before .before .before .before .before .before .before .before .before .before .before .before .before .first-open in
+    let s = c .before .before .before .before .before .before .before .before .before .before .before .before .before .before .before .before in
     let f = c .before .before .before .before .before .before .before .before .before .before .before .found .given in
-    omega (arith, open-here (s .args .gate) (s .args .guests .now) (s .args .waiting .now) (s .args .flight .now) (s .pre .0) (s .pre .1) (w .result) (f .0 .0) (w .ensures) (f .1))
+    omega (arith, open-here (s .args .gate) (s .args .guests .now) (s .args .waiting .now) (s .args .flight .now) (s .pre .0) (s .pre .1 .0) (s .args .found) (f .0 .0) (s .pre .1 .1) (f .1))
 
 drop-tags-requires : tie.Need-drop-tags-requires
 drop-tags-requires c κs =
-    let s = c .before .before .before .before .before .before .before .before .before .before .before .before .before .before .before .before .before .before in
-    let w = c .before .before .before .before .before .before .before .before .before .before .before .before .before .first-open in
+    let s = c .before .before .before .before .before .before .before .before .before .before .before .before .before .before .before .before in
     let f = c .before .before .before .before .before .before .before .before .before .before .before .found .given in
     let n = c .before .before .before .before .before .before .before .send in
-    drop-asked (s .args .gate) (s .args .guests .now) (s .args .waiting .now) (s .args .flight .now) (s .pre .0) (s .pre .1) (w .result) (f .0 .0) (w .ensures) (f .1) (n .result) _ (n .ensures .0) (n .ensures .1 .1)
+    drop-asked (s .args .gate) (s .args .guests .now) (s .args .waiting .now) (s .args .flight .now) (s .pre .0) (s .pre .1 .0) (s .args .found) (f .0 .0) (s .pre .1 .1) (f .1) (n .result) _ (n .ensures .0) (n .ensures .1 .1)
 
 sent-requires : tie.Need-sent-requires
 sent-requires c κs =
-    let s = c .before .before .before .before .before .before .before .before .before .before .before .before .before .before .before .before .before .before .before .before .before .before .before in
-    let w = c .before .before .before .before .before .before .before .before .before .before .before .before .before .before .before .before .before .before .first-open in
+    let s = c .before .before .before .before .before .before .before .before .before .before .before .before .before .before .before .before .before .before .before .before .before in
     let f = c .before .before .before .before .before .before .before .before .before .before .before .before .before .before .before .before .found .given in
-    sent-asks (s .args .gate) (s .args .guests .now) (s .args .waiting .now) (s .args .flight .now) (s .pre .0) (s .pre .1) (f .0 .0)
-    (open-here (s .args .gate) (s .args .guests .now) (s .args .waiting .now) (s .args .flight .now) (s .pre .0) (s .pre .1) (w .result) (f .0 .0) (w .ensures) (f .1))
+    sent-asks (s .args .gate) (s .args .guests .now) (s .args .waiting .now) (s .args .flight .now) (s .pre .0) (s .pre .1 .0) (f .0 .0)
+    (open-here (s .args .gate) (s .args .guests .now) (s .args .waiting .now) (s .args .flight .now) (s .pre .0) (s .pre .1 .0) (s .args .found) (f .0 .0) (s .pre .1 .1) (f .1))
 
 enum-told : tie.Need-enum-told
 enum-told c = search needs
@@ -72,28 +62,22 @@ same-length-3 c = search needs
 
 returns : tie.Need-returns
 returns c =
-    let s = c .before .before .before .before .before .before .before .before .before .before .before .before .before .before .before .before .before .before .before .before .before .before .before .before in
-    let w = c .before .before .before .before .before .before .before .before .before .before .before .before .before .before .before .before .before .before .before .first-open in
+    let s = c .before .before .before .before .before .before .before .before .before .before .before .before .before .before .before .before .before .before .before .before .before .before in
     let f = c .before .before .before .before .before .before .before .before .before .before .before .before .before .before .before .before .before .found .given in
     let n = c .before .before .before .before .before .before .before .before .before .before .before .before .before .send in
     let d = c .before .before .before .before .before .drop-tags in
-    weight-returns (s .args .gate) (s .args .guests .now) (s .args .waiting .now) (s .args .flight .now) (s .pre .0) (s .pre .1) (w .result) (f .0 .0) (w .ensures) (f .1) (n .result) _ _ _ _ _
+    weight-returns (s .args .gate) (s .args .guests .now) (s .args .waiting .now) (s .args .flight .now) (s .pre .0) (s .pre .1 .0) (s .args .found) (f .0 .0) (s .pre .1 .1) (f .1) (n .result) _ _ _ _ _
     (n .ensures .0) (n .ensures .1 .0) (n .ensures .1 .1) (d .ensures .0) (d .ensures .1) (c .sent .ensures)
-
-same-length-4 : tie.Need-same-length-4
-same-length-4 c = search needs
 
 returns-2 : tie.Need-returns-2
 returns-2 c =
-    let s = c .before .before .before .before .before .before .before in
-    let w = c .before .before .first-open in
-    none-open (s .args .gate) (s .args .guests .now) (s .args .waiting .now) (s .args .flight .now) (s .pre .0) (s .pre .1) (w .result) (w .ensures) (c .enum-told .given .1)
+    let s = c .before .before .before .before .before in
+    none-open (s .args .gate) (s .args .guests .now) (s .args .waiting .now) (s .args .flight .now) (s .pre .0) (s .pre .1 .0) (s .args .found) (s .pre .1 .1) (c .enum-told .given .1)
 
 pub by-weight-spec : {M : Type 1} → statement M
 by-weight-spec =
     tie.close
     (tie.spec
-    first-open-requires
     enum-known-found
     send-requires
     cast-id
@@ -105,5 +89,4 @@ by-weight-spec =
     same-length-2
     same-length-3
     returns
-    same-length-4
     returns-2)

@@ -1,0 +1,166 @@
+-- The walk of the choice, one for both phases: what it holds after some rows, where only the first row of each guest is looked at.
+-- Assumes nothing.
+use Prim.Native.Nat.{ℕ, _+_, _*_, _≤_, _<_}
+use mathlib.Core.Path.{_≡_, refl, sym, ap, _∙_}
+use mathlib.Core.Bool.{Bool, true, false, _&&_, and-true}
+use mathlib.Core.List.{List}
+use native.Mathlib.Omega.{arith}
+use lib.Dec.{eqb, leb, ltb}
+use lib.ListN.{length, getD, set, replicate, length-set, length-replicate, getD-replicate}
+use lib.Seq.{getD-set-other}
+use borrow.Author.Tests.{eqb-true, eqb-false, ltb-true, ltb-false, leb-true, le-leb}
+use Rattle.lists.specs.WordsLaws.{both, join}
+use Rattle.lists.specs.RowsLaws.{length-rows}
+use Rattle.rules.specs.Numbers.{ceiling}
+use Rattle.rules.specs.Tables.{Request}
+use Rattle.rules.specs.Chosen.{at}
+use Rattle.table.specs.View.{requestForm, waitingOf}
+use Rattle.walks.specs.Walks.{Picks, Owned, Rising, SharesFit, placeIn}
+use Rattle.walks.specs.WalksLaws.{walk-behind, Told, told-start, told-take, told-pass, told-picks}
+use Rattle.walks.specs.WalksRows.{dueIn, openIn, rtag-at, stag-at, due-at, due-tag, open-at, open-is, due-behind, open-behind}
+
+-- guest g has one of the first i rows
+pub record Stood (ws : List ℕ) (i g : ℕ) : Type 0 where
+  pub place : ℕ
+  pub before : place < i
+  pub own : getD ws (place * 5 + 0) 0 ≡ g
+
+-- every guest that is marked has one of the first i rows
+pub record Marks (ws : List ℕ) (i : ℕ) (seen : List ℕ) : Type 0 where
+  pub long : length seen ≡ 64
+  pub stood : (g : ℕ) → g < 64 → (getD seen g 0 ≡ 0 → ⊥) → Stood ws i g
+
+module _ (ws : List ℕ) where
+  -- a row more
+  stood-later : (i g : ℕ) → Stood ws i g → Stood ws (i + 1) g
+  stood-later i g s = record { place = s .place; before = omega (arith, s .before); own = s .own }
+
+  -- nobody is marked at first
+  marks-start : Marks ws 0 (replicate 64 0)
+  marks-start = record { long = length-replicate {A = ℕ} 64 0; stood = λ g h marked. absurd (marked (getD-replicate {A = ℕ} 64 g 0 0 h)) }
+
+  -- row i is passed over
+  marks-later : (i : ℕ) (seen : List ℕ) → Marks ws i seen → Marks ws (i + 1) seen
+  marks-later i seen m = record { long = m .long; stood = λ g h marked. stood-later i g (m .stood g h marked) }
+
+  -- the guest of row i is marked
+  marks-mark : (i : ℕ) (seen : List ℕ) → Marks ws i seen → Marks ws (i + 1) (set seen (getD ws (i * 5 + 0) 0) 1)
+  marks-mark i seen m =
+      record {
+        long = length-set seen (getD ws (i * 5 + 0) 0) 1 ∙ m .long;
+        stood = λ g h marked. go g h marked (eqb g (getD ws (i * 5 + 0) 0)) refl;
+      }
+    where
+      go : (g : ℕ) → g < 64 → (getD (set seen (getD ws (i * 5 + 0) 0) 1) g 0 ≡ 0 → ⊥) → (b : Bool) → eqb g (getD ws (i * 5 + 0) 0) ≡ b → Stood ws (i + 1) g
+      go g h marked true e = record { place = i; before = omega arith; own = sym (eqb-true g (getD ws (i * 5 + 0) 0) e) }
+      go g h marked false e =
+          stood-later i g (m .stood g h (λ z. marked (getD-set-other seen (getD ws (i * 5 + 0) 0) g 1 0 (eqb-false g (getD ws (i * 5 + 0) 0) e) ∙ z)))
+
+-- the walk at the row whose numbers begin at `from`: the marks, and what each phase would send of the rows passed
+pub record InLine (gs ws : List ℕ) (known count time : ℕ) (seen : List ℕ) (first soonest spare smallest from : ℕ) : Type 0 where
+  pub row : ℕ
+  pub begins : from ≡ row * 5
+  pub inside : row ≤ count
+  pub marks : Marks ws row seen
+  pub byTag : Told (dueIn gs known time) Request.rtag (waitingOf ws count) (time + 1) count row first soonest
+  pub byShare : Told (openIn time) Request.stag (waitingOf ws count) (ceiling + 1) count row spare smallest
+
+module _ (gs ws : List ℕ) (known count time : ℕ) where
+  -- before the first row
+  pub line-start : InLine gs ws known count time (replicate 64 0) (count * 5) (time + 1) (count * 5) (ceiling + 1) 0
+  line-start = record { row = 0; begins = refl; inside = omega arith; marks = marks-start ws; byTag = told-start; byShare = told-start }
+
+  module _ {seen : List ℕ} {first soonest spare smallest from : ℕ} (l : InLine gs ws known count time seen first soonest spare smallest from) (more : from < count * 5) where
+    pub here : l .row < count
+    here = omega (arith, l .begins)
+
+    -- the guest of the row, as the code reads it
+    pub guest-here : getD ws (from + 0) 0 ≡ getD ws (l .row * 5 + 0) 0
+    guest-here = ap (λ (k : ℕ). getD ws (k + 0) 0) (l .begins)
+
+    -- the guest of the row exists
+    pub known-here : Owned ws count known → getD ws (from + 0) 0 < known
+    known-here owned = omega (arith, guest-here, owned (l .row) here)
+
+    -- the row's reservation tag is below the bound and its guest has a reservation: it is due, and taken
+    pub due-take : Owned ws count known → (ltb (getD ws (from + 2) 0) soonest && ltb 0 (getD gs (getD ws (from + 0) 0 * 6 + 0) 0)) ≡ true
+        → Told (dueIn gs known time) Request.rtag (waitingOf ws count) (time + 1) count (l .row + 1) from (getD ws (from + 2) 0)
+    due-take owned e =
+        let b = both (ltb (getD ws (from + 2) 0) soonest) (ltb 0 (getD gs (getD ws (from + 0) 0 * 6 + 0) 0)) e in
+        let low = ltb-true (getD ws (from + 2) 0) soonest (b .0) in
+        let tag = ap (λ (k : ℕ). getD ws (k + 2) 0) (l .begins) in
+        let has : ltb 0 (getD gs (getD ws (l .row * 5 + 0) 0 * 6 + 0) 0) ≡ true = rw guest-here at (b .1) in
+        let soon = le-leb (getD ws (l .row * 5 + 2) 0) time (omega (arith, low, tag, l .byTag .walk .low)) in
+        told-take (l .byTag) (l .begins) (due-at ws count (l .row) here gs known time owned ∙ join has soon) (rtag-at ws count (l .row) here ∙ sym tag) low
+
+    -- else it is no due row with a smaller tag
+    pub due-pass : Owned ws count known → (ltb (getD ws (from + 2) 0) soonest && ltb 0 (getD gs (getD ws (from + 0) 0 * 6 + 0) 0)) ≡ false
+        → Told (dueIn gs known time) Request.rtag (waitingOf ws count) (time + 1) count (l .row + 1) first soonest
+    due-pass owned e = told-pass (l .byTag) (λ o. go (both (ltb 0 (getD gs (getD ws (l .row * 5 + 0) 0 * 6 + 0) 0)) (leb (getD ws (l .row * 5 + 2) 0) time) (sym (due-at ws count (l .row) here gs known time owned) ∙ o) .0))
+      where
+        go : ltb 0 (getD gs (getD ws (l .row * 5 + 0) 0 * 6 + 0) 0) ≡ true → soonest ≤ (at (waitingOf ws count) (l .row)) .rtag
+        go has =
+            let h : ltb 0 (getD gs (getD ws (from + 0) 0 * 6 + 0) 0) ≡ true = rw guest-here has in
+            let f : ltb (getD ws (from + 2) 0) soonest ≡ false = sym (and-true _) ∙ rw h at e in
+            omega (arith, ltb-false (getD ws (from + 2) 0) soonest f, rtag-at ws count (l .row) here, ap (λ (k : ℕ). getD ws (k + 2) 0) (l .begins))
+
+    -- the row's share tag is below the bound and its limit tag at or before the time: it is open, and taken
+    pub open-take : (ltb (getD ws (from + 4) 0) smallest && leb (getD ws (from + 3) 0) time) ≡ true
+        → Told (openIn time) Request.stag (waitingOf ws count) (ceiling + 1) count (l .row + 1) from (getD ws (from + 4) 0)
+    open-take e =
+        let b = both (ltb (getD ws (from + 4) 0) smallest) (leb (getD ws (from + 3) 0) time) e in
+        let within = leb-true (getD ws (from + 3) 0) time (b .1) in
+        told-take (l .byShare) (l .begins) (open-is ws count (l .row) here time (omega (arith, within, ap (λ (k : ℕ). getD ws (k + 3) 0) (l .begins))))
+        (stag-at ws count (l .row) here ∙ sym (ap (λ (k : ℕ). getD ws (k + 4) 0) (l .begins))) (ltb-true (getD ws (from + 4) 0) smallest (b .0))
+
+    -- else it is no open row with a smaller tag
+    pub open-pass : (ltb (getD ws (from + 4) 0) smallest && leb (getD ws (from + 3) 0) time) ≡ false
+        → Told (openIn time) Request.stag (waitingOf ws count) (ceiling + 1) count (l .row + 1) spare smallest
+    open-pass e = told-pass (l .byShare) go
+      where
+        go : openIn time (at (waitingOf ws count) (l .row)) ≡ true → smallest ≤ (at (waitingOf ws count) (l .row)) .stag
+        go o =
+            let z = leb-true (getD ws (l .row * 5 + 3) 0) time (sym (open-at ws count (l .row) here time) ∙ o) in
+            let h = le-leb (getD ws (from + 3) 0) time (omega (arith, z, ap (λ (k : ℕ). getD ws (k + 3) 0) (l .begins))) in
+            let f : ltb (getD ws (from + 4) 0) smallest ≡ false = sym (and-true _) ∙ rw h at e in
+            omega (arith, ltb-false (getD ws (from + 4) 0) smallest f, stag-at ws count (l .row) here, ap (λ (k : ℕ). getD ws (k + 4) 0) (l .begins))
+
+    -- a row whose guest is marked
+    pub line-skip : Owned ws count known → known ≤ 64 → Rising ws count → (getD seen (getD ws (from + 0) 0) 0 ≡ 0 → ⊥)
+        → InLine gs ws known count time seen first soonest spare smallest (from + 5)
+    line-skip owned few rising marked =
+        let g = getD ws (l .row * 5 + 0) 0 in
+        let s : Stood ws (l .row) g = l .marks .stood g (omega (arith, owned (l .row) here)) (λ z. marked (ap (λ (k : ℕ). getD seen k 0) guest-here ∙ z)) in
+        record {
+          row = l .row + 1;
+          begins = omega (arith, l .begins);
+          inside = omega (arith, here);
+          marks = marks-later ws (l .row) seen (l .marks);
+          byTag = told-pass (l .byTag) (walk-behind (l .byTag .walk) (s .place) (s .before) (due-behind ws count gs known time owned rising (s .place) (l .row) (s .before) here (s .own)));
+          byShare = told-pass (l .byShare) (walk-behind (l .byShare .walk) (s .place) (s .before) (open-behind ws count time rising (s .place) (l .row) (s .before) here (s .own)));
+        }
+
+    -- the first row of its guest, with what each phase would send of the rows up to it
+    pub line-next : {d' soonest' o' smallest' : ℕ} → Told (dueIn gs known time) Request.rtag (waitingOf ws count) (time + 1) count (l .row + 1) d' soonest'
+        → Told (openIn time) Request.stag (waitingOf ws count) (ceiling + 1) count (l .row + 1) o' smallest'
+        → InLine gs ws known count time (set seen (getD ws (from + 0) 0) 1) d' soonest' o' smallest' (from + 5)
+    line-next d o =
+        record {
+          row = l .row + 1;
+          begins = omega (arith, l .begins);
+          inside = omega (arith, here);
+          marks = rw guest-here (marks-mark ws (l .row) seen (l .marks));
+          byTag = d;
+          byShare = o;
+        }
+
+  -- behind the last row
+  module _ {seen : List ℕ} {first soonest spare smallest from : ℕ} (l : InLine gs ws known count time seen first soonest spare smallest from) (done : count * 5 ≤ from) where
+    all-rows : l .row ≡ count
+    all-rows = omega (arith, l .begins, l .inside)
+
+    pub line-due : Owned ws count known → Picks (dueIn gs known time) Request.rtag (waitingOf ws count) (placeIn first (count * 5))
+    line-due owned = told-picks (length-rows requestForm ws count) (rw all-rows at (l .byTag)) (λ j h. due-tag ws count j h gs known time owned)
+
+    pub line-open : SharesFit ws count → Picks (openIn time) Request.stag (waitingOf ws count) (placeIn spare (count * 5))
+    line-open fit = told-picks (length-rows requestForm ws count) (rw all-rows at (l .byShare)) (λ j h _. omega (arith, stag-at ws count j h, fit j h))
