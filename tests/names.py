@@ -1,22 +1,48 @@
 #!/usr/bin/env python3
-"""Checks that every name which a page in docs/ gives with a file and a line stands there, and that every file it names exists.
+"""Holds the README and the pages in docs/ to the files that they speak of.
 
-A place is written `name` file:line, as in: `chosen` crates/rules/proofs/Chosen.antt:12. With --mend the lines are
-corrected in place; a name that its file does not declare, or a file that is not there, is always an error. Ends with
-'N passed, M failed'.
+Places: `name` file:line, as in `chosen` crates/rules/proofs/Chosen.antt:12, where the name may stand at the end of the line
+above. The file declares the name in that line; --mend corrects the line. A file with a line and no name is an error.
+Files and links: every path from the root, and every link that is no web address, exists.
+Quotes: every fenced block of docs/PROMISES.md stands below a line that names its file, and is whole lines of that file, but
+for white space. A line '..' in it passes over lines of the file.
+Ends with 'N passed, M failed'.
 """
 import pathlib
 import re
 import sys
 
 ROOT = pathlib.Path(__file__).resolve().parent.parent
-PLACE = re.compile(r"`([^`\s]+)` ([\w./-]+\.(?:antt|rt|edit)):(\d+)")
-FILE = re.compile(r"(?<![\w/.])((?:crates|tests|docs|samples|second|tools|include|bindings|bench|examples)/[\w./-]+\.\w+)(?!:?[\w/])(?!:\d)")
+PAGES = [ROOT / "README.md", *sorted((ROOT / "docs").glob("*.md"))]
+QUOTING = ROOT / "docs" / "PROMISES.md"
+PLACE = re.compile(r"`([^`\s]+)`(\s+)([\w./-]+\.\w+):(\d+)")
+LINED = re.compile(r"[\w./-]+\.(?:antt|rt|edit|py|rs|h|c):\d+")
+FOLDERS = "crates|tests|docs|samples|second|tools|include|bindings|bench|examples|[.]ci"
+FILE = re.compile(rf"(?<![\w/.*-])((?:{FOLDERS})/[\w./-]*\w)(?![\w/*-])")
+LINK = re.compile(r"\]\(([^)\s]+)\)")
+FENCE = re.compile(r"^```")
 DECLARED = r"^\s*(?:(?:unfoldable|abbrev|pub|record|data|fn|struct|enum|extern|\"C\") )*{}(?=[\s:({{<,;])"
+JOINTS = {"→", "↔", "×", "⊎", "≡", "∷", "&&", "||"}  # no statement ends before one of these
 
 
-def line_of(path, name):
+class Count:
+    def __init__(self):
+        self.passed = self.failed = 0
+
+    def add(self, page, why):
+        """One thing more was looked at: it is right where there is no reason why not."""
+        if why is None:
+            self.passed += 1
+        else:
+            self.failed += 1
+            print(f"{page.relative_to(ROOT)}: {why}")
+
+
+def line_of(file, name):
     """The line of the file that declares the name, or None."""
+    path = ROOT / file
+    if not path.is_file():
+        return None
     pattern = re.compile(DECLARED.format(re.escape(name)))
     for number, line in enumerate(path.read_text().splitlines(), 1):
         if pattern.match(line):
@@ -24,38 +50,113 @@ def line_of(path, name):
     return None
 
 
+def check_places(page, text, count, mend):
+    """The text with its lines corrected, where that is asked for."""
+
+    def judge(match):
+        name, gap, file, line = match.groups()
+        found = line_of(file, name)
+        if found is None:
+            count.add(page, f"`{name}` is not declared in {file}")
+            return match.group(0)
+        wrong = found != int(line) and not mend
+        count.add(page, f"`{name}` stands at {file}:{found}, not {line} (python3 tests/names.py --mend)" if wrong else None)
+        return f"`{name}`{gap}{file}:{found}" if mend else match.group(0)
+
+    mended = PLACE.sub(judge, text)
+    for lined in LINED.findall(PLACE.sub("", text)):
+        count.add(page, f"{lined} has a line, but no name in `..` before it")
+    return mended
+
+
+def check_files(page, text, count):
+    for file in FILE.findall(LINK.sub("", PLACE.sub("", text))):
+        count.add(page, None if (ROOT / file).exists() else f"there is no {file}")
+    for link in LINK.findall(text):
+        if "://" not in link:
+            there = (page.parent / link.partition("#")[0]).exists()
+            count.add(page, None if there else f"the link {link} leads nowhere")
+
+
+def blocks(text):
+    """Each fenced block: its number of line, the line above it, and its own lines."""
+    above, inside = "", None
+    for number, line in enumerate(text.splitlines(), 1):
+        if FENCE.match(line):
+            if inside is None:
+                start, inside = number, []
+            else:
+                yield start, above, inside
+                above, inside = "", None
+        elif inside is None:
+            above = line
+        else:
+            inside.append(line)
+    if inside is not None:
+        yield start, above, inside
+
+
+def parts(lines):
+    """The parts of a block, which a line '..' divides, as lists of words."""
+    found = [[]]
+    for line in lines:
+        if line.strip() == "..":
+            found.append([])
+        else:
+            found[-1] += line.split()
+    return found
+
+
+def is_quote(path, lines):
+    """Whether every part of a block is whole lines of the file, one part behind the other, and none is cut short."""
+    words, ends = [], [0]  # the file's words, and how many of them stand above the end of each line
+    for line in path.read_text().splitlines():
+        words += line.split()
+        ends.append(len(words))
+    at = 0
+    for part in parts(lines):
+        fits = (end for end in ends if end >= at and stands(words, ends, end, part))
+        start = next(fits, None)
+        if start is None:
+            return False
+        at = start + len(part)
+    return True
+
+
+def stands(words, ends, start, part):
+    """Whether the words of a part stand at a place, to the end of a line and of what is said there."""
+    after = start + len(part)
+    return part and words[start:after] == part and after in ends and not JOINTS.intersection(words[after : after + 1])
+
+
+def check_quotes(page, text, count):
+    for number, above, lines in blocks(text):
+        place, file = PLACE.search(above), LINED.search(above) or FILE.search(above)
+        path = ROOT / file.group(0).partition(":")[0] if file else None
+        head = next((line.strip() for line in lines), "")
+        if path is None or not path.is_file():
+            why = "no line above it names its file"
+        elif not is_quote(path, lines):
+            why = f"it does not stand so in {path.relative_to(ROOT)}"
+        elif place and not re.search(rf"(?<![\w-]){re.escape(place.group(1))}(?![\w-])", "\n".join(lines)):
+            why = f"it does not speak of `{place.group(1)}`"
+        else:
+            why = None
+        count.add(page, why and f"the block in line {number}, '{head}': {why}")
+
+
 def main():
-    mend = "--mend" in sys.argv
-    passed = failed = 0
-    for doc in sorted((ROOT / "docs").glob("*.md")):
-        text = doc.read_text()
-
-        def judge(match):
-            nonlocal passed, failed
-            name, file, line = match.groups()
-            path = ROOT / file
-            found = line_of(path, name) if path.exists() else None
-            if found is None:
-                print(f"{doc.name}: `{name}` is not declared in {file}")
-                failed += 1
-            elif found != int(line) and not mend:
-                print(f"{doc.name}: `{name}` stands at {file}:{found}, not {line} (python3 tests/names.py --mend)")
-                failed += 1
-            else:
-                passed += 1
-            return match.group(0) if found is None else f"`{name}` {file}:{found}"
-
-        mended = PLACE.sub(judge, text)
-        for file in FILE.findall(PLACE.sub("", text)):
-            if (ROOT / file).exists():
-                passed += 1
-            else:
-                print(f"{doc.name}: there is no {file}")
-                failed += 1
-        if mend and mended != text:
-            doc.write_text(mended)
-    print(f"{passed} passed, {failed} failed")
-    return 1 if failed else 0
+    mend, count = "--mend" in sys.argv[1:], Count()
+    for page in PAGES:
+        text = page.read_text()
+        mended = check_places(page, text, count, mend)
+        check_files(page, text, count)
+        if page == QUOTING:
+            check_quotes(page, text, count)
+        if mended != text:
+            page.write_text(mended)
+    print(f"{count.passed} passed, {count.failed} failed")
+    return 1 if count.failed or not count.passed else 0
 
 
 sys.exit(main())
