@@ -133,7 +133,7 @@ def check_quotes(page, text, count):
     for number, above, lines in blocks(text):
         place, file = PLACE.search(above), LINED.search(above) or FILE.search(above)
         path = ROOT / file.group(0).partition(":")[0] if file else None
-        head = next((line.strip() for line in lines), "")
+        head = next((line.strip()[:60] for line in lines), "")
         if path is None or not path.is_file():
             why = "no line above it names its file"
         elif not is_quote(path, lines):
