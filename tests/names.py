@@ -21,7 +21,10 @@ FOLDERS = "crates|tests|docs|samples|second|tools|include|bindings|bench|example
 FILE = re.compile(rf"(?<![\w/.*-])((?:{FOLDERS})/[\w./-]*\w)(?![\w/*-])")
 LINK = re.compile(r"\]\(([^)\s]+)\)")
 FENCE = re.compile(r"^```")
-DECLARED = r"^\s*(?:(?:unfoldable|abbrev|pub|record|data|fn|struct|enum|extern|\"C\") )*{}(?=[\s:({{<,;])"
+DECLARED = {
+    ".rt": r"^\s*(?:pub )?(?:extern \"C\" )?(?:fn|struct|enum|const|mod) {}(?![\w-])",
+    ".antt": r"^\s*(?:(?:unfoldable|abbrev|pub|record|data) )*{}\s(?:.*\s)?:(?:\s|$)",
+}
 JOINTS = {"→", "↔", "×", "⊎", "≡", "∷", "&&", "||"}  # no statement ends before one of these
 
 
@@ -41,9 +44,9 @@ class Count:
 def line_of(file, name):
     """The line of the file that declares the name, or None."""
     path = ROOT / file
-    if not path.is_file():
+    if not path.is_file() or path.suffix not in DECLARED:
         return None
-    pattern = re.compile(DECLARED.format(re.escape(name)))
+    pattern = re.compile(DECLARED[path.suffix].format(re.escape(name)))
     for number, line in enumerate(path.read_text().splitlines(), 1):
         if pattern.match(line):
             return number
