@@ -3,7 +3,7 @@
 
 Places: `name` file:line, as in `chosen` crates/rules/proofs/Chosen.antt:12, where the name may stand at the end of the line
 above. The file declares the name in that line; --mend corrects the line. A file with a line and no name is an error.
-Files and links: every path from the root, and every link that is no web address, exists.
+Files and links: every path from the root, and every link that is no web address, exists. The README has every crate and folder.
 Quotes: every fenced block of docs/PROMISES.md stands below a line that names its file, and is whole lines of that file, but
 for white space. A line '..' in it passes over lines of the file.
 Ends with 'N passed, M failed'.
@@ -13,8 +13,9 @@ import re
 import sys
 
 ROOT = pathlib.Path(__file__).resolve().parent.parent
-PAGES = [ROOT / "README.md", *sorted((ROOT / "docs").glob("*.md"))]
+MAPPING = ROOT / "README.md"
 QUOTING = ROOT / "docs" / "PROMISES.md"
+PAGES = [MAPPING, *sorted((ROOT / "docs").glob("*.md"))]
 PLACE = re.compile(r"`([^`\s]+)`(\s+)([\w./-]+\.\w+):(\d+)")
 LINED = re.compile(r"[\w./-]+\.(?:antt|rt|edit|py|rs|h|c):\d+")
 FOLDERS = "crates|tests|docs|samples|second|tools|include|bindings|bench|examples|[.]ci"
@@ -79,6 +80,14 @@ def check_files(page, text, count):
         if "://" not in link:
             there = (page.parent / link.partition("#")[0]).exists()
             count.add(page, None if there else f"the link {link} leads nowhere")
+
+
+def check_map(page, text, count):
+    """Every crate, and every folder of the root that is no built one, has its line."""
+    crates = [f"crates/{path.name} " for path in sorted((ROOT / "crates").iterdir())]
+    folders = [f"{path.name}/ " for path in sorted(ROOT.iterdir()) if path.is_dir() and path.name[0] != "."]
+    for name in crates + [folder for folder in folders if folder not in ("crates/ ", "target/ ")]:
+        count.add(page, None if f"\n| {name}" in text else f"the map has no line for {name}")
 
 
 def blocks(text):
@@ -156,6 +165,8 @@ def main():
         check_files(page, text, count)
         if page == QUOTING:
             check_quotes(page, text, count)
+        if page == MAPPING:
+            check_map(page, text, count)
         if mended != text:
             page.write_text(mended)
     print(f"{count.passed} passed, {count.failed} failed")
