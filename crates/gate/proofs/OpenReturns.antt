@@ -92,7 +92,7 @@ module _ (d n c : ℕ) (ss gs ws fs : List ℕ) (g : Gate) (e : g ≡ freshGate 
     open-room = good .1
 
     -- and what the moves leave is the fresh table
-    pub opened-returns : (hs vs es : List ℕ) → hs ≡ started ss n gs → vs ≡ zeros 0 ws (c * 5) → es ≡ zeros 0 fs (d * 2)
+    pub opened-returns : (hs vs es : List ℕ) → hs ≡ started ss n gs → vs ≡ zeros ws (c * 5) → es ≡ zeros fs (d * 2)
         → seen (record { gate = g; answer = Nothing }, hs, vs, es) ≡ seen (opened d n c ss gs ws fs)
     unfolding opened handed fresh
     opened-returns hs vs es x y z =

@@ -57,14 +57,12 @@ module _ (s n : ℕ) (some : 0 < s) (ls : List (List ℕ)) (size : length ls ≡
       (λ i h. other i (λ j l e. omega (arith, past)) ∙ over-past s n some ls xs i (omega (arith, past)))
 
 -- zeros in the first cap lines leave no line
-pub zeros-over : (s cap : ℕ) → 0 < s → (xs : List ℕ) → cap * s ≤ length xs → zeros 0 xs (cap * s) ≡ over s cap [] xs
+pub zeros-over : (s cap : ℕ) → 0 < s → (xs : List ℕ) → cap * s ≤ length xs → zeros xs (cap * s) ≡ over s cap [] xs
 zeros-over s cap some xs room =
-    is-over s cap some [] xs (zeros 0 xs (cap * s)) (length-stores (λ k. 0 + k) (λ k. 0) xs (cap * s))
+    is-over s cap some [] xs (zeros xs (cap * s)) (length-stores (λ k. k) (λ k. 0) xs (cap * s))
     (λ k j h l.
-    let e : k * s + j ≡ 0 + (k * s + j) = omega arith in
-    ap (λ (i : ℕ). getD (zeros 0 xs (cap * s)) i 0) e
-    ∙ stores-at (λ k. 0 + k) (λ k. 0) xs (λ a b m e. omega arith) (cap * s) (k * s + j) (in-line s k cap j h l) (omega (arith, in-line s k cap j h l)))
-    (λ i h. stores-other (λ k. 0 + k) (λ k. 0) xs (cap * s) i (λ k l e. omega arith))
+    stores-at (λ k. k) (λ k. 0) xs (λ a b m e. omega arith) (cap * s) (k * s + j) (in-line s k cap j h l) (omega (arith, in-line s k cap j h l)))
+    (λ i h. stores-other (λ k. k) (λ k. 0) xs (cap * s) i (λ k l e. omega arith))
 
 module _ {A : Type 0} (f : Form A) where
   module _ (e : Exact f) where
@@ -78,6 +76,6 @@ module _ {A : Type 0} (f : Form A) where
         ∙ ap (λ (m : ℕ). over (f .wide) m (map (f .line) (l ++ (a ∷ []))) xs) (sym (add-one n))
 
     -- zeros in the first cap rows leave no entry
-    pub rows-cleared : (cap : ℕ) (xs : List ℕ) → cap * f .wide ≤ length xs → zeros 0 xs (cap * f .wide) ≡ overRows f cap [] xs
+    pub rows-cleared : (cap : ℕ) (xs : List ℕ) → cap * f .wide ≤ length xs → zeros xs (cap * f .wide) ≡ overRows f cap [] xs
     unfolding overRows
     rows-cleared cap xs room = zeros-over (f .wide) cap (e .some) xs room

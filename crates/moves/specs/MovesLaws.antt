@@ -65,8 +65,8 @@ module _ (cap n : ℕ) (ws : List ℕ) (room : cap * 5 ≤ length ws) (unused : 
 
 -- AT OPENING nothing waits and nothing is in flight; what `start` gives the guests, its contract says
 
-pub cleared-waiting : (cap : ℕ) (ws : List ℕ) → cap * 5 ≤ length ws → zeros 0 ws (cap * 5) ≡ overRows requestForm cap [] ws
+pub cleared-waiting : (cap : ℕ) (ws : List ℕ) → cap * 5 ≤ length ws → zeros ws (cap * 5) ≡ overRows requestForm cap [] ws
 cleared-waiting cap ws room = rows-cleared requestForm request-exact cap ws room
 
-pub cleared-flight : (depth : ℕ) (fs : List ℕ) → depth * 2 ≤ length fs → zeros 0 fs (depth * 2) ≡ overRows flightForm depth [] fs
+pub cleared-flight : (depth : ℕ) (fs : List ℕ) → depth * 2 ≤ length fs → zeros fs (depth * 2) ≡ overRows flightForm depth [] fs
 cleared-flight depth fs room = rows-cleared flightForm flight-exact depth fs room

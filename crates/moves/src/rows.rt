@@ -43,11 +43,7 @@ pub fn close_up(tail: &mut [u64], wide: usize)
         tail[i] = tail[i + wide];
         i += 1;
     }
-    let mut z: usize = 0;
-    while z < wide {
-        tail[keep + z] = 0;
-        z += 1;
-    }
+    clear(&mut tail[keep..], wide);
 }
 
 // A request's name: whose, and its id.
@@ -197,7 +193,7 @@ pub fn start(guests: &mut [u64], settings: &[u64], known: usize)
 // The first `upto` numbers become zero.
 pub fn clear(xs: &mut [u64], upto: usize)
     requires { ⌜ upto ≤ length (now xs) ⌝ }
-    ensures { λ _. ⌜ now (xs .exit) ≡ zeros 0 (now (xs .entry)) upto ⌝ }
+    ensures { λ _. ⌜ now (xs .exit) ≡ zeros (now (xs .entry)) upto ⌝ }
 {
     let mut i: usize = 0;
     while i < upto {

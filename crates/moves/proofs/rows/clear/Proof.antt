@@ -8,7 +8,7 @@ use Rattle.moves.proofs.rows.clear.Statement.{statement}
 use Rattle.moves.proofs.rows.clear.Tie as tie
 
 abbrev Inv-loop : tie.InvT-loop
-Inv-loop xs₀ upto i₀ xs i = (i ≤ upto) × (length xs ≡ length xs₀) × (xs ≡ zeros 0 xs₀ i)
+Inv-loop xs₀ upto i₀ xs i = (i ≤ upto) × (length xs ≡ length xs₀) × (xs ≡ zeros xs₀ i)
 
 abbrev μ-loop : tie.MeasureT-loop
 μ-loop xs₀ upto i₀ xs i = upto - i
@@ -32,7 +32,7 @@ loop-again : tie.Need-loop-again Inv-loop μ-loop
 loop-again c =
     let s = c .before .loop in
     let a = c .before .before .args in
-    (omega arith, simp length-set (omega arith), stores-next (λ k. 0 + k) (λ k. 0) (a .xs .now) (s .xs) (s .i) (s .i) 0 (s .inv .2) (omega arith) refl)
+    (omega arith, simp length-set (omega arith), stores-next (λ k. k) (λ k. 0) (a .xs .now) (s .xs) (s .i) (s .i) 0 (s .inv .2) refl refl)
 
 same-length : tie.Need-same-length Inv-loop μ-loop
 same-length c = c .before .loop .inv .1
@@ -41,7 +41,7 @@ returns : tie.Need-returns Inv-loop μ-loop
 returns c =
     let s = c .before .loop in
     let a = c .before .before .args in
-    s .inv .2 ∙ ap (zeros 0 (a .xs .now)) (omega arith)
+    s .inv .2 ∙ ap (zeros (a .xs .now)) (omega arith)
 
 pub clear-spec : {M : Type 1} → statement M
 clear-spec =

@@ -3,7 +3,8 @@ use mathlib.Core.Path.{_≡_, refl, ap, _∙_}
 use native.Mathlib.Omega.{arith}
 use lib.ListN.{length, length-set}
 use Rattle.lists.specs.Stores.{stores}
-use Rattle.lists.specs.Parts.{closed-by, front, front-next, zeros, zeros-next}
+use Rattle.lists.specs.Parts.{closed-by, front, front-next}
+use borrow.Author.Needs.{needs}
 use Rattle.moves.proofs.rows.close_up.Statement.{statement}
 use Rattle.moves.proofs.rows.close_up.Tie as tie
 
@@ -13,80 +14,65 @@ Inv-loop tail₀ wide keep i₀ tail i = (i ≤ keep) × (length tail ≡ length
 abbrev μ-loop : tie.MeasureT-loop
 μ-loop tail₀ wide keep i₀ tail i = keep - i
 
-abbrev Inv-loop2 : tie.InvT-loop2
-Inv-loop2 tail₀ wide keep i z₀ tail z = (z ≤ wide) × (length tail ≡ length tail₀) × (tail ≡ zeros keep tail₀ z)
-
-abbrev μ-loop2 : tie.MeasureT-loop2
-μ-loop2 tail₀ wide keep i z₀ tail z = wide - z
-
-sub-keep : tie.Need-sub-keep Inv-loop μ-loop Inv-loop2 μ-loop2
+sub-keep : tie.Need-sub-keep Inv-loop μ-loop
 sub-keep c = omega arith
 
-loop-holds : tie.Need-loop-holds Inv-loop μ-loop Inv-loop2 μ-loop2
+loop-holds : tie.Need-loop-holds Inv-loop μ-loop
 loop-holds c = (omega arith, refl, unfold stores in refl)
 
-add-tail : tie.Need-add-tail Inv-loop μ-loop Inv-loop2 μ-loop2
+add-tail : tie.Need-add-tail Inv-loop μ-loop
 add-tail c = omega arith
 
-mul-tail : tie.Need-mul-tail Inv-loop μ-loop Inv-loop2 μ-loop2
+mul-tail : tie.Need-mul-tail Inv-loop μ-loop
 mul-tail c = omega arith
 
-slice-read-tail : tie.Need-slice-read-tail Inv-loop μ-loop Inv-loop2 μ-loop2
+slice-read-tail : tie.Need-slice-read-tail Inv-loop μ-loop
 slice-read-tail c = omega arith
 
-mul-tail-2 : tie.Need-mul-tail-2 Inv-loop μ-loop Inv-loop2 μ-loop2
+mul-tail-2 : tie.Need-mul-tail-2 Inv-loop μ-loop
 mul-tail-2 c = omega arith
 
-slice-write-tail : tie.Need-slice-write-tail Inv-loop μ-loop Inv-loop2 μ-loop2
+slice-write-tail : tie.Need-slice-write-tail Inv-loop μ-loop
 slice-write-tail c = omega arith
 
-add-i : tie.Need-add-i Inv-loop μ-loop Inv-loop2 μ-loop2
+add-i : tie.Need-add-i Inv-loop μ-loop
 add-i c = omega arith
 
-loop-less : tie.Need-loop-less Inv-loop μ-loop Inv-loop2 μ-loop2
+loop-less : tie.Need-loop-less Inv-loop μ-loop
 loop-less c = omega arith
 
-loop-again : tie.Need-loop-again Inv-loop μ-loop Inv-loop2 μ-loop2
+loop-again : tie.Need-loop-again Inv-loop μ-loop
 loop-again c =
     let s = c .before .before .loop in
-    let start = c .before .before .before in
+    let start = c .before .before .before .before in
     (omega arith, simp length-set (omega arith), front-next (start .args .wide) (start .args .tail .now) (s .tail) (s .i) (start .pre .0) (s .inv .2))
 
-loop2-holds : tie.Need-loop2-holds Inv-loop μ-loop Inv-loop2 μ-loop2
-loop2-holds c = (omega arith, refl, unfold stores in refl)
+mul-clear : tie.Need-mul-clear Inv-loop μ-loop
+mul-clear c = search needs
 
-add-tail-2 : tie.Need-add-tail-2 Inv-loop μ-loop Inv-loop2 μ-loop2
-add-tail-2 c = omega arith
+sub-clear : tie.Need-sub-clear Inv-loop μ-loop
+sub-clear c = search needs
 
-mul-tail-3 : tie.Need-mul-tail-3 Inv-loop μ-loop Inv-loop2 μ-loop2
-mul-tail-3 c = omega arith
+part-clear-start : tie.Need-part-clear-start Inv-loop μ-loop
+part-clear-start c = search needs
 
-slice-write-tail-2 : tie.Need-slice-write-tail-2 Inv-loop μ-loop Inv-loop2 μ-loop2
-slice-write-tail-2 c = omega arith
+part-clear-end : tie.Need-part-clear-end Inv-loop μ-loop
+part-clear-end c = search needs
 
-add-z : tie.Need-add-z Inv-loop μ-loop Inv-loop2 μ-loop2
-add-z c = omega arith
+clear-requires : tie.Need-clear-requires Inv-loop μ-loop
+clear-requires c κs = search needs
 
-loop2-less : tie.Need-loop2-less Inv-loop μ-loop Inv-loop2 μ-loop2
-loop2-less c = omega arith
+same-length : tie.Need-same-length Inv-loop μ-loop
+same-length c = search needs
 
-loop2-again : tie.Need-loop2-again Inv-loop μ-loop Inv-loop2 μ-loop2
-loop2-again c =
-    let s = c .before .loop2 in
-    (omega arith, simp length-set (omega arith), zeros-next _ _ (s .tail) (s .z) (s .inv .2))
-
-same-length : tie.Need-same-length Inv-loop μ-loop Inv-loop2 μ-loop2
-same-length c = c .before .loop2 .inv .1 ∙ c .before .before .before .loop .inv .1
-
-returns : tie.Need-returns Inv-loop μ-loop Inv-loop2 μ-loop2
+returns : tie.Need-returns Inv-loop μ-loop
 returns c =
-    let s = c .before .loop2 in
-    let r = c .before .before .before .loop in
-    let a = c .before .before .before .before .args in
+    let r = c .before .before .before .before .before .loop in
+    let a = c .before .before .before .before .before .before .before .args in
     let t = a .tail .now in
-    closed-by (a .wide) (length t - a .wide) t (r .tail) (s .tail) (omega arith)
+    closed-by (a .wide) (length t - a .wide) t (r .tail) _ (omega arith)
     (r .inv .2 ∙ ap (front (a .wide) t) (omega arith))
-    (s .inv .2 ∙ ap (zeros (length t - a .wide) (r .tail)) (omega arith))
+    (c .before .before .clear .ensures)
 
 pub close-up-spec : {M : Type 1} → statement M
 close-up-spec =
@@ -94,8 +80,6 @@ close-up-spec =
     (tie.spec
     Inv-loop
     μ-loop
-    Inv-loop2
-    μ-loop2
     sub-keep
     loop-holds
     add-tail
@@ -106,12 +90,10 @@ close-up-spec =
     add-i
     loop-less
     loop-again
-    loop2-holds
-    add-tail-2
-    mul-tail-3
-    slice-write-tail-2
-    add-z
-    loop2-less
-    loop2-again
+    mul-clear
+    sub-clear
+    part-clear-start
+    part-clear-end
+    clear-requires
     same-length
     returns)
