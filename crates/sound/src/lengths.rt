@@ -1,4 +1,5 @@
 // Whether the counts of a gate lie in their ranges, and whether lent tables are long enough for them.
+use crate::ranges::is_counted;
 use rules::Gate;
 ghost use mathlib.Core.Path.{_≡_};
 ghost use Rattle.table.specs.View.{countable, short};
@@ -7,22 +8,7 @@ ghost use Rattle.table.specs.View.{countable, short};
 pub fn is_countable(gate: Gate) -> bool
     ensures { λ b. ⌜ b ≡ countable gate ⌝ }
 {
-    if gate.depth < 1 {
-        return false;
-    }
-    if 64 < gate.depth {
-        return false;
-    }
-    if gate.guests < 1 {
-        return false;
-    }
-    if 64 < gate.guests {
-        return false;
-    }
-    if gate.capacity < 1 {
-        return false;
-    }
-    gate.capacity <= 1024
+    is_counted(gate.depth, gate.guests, gate.capacity)
 }
 
 // A lent table is shorter than the settings need.

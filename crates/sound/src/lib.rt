@@ -1,6 +1,7 @@
 // Whether lent tables are sound. Functions for this repository's own crates.
+pub mod ranges; // counts and settings in range, on plain numbers
 pub mod lengths; // counts in range, and tables long enough for them
-pub mod settings; // the settings of guests
+pub mod settings; // the settings of all guests
 pub mod entries; // each request by itself
 pub mod pairs; // no request twice
 pub mod kinds; // the spacing within each guest, and the next numbers

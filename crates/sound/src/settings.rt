@@ -1,4 +1,5 @@
-// Whether settings of guests lie in their ranges.
+// Whether the settings of all guests lie in their ranges.
+use crate::ranges::is_settled;
 ghost use mathlib.Core.Path.{_≡_};
 ghost use Prim.Native.Nat.{_*_, _≤_};
 ghost use lib.ListN.{length};
@@ -6,34 +7,13 @@ ghost use Rattle.lists.specs.Words.{all};
 ghost use Rattle.lists.specs.Rows.{rowsOf};
 ghost use Rattle.rules.specs.Sound.{settled};
 ghost use Rattle.table.specs.View.{settingsForm, guestsOf};
-ghost use Rattle.sound.specs.Tests.{settingsAre, settledGuest};
-
-const MOST: u64 = 1000000;
+ghost use Rattle.sound.specs.Tests.{settledGuest};
 
 const RESERVATION: usize = 0;
 
 const LIMIT: usize = 1;
 
 const SHARES: usize = 2;
-
-// One guest's settings.
-pub fn is_settled(r: u64, l: u64, s: u64) -> bool
-    ensures { λ b. ⌜ b ≡ settled (settingsAre r l s) ⌝ }
-{
-    if MOST < r {
-        return false;
-    }
-    if MOST < l {
-        return false;
-    }
-    if s < 1 {
-        return false;
-    }
-    if MOST < s {
-        return false;
-    }
-    if 0 < l { r <= l } else { true }
-}
 
 // A list of settings, three numbers a guest.
 pub fn all_settled_list(settings: &[u64], known: usize) -> bool

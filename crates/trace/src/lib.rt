@@ -2,7 +2,6 @@
 use rules::Refusal;
 
 pub mod little; // numbers from bytes
-pub mod ranges; // counts and settings within their ranges
 pub mod opening; // the header
 pub mod events; // one event
 
