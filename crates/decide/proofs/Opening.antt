@@ -1,8 +1,8 @@
 -- A header that opens is an opening that the gate accepts: with room for the largest settings the tables become the fresh one, and are known.
 -- Assumes nothing.
-use Prim.Native.Nat.{ℕ, _*_, _≤_}
+use Prim.Native.Nat.{ℕ, _*_}
 use mathlib.Core.Path.{_≡_, refl, sym, ap, _∙_, subst}
-use mathlib.Core.Bool.{Bool, true, false, not, _&&_}
+use mathlib.Core.Bool.{true, false, not}
 use mathlib.Core.List.{List}
 use native.Mathlib.Omega.{arith}
 use lib.ListN.{length}
@@ -12,17 +12,15 @@ use Rattle.lists.specs.Words.{all}
 use Rattle.lists.specs.WordsLaws.{both}
 use Rattle.lists.specs.Tab.{tab}
 use Rattle.lists.specs.Rows.{rowsOf}
-use Rattle.rules.specs.Tables.{Settings, Table}
+use Rattle.rules.specs.Tables.{Settings}
 use Rattle.rules.specs.Sound.{settled}
 use Rattle.rules.specs.Refusals.{Verdict, accept, openTests}
 use Rattle.rules.specs.Run.{fresh}
-use Rattle.rules.specs.declared.Gate.{Gate}
 use Rattle.rules.specs.declared.Outcome.{Outcome}
 use Rattle.rules.specs.declared.Answer.the-variants.{Nothing}
 use Rattle.table.specs.View.{settingsForm, tableOf, Handed, handed, short, soundNumbers, Known}
-use Rattle.step.specs.Does.{Lent, written}
 use Rattle.gate.specs.Promise.{Seen, seen, openShort, openedBy, openingAt, opened}
-use Rattle.gate.specs.Calls.{holds, taken}
+use Rattle.gate.specs.Calls.{taken}
 use Rattle.gate.proofs.Verdicts.{firm-known}
 use Rattle.gate.proofs.Opened.{opened-firm}
 use Rattle.trace.specs.Header.{numberAt, settingsAt, settingsIn, headerOf}

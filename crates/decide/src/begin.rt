@@ -12,7 +12,7 @@ ghost use Rattle.trace.specs.declared.Header.the-variants.{Opened};
 ghost use Rattle.feed.specs.Promise.{Became};
 ghost use Rattle.decide.specs.Begin.{Largest, Begins};
 
-// The tables as the header opens them: fresh.
+// Opens the tables with the header's counts and settings: they show a fresh table.
 fn open_tables(
     bytes: &[u8],
     depth: u64,
@@ -40,7 +40,7 @@ pub struct Begun {
     pub bytes: usize,
 }
 
-// A trace whose first bytes hold a good header.
+// Begins a trace whose first bytes hold a good header.
 pub fn begin(
     buffer: &mut [u8],
     have: usize,

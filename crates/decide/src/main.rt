@@ -21,6 +21,7 @@ mod begin; // the tables are opened, and the bytes of the events stand at the fr
 // More turns than any run uses up: nothing says that an input ends.
 const TURNS: u64 = 281474976710656;
 
+// Makes the arrays, each for the largest settings, and runs the trace on them.
 fn main() {
     let mut buffer = [0u8; 4096];
     let mut settings = [0u64; 192];
@@ -38,7 +39,7 @@ fn main() {
     );
 }
 
-// The first bytes are judged as a header, which they hold whole or the input is shorter.
+// Reads the first bytes, which hold the whole header or all of a shorter input, and goes on by what the header is.
 fn run(
     buffer: &mut [u8],
     settings: &mut [u64],
@@ -73,14 +74,14 @@ fn run(
     }
 }
 
-// Writes the first n bytes of out.
+// Writes the first n bytes of out to standard output.
 fn emit(out: &[u8], n: usize)
     requires { ⌜ n ≤ length (now out) ⌝ }
 {
     io::write_all(STDOUT_FILENO, &out[..n]);
 }
 
-// The one line of a bad header.
+// Writes the one line of a bad header.
 fn refuse(out: &mut [u8], refusal: Refusal)
     requires { ⌜ length (now out) ≡ 20480 ⌝ }
 {
@@ -88,7 +89,7 @@ fn refuse(out: &mut [u8], refusal: Refusal)
     emit(out, n);
 }
 
-// A good header: the header line, and then the events.
+// A good header: opens the tables, writes the header line, and goes on with the events.
 fn follow(
     buffer: &mut [u8],
     have: usize,
@@ -124,7 +125,7 @@ fn follow(
     pump(buffer, rest, gate, guests, waiting, flight, out);
 }
 
-// Reads behind the first `have` bytes, and answers how many came. The first ones stay.
+// Reads from standard input behind the first `have` bytes, which stay, and answers how many bytes came.
 fn refill(buffer: &mut [u8], have: usize) -> usize
     requires { ⌜ have ≤ length (now buffer) ⌝ }
     ensures { λ r. ⌜ have + r ≤ length (now (buffer .entry)) ⌝ }
@@ -135,7 +136,7 @@ fn refill(buffer: &mut [u8], have: usize) -> usize
     io::count(got, part)
 }
 
-// All events, turn by turn, until no more bytes come.
+// Judges all events and writes their lines, a buffer at a turn, until no more bytes come.
 fn pump(
     buffer: &mut [u8],
     first: usize,
@@ -169,7 +170,7 @@ fn pump(
     }
 }
 
-// The line of an event that is cut short, where bytes of one are left.
+// Writes the line of an event that is cut short, where bytes of one are left.
 fn finish(left: &[u8], number: u64, out: &mut [u8])
     requires { ⌜ (length (now out) ≡ 20480) × (number + 1 < 2 ^ 64) ⌝ }
 {

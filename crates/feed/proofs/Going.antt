@@ -3,7 +3,7 @@ use Prim.Native.Nat.{ℕ, _+_, _*_}
 use mathlib.Core.Path.{_≡_, refl, sym, ap, _∙_, subst}
 use mathlib.Core.Bool.{true}
 use mathlib.Core.List.{List, [], _∷_, _++_}
-use lib.ListN.{length, drop}
+use lib.ListN.{drop}
 use Rattle.rules.specs.Tables.{Table}
 use Rattle.rules.specs.Sound.{sound}
 use Rattle.rules.specs.declared.Gate.{Gate}
@@ -21,7 +21,7 @@ use Rattle.trace.specs.Printed.{answered, answersTo, tableAfter, linesFrom, Pla
 use Rattle.trace.specs.declared.Read.{Read}
 use Rattle.trace.proofs.RunLaws.{table-more, lines-more}
 use Rattle.trace.proofs.Runs.{run, table-run}
-use Rattle.feed.specs.Promise.{placeOf, Became, Judged, FedBy, Turned}
+use Rattle.feed.specs.Promise.{Became, Judged, FedBy, Turned}
 
 -- the loop of `feed` after i events
 pub record Going (g₀ : Gate) (gs₀ ws₀ fs₀ bs : List ℕ) (number : ℕ) (out₀ : List ℕ) (i : ℕ) (g : Gate) (gs ws fs out : List ℕ) (at : ℕ) : Type 0 where

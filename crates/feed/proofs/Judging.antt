@@ -3,7 +3,7 @@ use Prim.Native.Nat.{ℕ, _+_, _≤_, _<_}
 use mathlib.Core.Path.{_≡_, refl, sym, ap, _∙_, subst}
 use mathlib.Core.List.{List}
 use borrow.Author.Tests.{lt-ltb}
-use Rattle.rules.specs.Events.{Event, arrival, completion, tick}
+use Rattle.rules.specs.Events.{arrival, completion, tick}
 use Rattle.rules.specs.Run.{step}
 use Rattle.rules.specs.declared.Gate.{Gate}
 use Rattle.rules.specs.declared.Refusal.the-variants.{BadEvent}

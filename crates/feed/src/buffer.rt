@@ -13,7 +13,7 @@ ghost use Rattle.lines.specs.Put.{Put};
 ghost use Rattle.trace.specs.Printed.{cut};
 ghost use Rattle.feed.specs.Promise.{Turned};
 
-// The bytes from `from` to `to` move to the front; answers how many they are.
+// Moves the bytes from `from` to `to` to the front, and answers how many they are.
 pub fn shift(buffer: &mut [u8], from: usize, to: usize) -> usize
     requires { ⌜ (from ≤ to) × (to ≤ length (now buffer)) ⌝ }
     ensures { λ r. ⌜ (r ≡ to - from) × (now (buffer .exit) ≡ paste (now (buffer .entry)) 0 (drop from (now (buffer .entry))) (to - from)) ⌝ }
@@ -35,7 +35,7 @@ pub struct Turn {
     pub bytes: usize,
 }
 
-// All whole events of the first `have` bytes; what is left of them moves to the front.
+// Judges all whole events of the first `have` bytes; what is left of the bytes moves to the front.
 pub fn take_in(
     buffer: &mut [u8],
     have: usize,
@@ -64,7 +64,7 @@ pub fn take_in(
     }
 }
 
-// The line of an event that is cut short, where bytes of one are left.
+// Puts the line of an event that is cut short, where bytes of one are left, and answers how many bytes it has.
 pub fn put_cut(bytes: &[u8], number: u64, out: &mut [u8]) -> usize
     requires { ⌜ (LINE ≤ length (now out)) × (number + 1 < 2 ^ 64) ⌝ }
     ensures { λ r. ⌜ Put 0 (cut number (now (bytes .entry))) (now (out .entry)) r (now (out .exit)) ⌝ }

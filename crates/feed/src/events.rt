@@ -7,14 +7,14 @@ use trace::Read;
 ghost use mathlib.Core.Path.{_≡_};
 ghost use Prim.Native.Nat.{_+_, _≤_, _<_, _^_, min};
 ghost use lib.ListN.{length, drop};
-ghost use Rattle.table.specs.View.{tableOf, Known};
+ghost use Rattle.table.specs.View.{Known};
 ghost use Rattle.step.specs.Does.{does};
 ghost use Rattle.lines.specs.Line.{LINE};
 ghost use Rattle.trace.specs.Event.{eventOf};
 ghost use Rattle.trace.specs.Printed.{answered};
 ghost use Rattle.feed.specs.Promise.{Judged, FedBy};
 
-// One event as it was read: a bad one is refused 14 and changes nothing.
+// One event as it was read is entered into the tables and answered; a bad one is refused 14 and changes nothing.
 fn judge(
     gate: Gate,
     guests: &mut [u64],
@@ -59,7 +59,7 @@ pub struct After {
     pub at: usize,
 }
 
-// The event at `from`: it is judged, and its line written at `at`.
+// The event whose bytes begin at `from`: it is judged, and its line written at `at`.
 fn one(
     bytes: &[u8],
     from: usize,
@@ -87,6 +87,7 @@ fn one(
     }
 }
 
+// The smaller of two numbers.
 fn least(a: usize, b: usize) -> usize
     ensures { λ r. ⌜ r ≡ min a b ⌝ }
 {
@@ -100,7 +101,7 @@ pub struct Fed {
     pub bytes: usize,
 }
 
-// As many whole events of the bytes as `out` has room for, the first of which has the number after `number`.
+// Judges as many whole events of the bytes as `out` has room for, the first of which has the number after `number`.
 pub fn feed(
     bytes: &[u8],
     number: u64,

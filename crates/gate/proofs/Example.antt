@@ -1,5 +1,5 @@
 -- Document 01's example through the public calls: open, then its ten events, whatever the lent tables held before. Assumes nothing.
-use Prim.Native.Nat.{ℕ, _*_, _≤_}
+use Prim.Native.Nat.{ℕ, _≤_}
 use mathlib.Core.Path.{_≡_, refl, ap, _∙_}
 use mathlib.Core.Bool.{true}
 use mathlib.Core.List.{List, [], _∷_, map}
@@ -11,11 +11,10 @@ use Rattle.rules.specs.Tables.{Table}
 use Rattle.rules.specs.Answers.{shown}
 use Rattle.rules.specs.Sound.{counted, settled}
 use Rattle.rules.specs.Refusals.{openTests}
-use Rattle.rules.specs.Run.{fresh}
 use Rattle.rules.proofs.Trials.{R, -, W, X, lines}
 use Rattle.rules.proofs.Readings.{one, ten, readings}
 use Rattle.table.specs.View.{handed}
-use Rattle.gate.specs.Promise.{settingsIn, openShort, openingAt, opened}
+use Rattle.gate.specs.Promise.{openShort, openingAt, opened}
 use Rattle.gate.specs.Calls.{Host, holds, replies, shows, taken}
 use Rattle.gate.proofs.Opened.{opened-firm}
 use Rattle.gate.proofs.Runs.{calls-run}

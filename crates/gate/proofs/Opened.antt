@@ -2,11 +2,12 @@
 -- Assumes nothing.
 use Prim.Native.Nat.{ℕ, _*_}
 use mathlib.Core.Path.{_≡_, refl, sym, ap, _∙_, subst}
-use mathlib.Core.Bool.{Bool, true, false, _||_, true≢false}
+use mathlib.Core.Bool.{true, false, _||_, true≢false}
 use mathlib.Core.List.{List}
 use lib.Dec.{ltb}
 use lib.ListN.{length}
 use borrow.Author.Tests.{ltb-false}
+use Rattle.lists.specs.WordsLaws.{neither}
 use Rattle.lists.specs.RowsLaws.{length-rows}
 use Rattle.rules.specs.Tables.{Table}
 use Rattle.rules.specs.Sound.{counted, sound}
@@ -23,11 +24,6 @@ use Rattle.gate.specs.Judges.{OpenRoom}
 use Rattle.gate.proofs.Beyond.{fresh-sized}
 use Rattle.gate.proofs.Refusing.{open-exactly}
 use Rattle.gate.proofs.Runs.{Holds, holds-firm}
-
--- neither of two tests holds
-neither : (a b : Bool) → a || b ≡ false → (a ≡ false) × (b ≡ false)
-neither true b h = absurd (true≢false h)
-neither false b h = (refl, h)
 
 module _ (d n c : ℕ) (ss gs ws fs : List ℕ) where
   abbrev t : Table

@@ -1,4 +1,4 @@
--- A run of calls, each handed what the last one left, in the calls' own numbers: what proofs/Runs.antt and proofs/Demands.antt speak of.
+-- A run of calls, each handed what the last one left, in the calls' own numbers: what proofs/Runs.antt, Order.antt and Demand3.antt speak of.
 use Prim.Native.Nat.{ℕ, suc, _-_}
 use mathlib.Core.Bool.{Bool, true, false, not, _&&_}
 use mathlib.Core.List.{List, [], _∷_, _++_}
@@ -49,7 +49,7 @@ shows h = tableOf (h .gate) (h .guests) (h .waiting) (h .flight)
 abbrev pub firm : Host → Bool
 firm h = not (short (h .gate) (h .guests) (h .waiting) (h .flight)) && soundNumbers (h .gate) (h .guests) (h .waiting) (h .flight)
 
--- "32-bit id": the calls take no other
+-- the event's id, where it brings one, is a "32-bit id": the calls take no other
 abbrev pub narrow : Event → Bool
 narrow (arrival a now) = ltb (a .id) 4294967296
 narrow (completion f now) = true
@@ -71,7 +71,7 @@ took n (e ∷ es) (a ∷ got) = (if taken a then brings n e else []) ++ took n e
 
 -- DEMAND 3, read off the gates and the answers
 
--- an event that is accepted finds "a place free at the array (a completion frees its own first)"
+-- an event that is accepted at the gate g finds "a place free at the array (a completion frees its own first)"
 abbrev pub finds : Event → Gate → Bool
 finds (arrival a now) g = ltb (g .flight) (g .depth)
 finds (completion f now) g = ltb (g .flight - 1) (g .depth)
@@ -89,10 +89,10 @@ freeReplies h (e ∷ es) =
 abbrev pub standing : Host → ℕ → Request
 standing h i = requestForm .read (lineAt 5 (h .waiting) i)
 
--- "a waiting request whose reservation tag is at or before that time"
+-- the request at place i is "a waiting request whose reservation tag is at or before that time"
 abbrev pub dueThere : Host → ℕ → Bool
 dueThere h i = isDue (shows h) (standing h i)
 
--- the waiting requests that stand before it "by reservation tag, equal tags by order of acceptance"
+-- the waiting requests that stand before the one at place i "by reservation tag, equal tags by order of acceptance"
 abbrev pub aheadOf : Host → ℕ → List Request
 aheadOf h i = ahead (shows h) (standing h i) (take i (shows h .waiting)) (drop (suc i) (shows h .waiting))

@@ -18,7 +18,7 @@ use Rattle.rules.specs.declared.Answer.{Answer}
 use Rattle.rules.specs.declared.Answer.the-variants.{Nothing, Refused}
 use Rattle.table.specs.View.{settingsForm, tableOf, Handed, handed, short, soundNumbers}
 
--- what a caller sees of a call: the gate, the answer as the paper shows it, and the three tables
+-- all that a caller sees of a call: the gate, the answer as the paper shows it, and the three tables
 abbrev pub Seen : Type 0
 Seen = Gate × Printed × List ℕ × List ℕ × List ℕ
 
@@ -30,7 +30,7 @@ seen h = (h .0 .gate, shown (h .0 .answer), h .1, h .2, h .3)
 abbrev pub unchanged : Gate → (gs ws fs : List ℕ) → Answer → Handed
 unchanged g gs ws fs a = (record { gate = g; answer = a }, gs, ws, fs)
 
--- what follows from a verdict on an event: what it enters and the choice, at the table that the lent numbers show; or nothing moves
+-- what follows from a verdict on an event: at the table that the lent numbers show it is entered and the choice made; or nothing moves
 abbrev pub followed : Verdict → Event → Gate → (gs ws fs : List ℕ) → Handed
 followed accept e g gs ws fs = handed gs ws fs (choice (enter (tableOf g gs ws fs) e))
 followed (refuse r) e g gs ws fs = unchanged g gs ws fs (Refused r)

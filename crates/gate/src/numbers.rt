@@ -19,7 +19,7 @@ pub enum Judged {
     Bad(Refusal),
 }
 
-// Refusals 2 and 3 of the lent tables, in their order.
+// The lent tables judged, 2 before 3; counts out of range give 3 at once.
 fn judge(gate: Gate, guests: &[u64], waiting: &[u64], flight: &[u64]) -> Judged
     ensures { λ r. ⌜ Judges gate (now (guests .entry)) (now (waiting .entry)) (now (flight .entry)) r ⌝ }
 {
@@ -35,7 +35,7 @@ fn judge(gate: Gate, guests: &[u64], waiting: &[u64], flight: &[u64]) -> Judged
     Judged::Good
 }
 
-// A tick.
+// A tick: the time is set, and the choice made.
 pub fn tick(
     gate: Gate,
     guests: &mut [u64],
@@ -52,7 +52,7 @@ pub fn tick(
     }
 }
 
-// A completion.
+// A completion: the request leaves flight, and the choice is made.
 pub fn complete(
     gate: Gate,
     guests: &mut [u64],
@@ -71,7 +71,7 @@ pub fn complete(
     }
 }
 
-// An arrival.
+// An arrival: the request gets its tags and waits, and the choice is made.
 pub fn arrive(
     gate: Gate,
     guests: &mut [u64],
@@ -90,7 +90,7 @@ pub fn arrive(
     }
 }
 
-// The gate of a fresh table.
+// The gate of a fresh table with these counts.
 fn fresh_gate(depth: u64, known: u64, capacity: u64) -> Gate
     ensures { λ r. ⌜ r ≡ freshGate depth known capacity ⌝ }
 {
@@ -104,7 +104,7 @@ fn fresh_gate(depth: u64, known: u64, capacity: u64) -> Gate
     }
 }
 
-// A refused opening: nothing is open.
+// What a refused opening answers: a gate of zeros, so that nothing is open, and the refusal.
 fn not_opened(why: Refusal) -> Outcome
     ensures { λ r. ⌜ r ≡ notOpened why ⌝ }
 {
@@ -114,7 +114,7 @@ fn not_opened(why: Refusal) -> Outcome
     }
 }
 
-// The refusals of an opening in their order: counts, lengths, settings.
+// An opening judged, in document 01's order: counts, lengths, settings.
 fn judge_opening(
     gate: Gate,
     settings: &[u64],

@@ -1,10 +1,8 @@
 -- What a call of the host hands back, from what the call over numbers promises. Assumes nothing.
 use Prim.Native.Nat.{ℕ}
-use mathlib.Core.Path.{_≡_, refl, sym, ap, _∙_}
+use mathlib.Core.Path.{_≡_, ap, _∙_}
 use mathlib.Core.List.{List}
 use Rattle.rules.specs.declared.Gate.{Gate}
-use Rattle.rules.specs.declared.Answer.{Answer}
-use Rattle.rules.specs.declared.Outcome.{Outcome}
 use Rattle.table.specs.View.{Handed}
 use Rattle.rules.specs.Events.{Event}
 use Rattle.gate.specs.Promise.{seen, called}

@@ -11,18 +11,18 @@ use Rattle.rules.specs.declared.Answer.the-variants.{Nothing, Sent, Refused}
 use Rattle.table.specs.View.{Handed}
 use Rattle.host.specs.declared.Reply.{Reply}
 
--- "1 sent by reservation, 2 by weight"
+-- the kind of a send: 1 by reservation, 2 by weight
 abbrev pub kindOf : Phase → ℕ
 kindOf Reservation = 1
 kindOf Weight = 2
 
--- kind (0 nothing, 1 sent by reservation, 2 by weight, 3 refused), guest, id, and the paper's number of a refusal
+-- an answer as four numbers: kind (0 nothing, 1 sent by reservation, 2 by weight, 3 refused), guest, id, and the paper's number of a refusal
 abbrev pub replyOf : Answer → Reply
 replyOf Nothing = record { kind = 0; guest = 0; id = 0; refusal = 0 }
 replyOf (Sent p g i) = record { kind = kindOf p; guest = g; id = i; refusal = 0 }
 replyOf (Refused r) = record { kind = 3; guest = 0; id = 0; refusal = numberOf r }
 
--- depth, guests, capacity, time, waiting, flight
+-- the gate that six numbers are: depth, guests, capacity, time, waiting, flight
 abbrev pub gateIn : List ℕ → Gate
 gateIn v = record { depth = getD v 0 0; guests = getD v 1 0; capacity = getD v 2 0; time = getD v 3 0; waiting = getD v 4 0; flight = getD v 5 0 }
 

@@ -9,7 +9,8 @@ ghost use Rattle.rules.specs.Events.{Event};
 ghost use Rattle.gate.specs.Promise.{called, opened};
 ghost use Rattle.host.specs.Host.{kindOf, gateIn, gateOver, replyOf, written, hosted};
 
-// What an answer does not have is 0; the kinds are 0 nothing, 1 sent by reservation, 2 sent by weight, 3 refused.
+// An answer as four numbers: the kind (0 nothing, 1 sent by reservation, 2 sent by weight, 3 refused), the guest and id sent, and the refusal's
+// number. What an answer does not have is 0.
 #[repr(C)]
 pub struct Reply {
     pub kind: u64,
@@ -18,6 +19,7 @@ pub struct Reply {
     pub refusal: u64,
 }
 
+// The kind of a send by a phase.
 fn kind_of(phase: Phase) -> u64
     ensures { λ n. ⌜ n ≡ kindOf phase ⌝ }
 {
@@ -27,7 +29,7 @@ fn kind_of(phase: Phase) -> u64
     }
 }
 
-// The answer as four numbers.
+// An answer as its four numbers.
 fn four_of(answer: Answer) -> Reply
     ensures { λ r. ⌜ r ≡ replyOf answer ⌝ }
 {
@@ -85,7 +87,7 @@ fn gate_over(six: &mut [u64; 6], gate: Gate)
     six[5] = gate.flight;
 }
 
-// A refusal leaves the six numbers as they stood.
+// Writes the gate after a call over the six numbers and gives its answer; a refusal leaves the six numbers as they stood.
 fn hand_back(six: &mut [u64; 6], outcome: Outcome) -> Reply
     ensures { λ r. ⌜ (r ≡ replyOf (outcome .answer)) × (now (six .exit) ≡ written (outcome .answer) (outcome .gate) (now (six .entry))) ⌝ }
 {
@@ -104,7 +106,7 @@ fn hand_back(six: &mut [u64; 6], outcome: Outcome) -> Reply
     }
 }
 
-// Opens the lent tables: depth, guests and capacity, and three settings a guest.
+// Opens the lent tables with these counts, and three settings a guest.
 #[no_mangle]
 pub extern "C" fn sgq_open(
     six: &mut [u64; 6],
@@ -122,7 +124,7 @@ pub extern "C" fn sgq_open(
     hand_back(six, outcome)
 }
 
-// An arrival.
+// An arrival at the gate that the six numbers are.
 #[no_mangle]
 pub extern "C" fn sgq_arrive(
     six: &mut [u64; 6],
@@ -140,7 +142,7 @@ pub extern "C" fn sgq_arrive(
     hand_back(six, outcome)
 }
 
-// A completion.
+// A completion at the gate that the six numbers are.
 #[no_mangle]
 pub extern "C" fn sgq_complete(
     six: &mut [u64; 6],
@@ -158,7 +160,7 @@ pub extern "C" fn sgq_complete(
     hand_back(six, outcome)
 }
 
-// A tick.
+// A tick at the gate that the six numbers are.
 #[no_mangle]
 pub extern "C" fn sgq_tick(
     six: &mut [u64; 6],

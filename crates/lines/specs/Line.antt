@@ -9,12 +9,12 @@ use Rattle.rules.specs.Answers.{numberOf, shown}
 use Rattle.rules.specs.declared.Refusal.{Refusal}
 use Rattle.rules.specs.declared.Answer.{Answer}
 
--- the digits of n, at most f + 1 of them: no more once n is below ten
+-- the digits of n as bytes, f + 1 of them at the most: below ten it is one digit, else those of n / 10 and then the last
 unfoldable pub decimalIn : ℕ → ℕ → List ℕ
 decimalIn zero n = (48 + n) ∷ []
 decimalIn (suc f) n = if ltb n 10 then (48 + n) ∷ [] else decimalIn f (n / 10) ++ ((48 + n % 10) ∷ [])
 
--- "decimal without leading zeros"; a number has fewer digits than itself
+-- "decimal without leading zeros": all digits of n, as no number has more than n + 1
 abbrev pub decimalOf : ℕ → List ℕ
 decimalOf n = decimalIn n n
 
@@ -23,7 +23,7 @@ abbrev pub spaced : List ℕ → List ℕ
 spaced [] = []
 spaced (v ∷ vs) = 32 ∷ (decimalOf v ++ spaced vs)
 
--- an answer: its letter and its numbers
+-- an answer as it is printed: its letter, then its numbers, each after a space
 abbrev pub answerOf : Answer → List ℕ
 answerOf a = shown a .letter ∷ spaced (shown a .values)
 
@@ -31,7 +31,7 @@ answerOf a = shown a .letter ∷ spaced (shown a .values)
 unfoldable pub lineOf : ℕ → Answer → List ℕ
 lineOf number a = decimalOf number ++ (32 ∷ (answerOf a ++ (10 ∷ [])))
 
--- the letters `trace refused`
+-- the bytes of `trace refused`
 abbrev pub traceRefused : List ℕ
 traceRefused = 116 ∷ 114 ∷ 97 ∷ 99 ∷ 101 ∷ 32 ∷ 114 ∷ 101 ∷ 102 ∷ 117 ∷ 115 ∷ 101 ∷ 100 ∷ []
 

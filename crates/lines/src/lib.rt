@@ -1,4 +1,5 @@
-// Answers to lines: the printed lines, written into a lent buffer from a place on.
+// Answers to lines: the printed lines, written into a lent buffer. Each function that puts something writes it from place `at` on and
+// answers the place after it.
 use rules::Answer;
 use rules::Phase;
 use rules::Refusal;
@@ -11,7 +12,7 @@ ghost use Rattle.rules.specs.Answers.{numberOf, letterOf};
 ghost use Rattle.lines.specs.Put.{Put};
 ghost use Rattle.lines.specs.Line.{decimalOf, spaced, answerOf, lineOf, refusalLine, titleLine, LINE};
 
-// The letter of a phase.
+// The letter that is printed for a phase.
 fn letter(phase: Phase) -> u8
     ensures { λ r. ⌜ r ≡ letterOf phase ⌝ }
 {
@@ -21,7 +22,7 @@ fn letter(phase: Phase) -> u8
     }
 }
 
-// The bytes of src; answers the place after them, as every function here does.
+// Puts the bytes of src.
 fn put_all(out: &mut [u8], at: usize, src: &[u8]) -> usize
     requires { ⌜ at + length (now src) ≤ length (now out) ⌝ }
     ensures { λ r. ⌜ Put at (now (src .entry)) (now (out .entry)) r (now (out .exit)) ⌝ }
@@ -34,7 +35,7 @@ fn put_all(out: &mut [u8], at: usize, src: &[u8]) -> usize
     at + i
 }
 
-// One byte.
+// Puts one byte.
 fn put(out: &mut [u8], at: usize, b: u8) -> usize
     requires { ⌜ at < length (now out) ⌝ }
     ensures { λ r. ⌜ Put at (b ∷ []) (now (out .entry)) r (now (out .exit)) ⌝ }
@@ -43,7 +44,7 @@ fn put(out: &mut [u8], at: usize, b: u8) -> usize
     at + 1
 }
 
-// A number, decimal, without leading zeros.
+// Puts a number, decimal, without leading zeros.
 fn put_number(out: &mut [u8], at: usize, n: u64) -> usize
     requires { ⌜ at + 20 ≤ length (now out) ⌝ }
     ensures { λ r. ⌜ Put at (decimalOf n) (now (out .entry)) r (now (out .exit)) ⌝ }
@@ -54,7 +55,7 @@ fn put_number(out: &mut [u8], at: usize, n: u64) -> usize
     put_all(out, at, &text[..k])
 }
 
-// A number after a space.
+// Puts a space and a number.
 fn put_value(out: &mut [u8], at: usize, n: u64) -> usize
     requires { ⌜ at + 21 ≤ length (now out) ⌝ }
     ensures { λ r. ⌜ Put at (spaced (n ∷ [])) (now (out .entry)) r (now (out .exit)) ⌝ }
@@ -64,7 +65,7 @@ fn put_value(out: &mut [u8], at: usize, n: u64) -> usize
     put_number(out, a, n)
 }
 
-// A request that was sent: the letter of its phase, its guest and its id.
+// Puts a send: the letter of its phase, the guest and the id.
 fn put_sent(out: &mut [u8], at: usize, first: u8, guest: u64, id: u64) -> usize
     requires { ⌜ at + 43 ≤ length (now out) ⌝ }
     ensures { λ r. ⌜ Put at (first ∷ spaced (guest ∷ id ∷ [])) (now (out .entry)) r (now (out .exit)) ⌝ }
@@ -75,7 +76,7 @@ fn put_sent(out: &mut [u8], at: usize, first: u8, guest: u64, id: u64) -> usize
     put_value(out, b, id)
 }
 
-// A refusal.
+// Puts a refusal: `X` and its number.
 fn put_refused(out: &mut [u8], at: usize, refusal: Refusal) -> usize
     requires { ⌜ at + 22 ≤ length (now out) ⌝ }
     ensures { λ r. ⌜ Put at (88 ∷ spaced (numberOf refusal ∷ [])) (now (out .entry)) r (now (out .exit)) ⌝ }
@@ -85,7 +86,7 @@ fn put_refused(out: &mut [u8], at: usize, refusal: Refusal) -> usize
     put_value(out, a, number(refusal))
 }
 
-// An answer.
+// Puts an answer.
 fn put_answer(out: &mut [u8], at: usize, answer: Answer) -> usize
     requires { ⌜ at + 43 ≤ length (now out) ⌝ }
     ensures { λ r. ⌜ Put at (answerOf answer) (now (out .entry)) r (now (out .exit)) ⌝ }
@@ -98,7 +99,7 @@ fn put_answer(out: &mut [u8], at: usize, answer: Answer) -> usize
     }
 }
 
-// The line of one event.
+// Puts the line of one event: its number, a space, the answer, byte 10.
 pub fn put_line(out: &mut [u8], at: usize, number: u64, answer: Answer) -> usize
     requires { ⌜ at + LINE ≤ length (now out) ⌝ }
     ensures { λ r. ⌜ Put at (lineOf number answer) (now (out .entry)) r (now (out .exit)) ⌝ }
@@ -110,7 +111,7 @@ pub fn put_line(out: &mut [u8], at: usize, number: u64, answer: Answer) -> usize
     put(out, c, b'\n')
 }
 
-// The one line of a bad header.
+// Puts the one line of a bad header.
 pub fn put_refusal(out: &mut [u8], at: usize, refusal: Refusal) -> usize
     requires { ⌜ at + LINE ≤ length (now out) ⌝ }
     ensures { λ r. ⌜ Put at (refusalLine refusal) (now (out .entry)) r (now (out .exit)) ⌝ }
@@ -121,7 +122,7 @@ pub fn put_refusal(out: &mut [u8], at: usize, refusal: Refusal) -> usize
     put(out, b, b'\n')
 }
 
-// The header line.
+// Puts the header line.
 pub fn put_title(out: &mut [u8], at: usize) -> usize
     requires { ⌜ at + LINE ≤ length (now out) ⌝ }
     ensures { λ r. ⌜ Put at titleLine (now (out .entry)) r (now (out .exit)) ⌝ }

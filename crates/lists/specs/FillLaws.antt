@@ -13,7 +13,7 @@ use Rattle.lists.specs.Stores.{stores, length-stores, stores-other, stor
 use Rattle.lists.specs.Parts.{zeros}
 use Rattle.lists.specs.Lines.{over}
 use Rattle.lists.specs.LinesLaws.{in-line, apart, length-over, over-at, over-past, is-over}
-use Rattle.lists.specs.Rows.{Form, rowsOf, overRows, Exact}
+use Rattle.lists.specs.Rows.{Form, overRows, Exact}
 use Rattle.lists.specs.RowsLaws.{map-snoc}
 
 -- n lines stand in front, and the next one is stored
@@ -50,6 +50,7 @@ module _ (s n : ℕ) (some : 0 < s) (ls : List (List ℕ)) (size : length ls ≡
       ∙ ap (λ (w : List ℕ). getD w j 0) (sym (ap (λ (i : ℕ). getD (ls ++ (v ∷ [])) i []) (sym size) ∙ getD-append-seam ls v [] []))))
       (lt-or-le k n)
 
+  -- then n + 1 lines stand in front
   pub next-over : stores (λ j. n * s + j) (λ j. getD v j 0) s (over s n ls xs) ≡ over s (suc n) (ls ++ (v ∷ [])) xs
   unfolding before after
   next-over =
@@ -66,7 +67,7 @@ zeros-over s cap some xs room =
 
 module _ {A : Type 0} (f : Form A) where
   module _ (e : Exact f) where
-    -- and one more is written behind those in front
+    -- n entries stand in front, and one more is written behind them
     pub row-next : (n : ℕ) (l : List A) (a : A) (xs : List ℕ) → length l ≡ n → n * f .wide + f .wide ≤ length xs
         → stores (λ j. n * f .wide + j) (λ j. getD (f .line a) j 0) (f .wide) (overRows f n l xs) ≡ overRows f (n + 1) (l ++ (a ∷ [])) xs
     unfolding overRows

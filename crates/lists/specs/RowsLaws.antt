@@ -7,6 +7,7 @@ use native.Mathlib.Omega.{arith}
 use lib.ListN.{length, getD, set, length-map, length-set, List·getD-map}
 use lib.Seq.{getD-set-same, set-set}
 use Rattle.lists.specs.Words.{each}
+use Rattle.lists.specs.WordsLaws.{map-append}
 use Rattle.lists.specs.Tab.{tab, map-tab, tab-ext, tab-snoc, removeAt}
 use Rattle.lists.specs.Stores.{stores}
 use Rattle.lists.specs.Parts.{shut}
@@ -16,20 +17,23 @@ use Rattle.lists.specs.Rows.{Form, rowsOf, overRows, Unused, Exact}
 
 -- MAPS
 
+-- a list without one entry, changed
 pub map-removeAt : {A B : Type 0} (f : A → B) (i : ℕ) (l : List A) → map f (removeAt i l) ≡ removeAt i (map f l)
 map-removeAt f i [] = refl
 map-removeAt f zero (x ∷ l) = refl
 map-removeAt f (suc i) (x ∷ l) = ap (f x ∷_) (map-removeAt f i l)
 
+-- a list with one more entry at its end, changed
 pub map-snoc : {A B : Type 0} (f : A → B) (l : List A) (a : A) → map f (l ++ (a ∷ [])) ≡ map f l ++ (f a ∷ [])
-map-snoc f [] a = refl
-map-snoc f (x ∷ l) a = ap (f x ∷_) (map-snoc f l a)
+map-snoc f l a = map-append f l (a ∷ [])
 
+-- a list with one entry replaced, changed
 pub map-set : {A B : Type 0} (f : A → B) (l : List A) (i : ℕ) (a : A) → map f (set l i a) ≡ set (map f l) i (f a)
 map-set f [] i a = refl
 map-set f (x ∷ l) zero a = refl
 map-set f (x ∷ l) (suc i) a = ap (f x ∷_) (map-set f l i a)
 
+-- a change by places of a list that is given by a function of the place
 pub each-tab : {A B : Type 0} (f : ℕ → A → B) (i n : ℕ) (h : ℕ → A) → each f i (tab n h) ≡ tab n (λ k. f (i + k) (h k))
 each-tab f i zero h = refl
 each-tab f i (suc n) h =
@@ -42,10 +46,12 @@ pub each-map : {A B : Type 0} (f : A → B) (i : ℕ) (l : List A) → each (λ 
 each-map f i [] = refl
 each-map f i (x ∷ l) = ap (f x ∷_) (each-map f (suc i) l)
 
+-- a change and the way back
 map-back : {A : Type 0} (f : List ℕ → A) (g : A → List ℕ) → ((a : A) → f (g a) ≡ a) → (l : List A) → map f (map g l) ≡ l
 map-back f g h [] = refl
 map-back f g h (a ∷ l) = λ i. h a i ∷ map-back f g h l i
 
+-- every line has the width that the line of each entry has
 wide-at : {A : Type 0} (g : A → List ℕ) (s : ℕ) → ((a : A) → length (g a) ≡ s) → (l : List A) (k : ℕ) → k < length (map g l) → length (getD (map g l) k []) ≡ s
 wide-at g s h [] k l = absurd (omega arith)
 wide-at g s h (a ∷ r) zero l = h a
@@ -54,14 +60,17 @@ wide-at g s h (a ∷ r) (suc k) l = wide-at g s h r k (omega arith)
 module _ {A : Type 0} (f : Form A) where
   -- READING
 
+  -- n entries are read
   pub length-rows : (xs : List ℕ) (n : ℕ) → length (rowsOf f xs n) ≡ n
   unfolding rowsOf
   length-rows xs n = length-map (linesOf (f .wide) xs n) (f .read) ∙ length-lines (f .wide) xs n
 
+  -- entry k is the one of line k
   pub row-at : (xs : List ℕ) (n k : ℕ) → k < n → getD (rowsOf f xs n) k (f .read []) ≡ f .read (lineAt (f .wide) xs k)
   unfolding rowsOf
   row-at xs n k h = List·getD-map (f .read) (linesOf (f .wide) xs n) k [] ∙ ap (f .read) (line-is (f .wide) xs n k h)
 
+  -- the entries, given by a function of the place
   pub rows-tab : (xs : List ℕ) (n : ℕ) → rowsOf f xs n ≡ tab n (λ k. f .read (lineAt (f .wide) xs k))
   unfolding rowsOf linesOf
   rows-tab xs n = map-tab (f .read) n (lineAt (f .wide) xs)
@@ -73,11 +82,13 @@ module _ {A : Type 0} (f : Form A) where
       ∙ tab-snoc n (λ k. f .read (lineAt (f .wide) xs k))
       ∙ ap (_++ (f .read (lineAt (f .wide) xs n) ∷ [])) (sym (rows-tab xs n))
 
+  -- entries written over a list leave it as long as it was
   pub length-over-rows : Exact f → (cap : ℕ) (l : List A) (xs : List ℕ) → length (overRows f cap l xs) ≡ length xs
   unfolding overRows
   length-over-rows e cap l xs = length-over (f .wide) cap (e .some) (map (f .line) l) xs
 
   module _ (e : Exact f) where
+    -- the lines of the entries that are read are those that stand there
     pub rows-lines : (xs : List ℕ) (n : ℕ) → map (f .line) (rowsOf f xs n) ≡ linesOf (f .wide) xs n
     unfolding linesOf
     rows-lines xs n =

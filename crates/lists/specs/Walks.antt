@@ -3,7 +3,7 @@
 use Prim.Native.Nat.{ℕ, zero, suc, _+_, _-_, _≤_, _<_}
 use mathlib.Core.Path.{_≡_, refl, sym, ap, ap₂, _∙_}
 use mathlib.Core.Bool.{Bool, true, false, _&&_, false≢true, and-false}
-use mathlib.Core.List.{List, [], _∷_}
+use mathlib.Core.List.{List}
 use native.Mathlib.Omega.{arith}
 use native.Mathlib.Numerals.{add-one}
 use lib.ListN.{length, getD, drop, drop-of-length-le}
@@ -33,15 +33,16 @@ module _ {A : Type 0} (f : A → Bool) (l : List A) (z : A) where
 
 -- NUMBERS
 
+-- two tests that agree below n
 pub below-ext : (n : ℕ) (f g : ℕ → Bool) → ((k : ℕ) → k < n → f k ≡ g k) → below n f ≡ below n g
 below-ext zero f g h = refl
 below-ext (suc n) f g h = ap₂ _&&_ (h n (omega arith)) (below-ext n f g (λ k l. h k (omega arith)))
 
--- one number more passes
+-- one turn: one number more passes
 pub below-next : (f : ℕ → Bool) (i : ℕ) → f i ≡ true → below i f ≡ true → below (i + 1) f ≡ true
 below-next f i e s = rw (add-one, e) s
 
--- one number fails
+-- one number fails: not every one passes
 pub below-fails : (f : ℕ → Bool) (n i : ℕ) → i < n → f i ≡ false → below n f ≡ false
 below-fails f n i h e = go (below n f) refl
   where

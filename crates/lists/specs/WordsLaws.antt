@@ -1,6 +1,6 @@
 -- Laws of the words of Words.antt. Assumes nothing.
 use mathlib.Core.Path.{_≡_, refl, sym, ap, ap₂, _∙_}
-use mathlib.Core.Bool.{Bool, true, false, not, _&&_, false≢true, true≢false, and-false, and-true, and-assoc}
+use mathlib.Core.Bool.{Bool, true, false, not, _&&_, _||_, false≢true, true≢false, and-false, and-true, and-assoc}
 use mathlib.Core.List.{List, [], _∷_, _++_, map, List·Memᴰ, List·Memᴰ·head, List·Memᴰ·tail}
 use Prim.Native.Nat.{ℕ, zero, suc, min, _≤_, _<_, _+_}
 use mathlib.Core.Logic.{_⊎_, inl, inr}
@@ -13,25 +13,35 @@ use Rattle.lists.specs.Tab.{removeAt}
 
 -- TWO TESTS
 
+-- two tests that both hold, one by one
 pub both : (a b : Bool) → a && b ≡ true → (a ≡ true) × (b ≡ true)
 both true b h = (refl, h)
 both false b h = absurd (false≢true h)
 
+-- and together
 pub join : {a b : Bool} → a ≡ true → b ≡ true → a && b ≡ true
 join p q = rw (p, q)
 
--- two tests that do not both hold
+-- two tests that do not both hold: one of them fails
 pub either-fails : (a b : Bool) → a && b ≡ false → (a ≡ false) ⊎ (b ≡ false)
 either-fails true b h = inr h
 either-fails false b h = inl refl
 
+-- where the first fails, both together do
 pub left-fails : {a : Bool} (b : Bool) → a ≡ false → a && b ≡ false
 left-fails b p = rw p
 
+-- and where the second does
 pub right-fails : (a : Bool) {b : Bool} → b ≡ false → a && b ≡ false
 right-fails true p = p
 right-fails false p = refl
 
+-- two tests of which none holds
+pub neither : (a b : Bool) → a || b ≡ false → (a ≡ false) × (b ≡ false)
+neither true b h = absurd (true≢false h)
+neither false b h = (refl, h)
+
+-- the test of equality does not look at the order of its two numbers
 pub eqb-sym : (a b : ℕ) → eqb a b ≡ eqb b a
 eqb-sym a b = go (eqb a b) refl
   where
@@ -41,6 +51,7 @@ eqb-sym a b = go (eqb a b) refl
 
 -- TESTS ON LISTS
 
+-- two lists that pass, one behind the other, do
 pub all-append : {A : Type 0} (f : A → Bool) (a b : List A) → all f a ≡ true → all f b ≡ true → all f (a ++ b) ≡ true
 all-append f [] b p q = q
 all-append f (x ∷ a) b p q = let h = both (f x) (all f a) p in join (h .0) (all-append f a b (h .1) q)
@@ -65,13 +76,13 @@ pub all-of-map : {A B : Type 0} (f : B → Bool) (k : A → B) (l : List A) → 
 all-of-map f k [] = refl
 all-of-map f k (x ∷ l) = ap (f (k x) &&_) (all-of-map f k l)
 
--- the entry at a place
+-- all pass: the entry at every place does
 pub all-at : {A : Type 0} (f : A → Bool) (l : List A) (d : A) → all f l ≡ true → (j : ℕ) → j < length l → f (getD l j d) ≡ true
 all-at f [] d h j k = absurd (omega arith)
 all-at f (x ∷ l) d h zero k = both (f x) (all f l) h .0
 all-at f (x ∷ l) d h (suc j) k = all-at f l d (both (f x) (all f l) h .1) j (omega arith)
 
--- what passes is among all
+-- where all pass a test, what another test leaves of them does
 pub all-filter : {A : Type 0} (f k : A → Bool) (l : List A) → all f l ≡ true → all f (filter k l) ≡ true
 all-filter f k [] h = refl
 all-filter f k (x ∷ l) h =
@@ -79,12 +90,12 @@ all-filter f k (x ∷ l) h =
     let i = all-filter f k l (c .1) in
     elim (k x) as (λ z. all f (if z then x ∷ filter k l else filter k l) ≡ true) [ true ↦ join (c .0) i | false ↦ i ]
 
--- one more at the end
+-- a test on a list with one more at its end
 pub all-snoc : {A : Type 0} (f : A → Bool) (l : List A) (x : A) → all f (l ++ (x ∷ [])) ≡ all f l && f x
 all-snoc f [] x = and-true (f x)
 all-snoc f (y ∷ l) x = ap (f y &&_) (all-snoc f l x) ∙ sym (and-assoc (f y) (all f l) (f x))
 
--- nothing is left where no entry passes
+-- a filter leaves nothing exactly where no entry passes
 pub none-left : {A : Type 0} (f : A → Bool) (l : List A) → empty (filter f l) ≡ all (λ x. not (f x)) l
 none-left f [] = refl
 none-left f (x ∷ l) =
@@ -103,6 +114,7 @@ without-at f [] d i h e n = absurd (omega arith)
 without-at f (x ∷ l) d zero h e n = rw e
 without-at f (x ∷ l) d (suc i) h e n = rw (n 0 (omega arith)) (ap (x ∷_) (without-at f l d i (omega arith) e (λ j k. n (suc j) (omega arith))))
 
+-- every number below n passes: each one does
 pub below-at : (n : ℕ) (f : ℕ → Bool) → below n f ≡ true → (g : ℕ) → g < n → f g ≡ true
 below-at zero f p g h = absurd (omega arith)
 below-at (suc n) f p g h = go (eqb g n) refl (λ k. below-at n f (both (f n) (below n f) p .1) g k)
@@ -111,16 +123,17 @@ below-at (suc n) f p g h = go (eqb g n) refl (λ k. below-at n f (both (f n) (be
     go true e k = rw (eqb-true g n e) (both (f n) (below n f) p .0)
     go false e k = k (omega (arith, eqb-false g n e))
 
+-- and the way back
 pub at-below : (n : ℕ) (f : ℕ → Bool) → ((g : ℕ) → g < n → f g ≡ true) → below n f ≡ true
 at-below zero f h = refl
 at-below (suc n) f h = join (h n (omega arith)) (at-below n f (λ g k. h g (omega arith)))
 
--- a test of both parts
+-- two lists, one behind the other, pass: each does
 pub all-parts : {A : Type 0} (f : A → Bool) (a b : List A) → all f (a ++ b) ≡ true → (all f a ≡ true) × (all f b ≡ true)
 all-parts f [] b h = (refl, h)
 all-parts f (x ∷ a) b h = let c = both (f x) (all f (a ++ b)) h in let d = all-parts f a b (c .1) in (join (c .0) (d .0), d .1)
 
--- and passes
+-- what a filter leaves passes its test
 pub filter-passes : {A : Type 0} (f : A → Bool) (l : List A) → all f (filter f l) ≡ true
 filter-passes f [] = refl
 filter-passes f (x ∷ l) = go (f x) refl (filter-passes f l)
@@ -129,7 +142,7 @@ filter-passes f (x ∷ l) = go (f x) refl (filter-passes f l)
     go true e h = join e h
     go false e h = h
 
--- what passes, by its place among all
+-- where what a filter leaves passes a test, an entry of the whole list that the filter leaves does, by its place
 pub all-passing-at : {A : Type 0} (f k : A → Bool) (l : List A) (d : A) → all f (filter k l) ≡ true → (j : ℕ) → j < length l → k (getD l j d) ≡ true → f (getD l j d) ≡ true
 all-passing-at f k [] d h j l e = absurd (omega arith)
 all-passing-at f k (x ∷ xs) d h zero l e =
@@ -141,7 +154,7 @@ all-passing-at f k (x ∷ xs) d h (suc j) l e = all-passing-at f k xs d (go (k x
     go true h = both (f x) (all f (filter k xs)) h .1
     go false h = h
 
--- what is left without one is among all
+-- where all pass a test, those do that are left when one is taken out
 pub all-without : {A : Type 0} (f k : A → Bool) (l : List A) → all f l ≡ true → all f (without k l) ≡ true
 all-without f k [] h = refl
 all-without f k (x ∷ l) h =
@@ -149,14 +162,14 @@ all-without f k (x ∷ l) h =
     let i = all-without f k l (c .1) in
     elim (k x) as (λ z. all f (if z then l else x ∷ without k l) ≡ true) [ true ↦ c .1 | false ↦ join (c .0) i ]
 
--- and no longer
+-- a list from which one was taken out is no longer than before
 pub length-without : {A : Type 0} (k : A → Bool) (l : List A) → length (without k l) ≤ length l
 length-without k [] = omega arith
 length-without k (x ∷ l) =
     let h = length-without k l in
     elim (k x) as (λ z. length (if z then l else x ∷ without k l) ≤ suc (length l)) [ true ↦ omega arith | false ↦ omega arith ]
 
--- by one, where an entry passes
+-- and shorter by one, where an entry passes
 pub length-without-one : {A : Type 0} (k : A → Bool) (l : List A) → all (λ x. not (k x)) l ≡ false → suc (length (without k l)) ≡ length l
 length-without-one k [] h = absurd (true≢false h)
 length-without-one k (x ∷ l) h = go (k x) h (length-without-one k l)
@@ -165,7 +178,7 @@ length-without-one k (x ∷ l) h = go (k x) h (length-without-one k l)
     go true h i = refl
     go false h i = ap suc (i h)
 
--- no entry is below the smallest
+-- no number of a list is below its smallest
 pub lowest-all : (l : List ℕ) (m : ℕ) → m ≤ lowest l → all (leb m) l ≡ true
 unfolding lowest
 lowest-all [] m h = refl
@@ -174,6 +187,7 @@ lowest-all (x ∷ y ∷ l) m h = join (le-leb m x (omega arith)) (lowest-all (y 
 
 -- MAPS
 
+-- two lists changed, one behind the other
 pub map-append : {A B : Type 0} (f : A → B) (a b : List A) → map f (a ++ b) ≡ map f a ++ map f b
 map-append f [] b = refl
 map-append f (x ∷ a) b = ap (f x ∷_) (map-append f a b)
@@ -207,6 +221,7 @@ filter-map f k e (x ∷ l) =
     (elim (f x) as (λ c. (if c then k x ∷ filter f (map k l) else filter f (map k l)) ≡ map k (if c then x ∷ filter f l else filter f l))
     [ true ↦ ap (k x ∷_) h | false ↦ h ])
 
+-- what passes of two lists, one behind the other
 pub filter-append : {A : Type 0} (f : A → Bool) (a b : List A) → filter f (a ++ b) ≡ filter f a ++ filter f b
 filter-append f [] b = refl
 filter-append f (x ∷ a) b =
@@ -227,15 +242,12 @@ filter-filter f g (x ∷ l) = go (f x) refl (g x) refl (filter-filter f g l)
 
 -- EACH
 
-pub length-each : {A B : Type 0} (k : ℕ → A → B) (i : ℕ) (l : List A) → length (each k i l) ≡ length l
-length-each k i [] = refl
-length-each k i (x ∷ l) = ap suc (length-each k (suc i) l)
-
 -- a change by places that a map does not see
 pub map-each : {A B : Type 0} (g : A → B) (k : ℕ → A → A) → ((i : ℕ) (x : A) → g (k i x) ≡ g x) → (i : ℕ) (l : List A) → map g (each k i l) ≡ map g l
 map-each g k h i [] = refl
 map-each g k h i (x ∷ l) = ap₂ _∷_ (h i x) (map-each g k h (suc i) l)
 
+-- a change by places, at a place
 pub getD-each : {A : Type 0} (k : ℕ → A → A) (i : ℕ) (l : List A) (g : ℕ) (d : A) → g < length l → getD (each k i l) g d ≡ k (i + g) (getD l g d)
 getD-each k i [] g d h = absurd (omega arith)
 getD-each k i (x ∷ l) zero d h = ap (λ n. k n x) (omega arith)
@@ -272,7 +284,7 @@ but-all f l x m h = go (all f l) refl
 
 -- THE SMALLEST
 
--- one more at the end
+-- the smallest of a list with one more number at its end
 pub lowest-snoc : (l : List ℕ) (x : ℕ) → 0 < length l → lowest (l ++ (x ∷ [])) ≡ min (lowest l) x
 unfolding lowest
 lowest-snoc [] x h = absurd (omega arith)

@@ -5,12 +5,10 @@ use mathlib.Core.Bool.{Bool, true, false, not, _&&_, _||_, true≢false}
 use mathlib.Core.List.{List}
 use mathlib.Core.Logic.{_⊎_, inl, inr}
 use native.Mathlib.Omega.{arith}
-use lib.Dec.{ltb, leb}
+use lib.Dec.{ltb}
 use lib.ListN.{length}
-use borrow.Author.Tests.{lt-ltb, le-ltb, ltb-false, leb-true}
+use borrow.Author.Tests.{lt-ltb, le-ltb, ltb-false}
 use Rattle.lists.specs.Tab.{lt-or-le}
-use Rattle.lists.specs.WordsLaws.{both}
-use Rattle.rules.specs.Numbers.{within}
 use Rattle.rules.specs.Tables.{Table}
 use Rattle.rules.specs.Sound.{counted, ranges, sound}
 use Rattle.rules.specs.Choice.{Result, choice}
@@ -27,6 +25,7 @@ use Rattle.rules.specs.declared.Refusal.the-variants.{BadSetting, ShortTable, U
 use Rattle.table.specs.View as view
 use Rattle.table.specs.View.{guestsOf, waitingOf, flightsOf, countable, soundNumbers, identified, zeroed}
 use Rattle.gate.specs.Promise as numbers
+use Rattle.rules.proofs.Conditions.{counted-means}
 use Rattle.gate.specs.Promise.{settingsIn, unopened}
 use Rattle.gate.proofs.Verdicts.{uncounted, short-refused, unsound-refused}
 use Rattle.gate.proofs.Beyond.{fresh-sized}
@@ -38,11 +37,7 @@ use Rattle.records.proofs.Copies.{count, rows, part, brought, homed, le
 
 -- counts in range leave at most 64 guests
 counted-few : (d n c : ℕ) → counted d n c ≡ true → n ≤ 64
-unfolding counted
-counted-few d n c h =
-    let a = both (within 1 64 d && within 1 64 n) (within 1 1024 c) h in
-    let b = both (within 1 64 d) (within 1 64 n) (a .0) in
-    leb-true n 64 (both (leb 1 n) (leb n 64) (b .1) .1)
+counted-few d n c h = counted-means d n c .holds .0 h .guest-count .1
 
 -- then all guests' records are in use, or the slice has too few
 in-use : (n : ℕ) (rs : List Guest) → n ≤ 64 → n ≤ length rs → count n rs ≡ n

@@ -60,7 +60,7 @@ handed rs ws fs r = (
   overRows flightForm (r .table .setup .depth) (r .table .flight) fs,
 )
 
--- what a caller sees of a call: the gate, the answer as the paper shows it, the records and the two lists
+-- all that a caller sees of a call: the gate, the answer as the paper shows it, the records and the two lists
 abbrev pub Seen : Type 0
 Seen = Gate × Printed × List Guest × List ℕ × List ℕ
 
@@ -85,7 +85,7 @@ soundRecords g rs ws fs =
 abbrev pub unchanged : Gate → List Guest → (ws fs : List ℕ) → Answer → Handed
 unchanged g rs ws fs a = (record { gate = g; answer = a }, rs, ws, fs)
 
--- what follows from a verdict on an event: what it enters and the choice, at the table that is shown; or nothing moves
+-- what follows from a verdict on an event: at the table that is shown it is entered and the choice made; or nothing moves
 abbrev pub followed : Verdict → Event → Gate → List Guest → (ws fs : List ℕ) → Handed
 followed accept e g rs ws fs = handed rs ws fs (choice (enter (tableOf g rs ws fs) e))
 followed (refuse r) e g rs ws fs = unchanged g rs ws fs (Refused r)

@@ -26,10 +26,12 @@ module _ (gs : List Guest) (rows : List ℕ) where
   abbrev pub unpacked : ℕ → List ℕ
   unpacked i = overRows recordForm i (take i gs) rows
 
+  -- before the first they are as they were
   pub unpacked-none : unpacked 0 ≡ rows
   unfolding rowsOf linesOf
   unpacked-none = over-same recordForm record-exact 0 0 rows (all-used recordForm record-exact 0 rows)
 
+  -- they are as many as before
   pub length-unpacked : (i : ℕ) → length (unpacked i) ≡ length rows
   length-unpacked i = length-over-rows recordForm record-exact i (take i gs) rows
 
@@ -47,10 +49,12 @@ module _ (rows : List ℕ) (gs : List Guest) where
   abbrev pub packed : ℕ → List Guest
   packed i = rowsOf recordForm rows i ++ drop i gs
 
+  -- before the first they are as they were
   pub packed-none : packed 0 ≡ gs
   unfolding rowsOf linesOf
   packed-none = refl
 
+  -- they are as many as before
   pub length-packed : (i : ℕ) → i ≤ length gs → length (packed i) ≡ length gs
   length-packed i le = omega (arith, length-append (rowsOf recordForm rows i) (drop i gs), length-rows recordForm rows i, length-drop i gs)
 

@@ -3,13 +3,14 @@
 use rules::Guest;
 ghost use mathlib.Core.Path.{_≡_};
 ghost use mathlib.Core.List.{_++_};
-ghost use Prim.Native.Nat.{ℕ, _+_, _*_, _≤_, _<_, min};
+ghost use Prim.Native.Nat.{_+_, _*_, _≤_, _<_, min};
 ghost use lib.ListN.{length, getD, set, take, drop};
 ghost use Rattle.lists.specs.Stores.{stores};
 ghost use Rattle.lists.specs.Lines.{lineAt};
 ghost use Rattle.lists.specs.Rows.{rowsOf, overRows};
 ghost use Rattle.records.specs.Records.{recordForm, blank, inUse};
 
+// Where the numbers of a record stand in its row.
 const RESERVATION: usize = 0;
 
 const LIMIT: usize = 1;
@@ -40,7 +41,7 @@ pub fn used(wanted: u64, lent: usize) -> usize
     least(whole, least(lent, 64))
 }
 
-// The record at place `at`.
+// The record at place `at` of the lent slice.
 pub fn read(guests: &[Guest], at: usize) -> Guest
     requires { ⌜ at < length (now guests) ⌝ }
     ensures { λ r. ⌜ r ≡ getD (now (guests .entry)) at blank ⌝ }
@@ -48,7 +49,7 @@ pub fn read(guests: &[Guest], at: usize) -> Guest
     guests[at]
 }
 
-// The record at place `at` becomes `guest`.
+// The record at place `at` of the lent slice becomes `guest`.
 pub fn write(guests: &mut [Guest], at: usize, guest: Guest)
     requires { ⌜ at < length (now guests) ⌝ }
     ensures { λ _. ⌜ now (guests .exit) ≡ set (now (guests .entry)) at guest ⌝ }
@@ -56,7 +57,7 @@ pub fn write(guests: &mut [Guest], at: usize, guest: Guest)
     guests[at] = guest;
 }
 
-// A record into its row of six numbers.
+// Writes a record into its row of six numbers.
 pub fn put_row(rows: &mut [u64], at: usize, guest: Guest)
     requires { ⌜ at * 6 + 6 ≤ length (now rows) ⌝ }
     ensures { λ _. ⌜ now (rows .exit) ≡ stores (λ j. at * 6 + j) (λ j. getD (recordForm .line guest) j 0) 6 (now (rows .entry)) ⌝ }
@@ -69,7 +70,7 @@ pub fn put_row(rows: &mut [u64], at: usize, guest: Guest)
     rows[at * 6 + SNEXT] = guest.snext;
 }
 
-// A record out of its row of six numbers.
+// The record that a row of six numbers holds.
 pub fn row_at(rows: &[u64], at: usize) -> Guest
     requires { ⌜ at * 6 + 6 ≤ length (now rows) ⌝ }
     ensures { λ r. ⌜ r ≡ recordForm .read (lineAt 6 (now (rows .entry)) at) ⌝ }
@@ -84,7 +85,7 @@ pub fn row_at(rows: &[u64], at: usize) -> Guest
     }
 }
 
-// The first `count` records into their rows; what stands past them stays.
+// Writes the first `count` records into their rows; numbers past them stay.
 pub fn unpack(guests: &[Guest], count: usize, rows: &mut [u64])
     requires { ⌜ (count ≤ length (now guests)) × (count * 6 ≤ length (now rows)) ⌝ }
     ensures { λ _. ⌜ now (rows .exit) ≡ overRows recordForm count (take count (now (guests .entry))) (now (rows .entry)) ⌝ }
@@ -97,7 +98,7 @@ pub fn unpack(guests: &[Guest], count: usize, rows: &mut [u64])
     }
 }
 
-// The first `count` records out of their rows; those past them stay.
+// Writes what the first `count` rows hold into the first records; records past them stay.
 pub fn pack(rows: &[u64], count: usize, guests: &mut [Guest])
     requires { ⌜ (count ≤ length (now guests)) × (count * 6 ≤ length (now rows)) ⌝ }
     ensures { λ _. ⌜ now (guests .exit) ≡ rowsOf recordForm (now (rows .entry)) count ++ drop count (now (guests .entry)) ⌝ }

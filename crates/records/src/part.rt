@@ -3,13 +3,13 @@ use gate::numbers;
 use rules::Gate;
 use rules::Outcome;
 ghost use mathlib.Core.Path.{_≡_};
-ghost use Prim.Native.Nat.{ℕ, _*_, _≤_};
+ghost use Prim.Native.Nat.{_*_, _≤_};
 ghost use lib.ListN.{length};
 ghost use Rattle.rules.specs.Events.{Event};
 ghost use Rattle.gate.specs.Promise.{seen, called, opened};
 ghost use Rattle.records.specs.Records.{inPart};
 
-// An arrival.
+// An arrival on the rows in use.
 pub fn arrive(
     gate: Gate,
     rows: &mut [u64],
@@ -34,7 +34,7 @@ pub fn arrive(
     )
 }
 
-// A completion.
+// A completion on the rows in use.
 pub fn complete(
     gate: Gate,
     rows: &mut [u64],
@@ -59,7 +59,7 @@ pub fn complete(
     )
 }
 
-// A tick.
+// A tick on the rows in use.
 pub fn tick(
     gate: Gate,
     rows: &mut [u64],
@@ -74,7 +74,7 @@ pub fn tick(
     numbers::tick(gate, &mut rows[..count * 6], waiting, flight, time)
 }
 
-// An opening.
+// An opening of the rows in use.
 pub fn open(
     depth: u64,
     known: u64,

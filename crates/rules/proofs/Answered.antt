@@ -1,28 +1,27 @@
 -- What a step answers is its verdict: it answers a refusal exactly where that is the verdict, so what is printed follows the paper's list of
 -- each event. Assumes nothing.
-use mathlib.Core.Path.{_≡_, refl, sym, ap, _∙_}
+use mathlib.Core.Path.{_≡_, refl, ap}
 use mathlib.Core.Bool.{Bool, true, false, not, true≢false, false≢true}
 use mathlib.Core.Logic.{_↔_}
 use Prim.Native.Nat.{ℕ}
 use native.Mathlib.Omega.{arith}
 use lib.ListN.{getD}
 use borrow.Author.Tests.{not-false}
-use Rattle.lists.specs.Words.{if_then_else_}
-use Rattle.rules.specs.Tables.{Request, Table}
+use Rattle.rules.specs.Tables.{Table}
 use Rattle.rules.specs.Answers.{Printed, shown}
 use Rattle.rules.specs.Sound.{sound}
-use Rattle.rules.specs.Choice.{Pick, nobody, picked, least, due, open?, room, byWeight, byReservation, choice}
+use Rattle.rules.specs.Choice.{choice}
 use Rattle.rules.specs.Events.{Event, arrival, completion, tick, enter}
 use Rattle.rules.specs.Refusals.{Verdict, accept, refuse, verdict, isAccept, accepted}
 use Rattle.rules.specs.Refused.{ArrivalRefused, CompletionRefused, TickRefused}
 use Rattle.rules.specs.Run.{decided, step}
 use Rattle.rules.specs.declared.Phase.the-variants.{Reservation, Weight}
-use Rattle.rules.specs.declared.Refusal.{Refusal}
 use Rattle.rules.specs.declared.Answer.{Answer}
 use Rattle.rules.specs.declared.Answer.the-variants.{Nothing, Sent, Refused}
 use Rattle.rules.proofs.Trials.{X}
 use Rattle.rules.proofs.Judged.{Gives}
 use Rattle.rules.proofs.Refused.{Tells, arrival-refused, completion-refused, tick-refused}
+use Rattle.rules.proofs.Cases.{choice-by}
 
 -- the answer is a refusal
 abbrev pub isRefused : Answer → Bool
@@ -32,27 +31,7 @@ isRefused (Refused r) = true
 
 -- a choice refuses nothing
 pub unrefused : (t : Table) → isRefused (choice t .answer) ≡ false
-unfolding choice byReservation byWeight
-unrefused t =
-    elim (room t) as (λ b. isRefused ((if b then byReservation t (least (due t) Request.rtag (t .waiting)) else record { table = t; answer = Nothing }) .answer) ≡ false)
-    [ true ↦ reserve (least (due t) Request.rtag (t .waiting)) | false ↦ refl ]
-  where
-    weigh : (k : Pick) → isRefused (byWeight t k .answer) ≡ false
-    weigh nobody = refl
-    weigh (picked q w) = refl
-
-    reserve : (k : Pick) → isRefused (byReservation t k .answer) ≡ false
-    reserve nobody = weigh (least (open? t) Request.stag (t .waiting))
-    reserve (picked q w) = refl
-
--- an event is answered with a refusal exactly where that is the verdict on it
-pub step-refused : (t : Table) (e : Event) (r : Refusal) → (step t e .answer ≡ Refused r) ↔ (verdict t e ≡ refuse r)
-unfolding step decided
-step-refused t e r = go (verdict t e)
-  where
-    go : (v : Verdict) → (decided v t e .answer ≡ Refused r) ↔ (v ≡ refuse r)
-    go accept = (λ h. absurd (false≢true (sym (unrefused (enter t e)) ∙ ap isRefused h)), λ h. absurd (true≢false (ap isAccept h)))
-    go (refuse s) = (λ h. cc, λ h. cc)
+unrefused t = choice-by (λ r. isRefused (r .answer) ≡ false) t refl (λ p v f e. refl) (λ p v f n e. refl)
 
 -- number n is printed exactly where the verdict gives it
 pub step-shows : (t : Table) (e : Event) (n : ℕ) → (shown (step t e .answer) ≡ X n) ↔ Gives (verdict t e) n

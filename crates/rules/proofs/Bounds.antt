@@ -5,12 +5,10 @@ use mathlib.Core.List.{List, [], _∷_}
 use Prim.Native.Nat.{_≤_}
 use native.Mathlib.Omega.{arith}
 use lib.ListN.{length}
-use Rattle.lists.specs.Words.{if_then_else_}
-use Rattle.rules.specs.declared.Answer.the-variants.{Nothing}
 use Rattle.rules.specs.Numbers.{ceiling}
-use Rattle.rules.specs.Tables.{Setup, Request, Table}
+use Rattle.rules.specs.Tables.{Setup, Table}
 use Rattle.rules.specs.Sound.{sound}
-use Rattle.rules.specs.Choice.{Pick, nobody, picked, least, due, open?, sending, byWeight, byReservation, room, choice}
+use Rattle.rules.specs.Choice.{sending, choice}
 use Rattle.rules.specs.Events.{Event, moment, enter}
 use Rattle.rules.specs.Refusals.{accepted}
 use Rattle.rules.specs.Run.{step, after}
@@ -19,25 +17,12 @@ use Rattle.rules.proofs.Facts.{sound-is}
 use Rattle.rules.proofs.Drops.{dropped-time}
 use Rattle.rules.proofs.EnterSound.{accepted-later, enter-time}
 use Rattle.rules.proofs.StepSound.{accepted-step, refused-keeps, run-sound}
-
--- the weight phase leaves the time
-weight-time : (t : Table) (k : Pick) → ((byWeight t k) .table) .time ≡ t .time
-unfolding byWeight sending
-weight-time t nobody = refl
-weight-time t (picked q w) = dropped-time q (sending t q w)
-
--- and so does the reservation phase
-reservation-time : (t : Table) (k : Pick) → ((byReservation t k) .table) .time ≡ t .time
-unfolding byReservation sending
-reservation-time t nobody = weight-time t (least (open? t) Request.stag (t .waiting))
-reservation-time t (picked q w) = refl
+use Rattle.rules.proofs.Cases.{choice-by}
 
 -- the choice leaves the time
 pub choice-time : (t : Table) → ((choice t) .table) .time ≡ t .time
-unfolding choice
-choice-time t =
-    elim (room t) as (λ b. ((if b then byReservation t (least (due t) Request.rtag (t .waiting)) else record { table = t; answer = Nothing }) .table) .time ≡ t .time)
-    [ true ↦ reservation-time t (least (due t) Request.rtag (t .waiting)) | false ↦ refl ]
+unfolding sending
+choice-time t = choice-by (λ r. r .table .time ≡ t .time) t refl (λ p v f e. refl) (λ p v f n e. dropped-time p (sending t p v))
 
 -- an accepted event's time is the table's afterwards
 pub accepted-time : (t : Table) (e : Event) → accepted t e ≡ true → ((step t e) .table) .time ≡ moment e

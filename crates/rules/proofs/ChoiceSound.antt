@@ -9,10 +9,9 @@ use lib.ListN.{length, length-append}
 use borrow.Author.Tests.{ltb-true, le-leb, eqb-true, eq-eqb}
 use Rattle.lists.specs.Words.{if_then_else_, all}
 use Rattle.lists.specs.WordsLaws.{join, all-append, all-mid}
-use Rattle.rules.specs.declared.Answer.the-variants.{Nothing}
 use Rattle.rules.specs.Tables.{Settings, Guest, Request, Flight, Table, reserved, limited, rspacing, lspacing, sspacing, owner, of, mine, name, names}
 use Rattle.rules.specs.Sound.{lawful, kept, orderly}
-use Rattle.rules.specs.Choice.{Pick, nobody, picked, least, due, open?, sending, earlier, sooner, dropOf, dropped, byWeight, byReservation, room, choice}
+use Rattle.rules.specs.Choice.{sending, earlier, sooner, dropOf, dropped, room, choice}
 use Rattle.rules.proofs.Spacings.{down-le, up-le, no-down}
 use Rattle.rules.proofs.Names.{distinct-last, names-mid, names-sent}
 use Rattle.rules.proofs.Chains.{kept-tail, kept-above, kept-same, kept-drop}
@@ -20,6 +19,7 @@ use Rattle.rules.proofs.Settings.{same-ranges, same-count, sending-sett
 use Rattle.rules.proofs.Facts.{Sound, orderly-is, is-orderly, Lawful, lawful-is, waiting-known, any-orderly}
 use Rattle.rules.proofs.Picks.{Goes, due-goes, open-goes}
 use Rattle.rules.proofs.Drops.{dropped-names, dropped-length, dropped-flight, dropped-time, dropped-lawful, dropped-own, dropped-owner, dropped-others, dropped-other}
+use Rattle.rules.proofs.Cases.{choice-by}
 
 -- A REQUEST GOES
 
@@ -151,26 +151,12 @@ module _ (u : Table) (s : Sound u) (p : Request) (known : p .guest < length (u .
 
 -- THE CHOICE
 
--- the weight phase
-weight-sound : (t : Table) → Sound t → room t ≡ true → (k : Pick) → least (open? t) Request.stag (t .waiting) ≡ k → Sound ((byWeight t k) .table)
-unfolding byWeight
-weight-sound t s r nobody e = s
-weight-sound t s r (picked p v) e =
-    let c = open-goes t s p v e in
-    let known : p .guest < length ((sending t p v) .guests) = rw (same-count (sending t p v) t (sending-settings t p v)) (sent-known t s p v c) in
-    dropped-sound (sending t p v) (sending-sound t s p v c r) p known (drop-fits t s p v c)
-
--- the reservation phase
-reservation-sound : (t : Table) → Sound t → room t ≡ true → (k : Pick) → least (due t) Request.rtag (t .waiting) ≡ k → Sound ((byReservation t k) .table)
-unfolding byReservation
-reservation-sound t s r nobody e = weight-sound t s r (least (open? t) Request.stag (t .waiting)) refl
-reservation-sound t s r (picked p v) e = sending-sound t s p v (due-goes t s p v e) r
-
 -- The choice keeps a table sound.
 pub choice-sound : (t : Table) → Sound t → Sound ((choice t) .table)
-unfolding choice
-choice-sound t s = go (room t) refl
-  where
-    go : (b : Bool) → room t ≡ b → Sound ((if room t then byReservation t (least (due t) Request.rtag (t .waiting)) else record { table = t; answer = Nothing }) .table)
-    go true r = rw r (reservation-sound t s r (least (due t) Request.rtag (t .waiting)) refl)
-    go false r = rw r s
+choice-sound t s =
+    choice-by (λ r. Sound (r .table)) t s
+    (λ p v f e. sending-sound t s p v (due-goes t s p v e) f)
+    (λ p v f n e.
+    let c = open-goes t s p v e in
+    let known : p .guest < length ((sending t p v) .guests) = rw (same-count (sending t p v) t (sending-settings t p v)) (sent-known t s p v c) in
+    dropped-sound (sending t p v) (sending-sound t s p v c f) p known (drop-fits t s p v c))

@@ -1,5 +1,5 @@
 -- The choice is what document 01 says of it, and nothing else is: never another send, and none withheld. Assumes nothing.
-use mathlib.Core.Path.{_≡_, refl, sym, _∙_}
+use mathlib.Core.Path.{_≡_, refl, sym}
 use mathlib.Core.Bool.{Bool, true, false, true≢false}
 use Prim.Native.Nat.{_<_}
 use lib.ListN.{length}
@@ -10,7 +10,7 @@ use Rattle.rules.specs.Choice.{Result, Pick, nobody, picked, least, due,
 use Rattle.rules.specs.Events.{Event, enter}
 use Rattle.rules.specs.Refusals.{Verdict, accept, refuse, verdict, isAccept, accepted}
 use Rattle.rules.specs.Run.{decided, step}
-use Rattle.rules.specs.Chosen.{NoneOf, unsent, Chosen, full, reservation, weight, nothing}
+use Rattle.rules.specs.Chosen.{NoneIs, unsent, Chosen, full, reservation, weight, nothing}
 use Rattle.rules.proofs.Places.{Says, least-place, least-at, least-none}
 
 -- the choice is what the description asks
@@ -21,7 +21,7 @@ chosen t = go (room t) refl
     free : room t ≡ true → length (t .flight) < t .setup .depth
     free e = ltb-true (length (t .flight)) (t .setup .depth) e
 
-    weigh : room t ≡ true → NoneOf (due t) (t .waiting) → (k : Pick) → Says (open? t) Request.stag (t .waiting) k → Chosen t (byWeight t k)
+    weigh : room t ≡ true → NoneIs (due t) (t .waiting) → (k : Pick) → Says (open? t) Request.stag (t .waiting) k → Chosen t (byWeight t k)
     weigh e n nobody m = nothing (free e) n m refl
     weigh e n (picked p v) a = weight (a .place) (free e) n (a .foremost) (rw (a .request, a .others))
 
@@ -33,7 +33,7 @@ chosen t = go (room t) refl
     go true e = reserve e (least (due t) Request.rtag (t .waiting)) (least-place (due t) Request.rtag (t .waiting))
     go false e = full (ltb-false (length (t .flight)) (t .setup .depth) e) refl
 
--- the description fits one outcome only
+-- the description fits one outcome only: so any two outcomes that it admits are equal
 pub chosen-once : (t : Table) (r : Result) → Chosen t r → r ≡ choice t
 unfolding room choice byReservation byWeight
 chosen-once t r (full f e) = rw (le-ltb (length (t .flight)) (t .setup .depth) f) e
@@ -43,10 +43,6 @@ chosen-once t r (weight i f n a e) =
     rw (lt-ltb (length (t .flight)) (t .setup .depth) f, least-none (due t) Request.rtag (t .waiting) n, least-at (open? t) Request.stag (t .waiting) i a) e
 chosen-once t r (nothing f n m e) =
     rw (lt-ltb (length (t .flight)) (t .setup .depth) f, least-none (due t) Request.rtag (t .waiting) n, least-none (open? t) Request.stag (t .waiting) m) e
-
--- any two outcomes that the description admits are equal
-pub chosen-same : (t : Table) (r s : Result) → Chosen t r → Chosen t s → r ≡ s
-chosen-same t r s a b = chosen-once t r a ∙ sym (chosen-once t s b)
 
 -- an accepted event ends in the choice at the table that it enters
 pub step-chosen : (t : Table) (e : Event) → accepted t e ≡ true → Chosen (enter t e) (step t e)

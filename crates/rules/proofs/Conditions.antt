@@ -120,10 +120,12 @@ passing-means idle now a t fine = means (to idle, back idle)
 
 -- SETTINGS
 
+-- a number in a range
 within-means : (a b n : ℕ) → (within a b n ≡ true) ↔ ((a ≤ n) × (n ≤ b))
 within-means a b n =
     (λ h. let p = both (leb a n) (leb n b) h in (leb-true a n (p .0), leb-true n b (p .1)), λ p. join (le-leb a n (p .0)) (le-leb n b (p .1)))
 
+-- depth, guests and capacity in their ranges
 pub counted-means : (d n c : ℕ) → Means (counted d n c) (Countable d n c) (Countable d n c → ⊥)
 unfolding counted
 counted-means d n c = means (to, λ k. join (join (within-means 1 64 d .1 (k .depths)) (within-means 1 64 n .1 (k .guest-count))) (within-means 1 1024 c .1 (k .capacities)))
@@ -134,8 +136,8 @@ counted-means d n c = means (to, λ k. join (join (within-means 1 64 d .1 (k .de
         let q = both (within 1 64 d) (within 1 64 n) (p .0) in
         record { depths = within-means 1 64 d .0 (q .0); guest-count = within-means 1 64 n .0 (q .1); capacities = within-means 1 1024 c .0 (p .1) }
 
--- one guest's settings
-settled-good : (s : Settings) → (settled s ≡ true) ↔ Good s
+-- one guest's settings in their ranges
+pub settled-good : (s : Settings) → (settled s ≡ true) ↔ Good s
 unfolding settled
 settled-good s = (to, back)
   where

@@ -1,7 +1,7 @@
 -- Demand 3: a due request goes by reservation, after just those that stand before it, at the accepted events that find a place free.
 -- Assumes nothing.
 use mathlib.Core.Path.{_≡_, refl, sym, ap, _∙_}
-use mathlib.Core.Bool.{Bool, true, false, true≢false, false≢true}
+use mathlib.Core.Bool.{Bool, true, false}
 use mathlib.Core.List.{List, [], _∷_, _++_, map, append-assoc, List·Permᴰ}
 use Prim.Native.Nat.{ℕ, zero, suc, _≤_, _<_}
 use native.Mathlib.Omega.{arith}
@@ -15,8 +15,7 @@ use Rattle.rules.specs.Tables.{Request, Flight, Table, name}
 use Rattle.rules.specs.Sound.{sound}
 use Rattle.rules.specs.Choice.{dueAt, room, choice}
 use Rattle.rules.specs.Events.{Event, enter}
-use Rattle.rules.specs.Refusals.{Verdict, accept, refuse, verdict, isAccept, accepted}
-use Rattle.rules.specs.Run.{decided, step}
+use Rattle.rules.specs.Refusals.{accepted}
 use Rattle.rules.specs.Turn.{tagged, isDue, ahead, sorted, atFree, sentByReservation, InTurn}
 use Rattle.rules.specs.declared.Answer.{Answer}
 use Rattle.rules.specs.declared.Answer.the-variants.{Nothing}

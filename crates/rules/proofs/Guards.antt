@@ -8,12 +8,13 @@ use Rattle.rules.specs.Numbers.{ceiling}
 use Rattle.rules.specs.Tables.{Settings, Guest, Request, Table}
 use Rattle.rules.specs.Events.{Event, arrival, tick}
 use Rattle.rules.specs.Run.{fresh}
-use Rattle.rules.proofs.Trials.{ms, settings, comes, ends, -, R, W, X, lines, waitingAfter, guestsAfter}
+use Rattle.rules.proofs.Trials.{ms, settings, comes, ends, three, -, R, W, X, lines, waitingAfter, guestsAfter}
 
--- a guest without reservation or limit, with shares 1; and one with reservation 1 besides: their spacings are a second
+-- a guest without reservation or limit, with shares 1: its spacing is a second
 abbrev free : Settings
 free = settings 0 0 1
 
+-- one with reservation 1 besides: both spacings are a second
 abbrev owed : Settings
 owed = settings 1 0 1
 
@@ -21,25 +22,23 @@ owed = settings 1 0 1
 abbrev comesAt : (g i : ℕ) → ℕ → Event
 comesAt g i n = arrival (record { guest = g; id = i }) n
 
--- one place at the array, eight to wait
+-- a fresh table with one place at the array and eight to wait; so of three arrivals of one guest at 0 one is in flight and two wait
 abbrev gate : List Settings → Table
 gate ss = fresh 1 8 ss
 
--- guest 0 has id 1 in flight, and ids 2 and 3 waiting since 0
-abbrev queued : List Event → List Event
-queued es = comes 0 1 0 ∷ comes 0 2 0 ∷ comes 0 3 0 ∷ es
-
--- guest 0's reservation 1, limit 1 and shares 1 put a second between its tags; guest 1 comes at 100 ms, then guest 0 with its next numbers
+-- guest 0's reservation 1, limit 1 and shares 1 put a second between its tags
 abbrev bound : Table
 bound = gate (settings 1 1 1 ∷ settings 0 0 2 ∷ [])
 
+-- guest 1 comes at 100 ms, then guest 0 with its next numbers
 abbrev joined : List Event
-joined = queued (comes 1 1 100 ∷ comes 0 4 100 ∷ [])
+joined = three (comes 1 1 100 ∷ comes 0 4 100 ∷ [])
 
--- reservation 250,000 and limit 500,000 put 4,000 and 2,000 ns between the tags; ids 2 and 3 come at 9,000 ns
+-- reservation 250,000 and limit 500,000 put 4,000 and 2,000 ns between the tags
 abbrev brisk : Table
 brisk = gate (settings 250000 500000 1 ∷ [])
 
+-- ids 2 and 3 come at 9,000 ns
 abbrev later : List Event
 later = comesAt 0 1 0 ∷ comesAt 0 2 9000 ∷ comesAt 0 3 9000 ∷ []
 
@@ -49,15 +48,16 @@ returned = comes 1 1 0 ∷ comes 0 1 0 ∷ comes 0 2 0 ∷ comes 1 2 100 ∷ []
 
 -- two guests with reservation 1: guest 0's id 2 goes by weight while its id 3 and guest 1's id 2 wait
 abbrev spared : List Event
-spared = queued (comes 1 1 0 ∷ comes 1 2 0 ∷ ends 0 1 0 ∷ ends 1 1 0 ∷ [])
+spared = three (comes 1 1 0 ∷ comes 1 2 0 ∷ ends 0 1 0 ∷ ends 1 1 0 ∷ [])
 
+-- the readings
 pub record Guards : Type 0 where
   -- "Time 2^62 − 1 is accepted, 2^62 is refused 5."
   pub last-time : lines (gate (free ∷ [])) (tick ceiling ∷ tick (suc ceiling) ∷ []) ≡ - ∷ X 5 ∷ []
   -- "A second arrival of one guest at 2^62 − 1, with a new id and room to wait, is refused 9": a tag given passes the ceiling
   pub last-arrival : lines (gate (free ∷ [])) (comesAt 0 1 ceiling ∷ comesAt 0 2 ceiling ∷ []) ≡ W 0 1 ∷ X 9 ∷ []
   -- a share tag moved passes the ceiling: that of id 3, one second behind the smallest
-  pub moved-past : lines (gate (free ∷ free ∷ [])) (queued (comesAt 1 1 ceiling ∷ [])) ≡ W 0 1 ∷ - ∷ - ∷ X 9 ∷ []
+  pub moved-past : lines (gate (free ∷ free ∷ [])) (three (comesAt 1 1 ceiling ∷ [])) ≡ W 0 1 ∷ - ∷ - ∷ X 9 ∷ []
   -- "Capacity 1, depth 1, one unlimited guest, three ids: first arrival sent, second waits, third refused 8; after a completion the third is accepted."
   pub one-place :
       lines (fresh 1 1 (free ∷ [])) (comes 0 1 0 ∷ comes 0 2 0 ∷ comes 0 3 0 ∷ ends 0 1 0 ∷ comes 0 3 0 ∷ []) ≡ W 0 1 ∷ - ∷ X 8 ∷ W 0 2 ∷ - ∷ []
@@ -82,7 +82,7 @@ pub record Guards : Type 0 where
   pub unmoved-reservations : waitingAfter Request.rtag bound joined ≡ ms 1000 ∷ ms 2000 ∷ 0 ∷ ms 3000 ∷ []
   pub unmoved-limits : waitingAfter Request.ltag bound joined ≡ ms 1000 ∷ ms 2000 ∷ 0 ∷ ms 3000 ∷ []
   -- the arrival of a guest that has something waiting moves nothing
-  pub not-idle : waitingAfter Request.stag bound (queued (comes 0 4 100 ∷ [])) ≡ ms 1000 ∷ ms 2000 ∷ ms 3000 ∷ []
+  pub not-idle : waitingAfter Request.stag bound (three (comes 0 4 100 ∷ [])) ≡ ms 1000 ∷ ms 2000 ∷ ms 3000 ∷ []
   -- a guest with requests in flight only is idle: its arrival moves the others' tags, 0 and 1,000 ms, and not its own next number, 500 ms
   pub idle-in-flight : waitingAfter Request.stag (gate (free ∷ settings 0 0 2 ∷ [])) returned ≡ ms 100 ∷ ms 1100 ∷ ms 500 ∷ []
   -- a weight send drops the reservation tags that wait of that guest, and its next number, and no other guest's
@@ -90,6 +90,7 @@ pub record Guards : Type 0 where
   pub spare-tags : waitingAfter Request.rtag (gate (owed ∷ owed ∷ [])) spared ≡ ms 1000 ∷ ms 1000 ∷ []
   pub spare-nexts : guestsAfter Guest.rnext (gate (owed ∷ owed ∷ [])) spared ≡ ms 2000 ∷ ms 2000 ∷ []
 
+-- they all hold
 pub guards : Guards
 unfolding lines
 guards =

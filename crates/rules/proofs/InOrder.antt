@@ -6,9 +6,8 @@ use Prim.Native.Nat.{ℕ}
 use lib.Dec.{eqb}
 use Rattle.lists.specs.Words.{if_then_else_}
 use Rattle.lists.specs.WordsLaws.{map-append, map-same, filter-map, filter-append}
-use Rattle.rules.specs.declared.Answer.the-variants.{Nothing}
 use Rattle.rules.specs.Tables.{Guest, Request, Table, owner, of, mine, idle}
-use Rattle.rules.specs.Choice.{Result, Pick, nobody, picked, least, due, open?, sending, byWeight, byReservation, room, choice}
+use Rattle.rules.specs.Choice.{Result, sending, choice}
 use Rattle.rules.specs.Events.{Arriving, Event, arrival, completion, tick, smallest, shifted, adjusted, stamped, placed, arriveAs, arrive, complete, wait, enter}
 use Rattle.rules.specs.Refusals.{Verdict, accept, refuse, isAccept, verdict, accepted}
 use Rattle.rules.specs.Run.{decided, step, after, answers}
@@ -17,6 +16,7 @@ use Rattle.rules.proofs.Facts.{Sound}
 use Rattle.rules.proofs.Picks.{Goes, due-goes, open-goes}
 use Rattle.rules.proofs.Drops.{dropped-ids}
 use Rattle.rules.proofs.EnterSound.{enter-sound}
+use Rattle.rules.proofs.Cases.{choice-by}
 
 -- THE CHOICE
 
@@ -36,25 +36,12 @@ module _ (t : Table) (s : Sound t) (g : ℕ) where
   unfolding sending
   sending-waits p v c = ap (map Request.id) (c .first g) ∙ ids-cons g p v
 
-  -- the weight phase
-  weight-waits : (k : Pick) → least (open? t) Request.stag (t .waiting) ≡ k → Leaves (byWeight t k)
-  unfolding byWeight
-  weight-waits nobody e = refl
-  weight-waits (picked p v) e =
-      sending-waits p v (open-goes t s p v e) ∙ ap ((if of g p then p .id ∷ [] else []) ++_) (sym (dropped-ids p (sending t p v) g))
-
-  -- the reservation phase
-  reservation-waits : (k : Pick) → least (due t) Request.rtag (t .waiting) ≡ k → Leaves (byReservation t k)
-  unfolding byReservation
-  reservation-waits nobody e = weight-waits (least (open? t) Request.stag (t .waiting)) refl
-  reservation-waits (picked p v) e = sending-waits p v (due-goes t s p v e)
-
   -- the choice
   choice-waits : Leaves (choice t)
-  unfolding choice
   choice-waits =
-      elim (room t) as (λ b. Leaves (if b then byReservation t (least (due t) Request.rtag (t .waiting)) else record { table = t; answer = Nothing }))
-      [ true ↦ reservation-waits (least (due t) Request.rtag (t .waiting)) refl | false ↦ refl ]
+      choice-by Leaves t refl
+      (λ p v f e. sending-waits p v (due-goes t s p v e))
+      (λ p v f n e. sending-waits p v (open-goes t s p v e) ∙ ap ((if of g p then p .id ∷ [] else []) ++_) (sym (dropped-ids p (sending t p v) g)))
 
 -- AN EVENT
 

@@ -3,7 +3,7 @@
 use mathlib.Core.Path.{_≡_, refl, sym, ap, _∙_}
 use mathlib.Core.Bool.{Bool, true, false, not, _&&_, true≢false, false≢true}
 use mathlib.Core.List.{List, [], _∷_, map}
-use mathlib.Core.Logic.{_↔_, Iff·symm, Iff·trans}
+use mathlib.Core.Logic.{_↔_}
 use Prim.Native.Nat.{ℕ}
 use lib.Dec.{eqb}
 use lib.ListN.{getD}
@@ -49,14 +49,6 @@ numberOf-once r s e = sym (found r) ∙ ap (λ (n : ℕ). getD listed n BadSetti
 abbrev pub Gives : Verdict → ℕ → Type 0
 Gives accept n = ⊥
 Gives (refuse r) n = numberOf r ≡ n
-
--- it gives the number of a refusal exactly where it is that refusal
-pub gives-refusal : (v : Verdict) (r : Refusal) → Gives v (numberOf r) ↔ (v ≡ refuse r)
-gives-refusal v r = (λ g. to v g, λ e. rw e refl)
-  where
-    to : (v : Verdict) → Gives v (numberOf r) → v ≡ refuse r
-    to accept g = absurd g
-    to (refuse s) g = ap refuse (numberOf-once s r g)
 
 -- LISTS OF TESTS
 
@@ -133,7 +125,3 @@ given-exactly (c ∷ cs) d n = go (c .holds) (eqb (numberOf (c .refusal)) n) ref
     go false true h q k =
         (λ g. absurd (never-given cs n (rw (eqb-true (numberOf (c .refusal)) n q) at (parts .0)) g), λ p. absurd (false≢true (p .0)))
     go false false h q k = (λ g. (k .0 g .0, (h, k .0 g .1)), λ p. k .1 (p .0, p .1 .1))
-
--- the same of a refusal
-pub refusal-exactly : (cs : List Test) → different (numbers cs) ≡ true → (r : Refusal) → (judged cs ≡ refuse r) ↔ ((condition (numberOf r) cs ≡ true) × NoneHolds (before (numberOf r) cs))
-refusal-exactly cs d r = Iff·trans (Iff·symm (gives-refusal (judged cs) r)) (given-exactly cs d (numberOf r))

@@ -1,4 +1,5 @@
 pub mod Judged
+pub mod Cases
 pub mod Places
 pub mod Chosen
 pub mod Sorted

@@ -13,7 +13,7 @@ use Rattle.lists.specs.Words.{if_then_else_}
 use Rattle.lists.specs.Tab.{removeAt, lt-or-le}
 use Rattle.rules.specs.Tables.{Request}
 use Rattle.rules.specs.Choice.{Pick, nobody, picked, behind, against, least}
-use Rattle.rules.specs.Chosen.{at, Foremost, NoneOf}
+use Rattle.rules.specs.Chosen.{at, Foremost, NoneIs}
 
 module _ (ok : Request → Bool) (tag : Request → ℕ) where
   -- p is the request at a place of w that stands foremost, and v is w without it
@@ -25,7 +25,7 @@ module _ (ok : Request → Bool) (tag : Request → ℕ) where
 
   -- what a pick from w says of the places of w
   abbrev pub Says : List Request → Pick → Type 0
-  Says w nobody = NoneOf ok w
+  Says w nobody = NoneIs ok w
   Says w (picked p v) = Place w p v
 
   -- a request in front that is ok, and that no ok request has a smaller tag than
@@ -65,7 +65,7 @@ module _ (ok : Request → Bool) (tag : Request → ℕ) where
   least-place [] = λ j h. absurd (omega arith)
   least-place (q ∷ w) = go (ok q) refl (least ok tag w) (least-place w)
     where
-      none : NoneOf ok w → ok q ≡ false → NoneOf ok (q ∷ w)
+      none : NoneIs ok w → ok q ≡ false → NoneIs ok (q ∷ w)
       none n e zero h = e
       none n e (suc j) h = n j (omega arith)
 
@@ -99,7 +99,7 @@ module _ (ok : Request → Bool) (tag : Request → ℕ) where
       go (picked p v) a = rw (a .request, a .others, foremost-once w (a .place) i (a .foremost) f)
 
   -- where none is ok, nobody is picked
-  pub least-none : (w : List Request) → NoneOf ok w → least ok tag w ≡ nobody
+  pub least-none : (w : List Request) → NoneIs ok w → least ok tag w ≡ nobody
   least-none w n = go (least ok tag w) (least-place w)
     where
       go : (k : Pick) → Says w k → k ≡ nobody

@@ -6,7 +6,7 @@ use Rattle.rules.specs.Numbers.{down, up, tagAt}
 use Rattle.rules.specs.Tables.{Request, Table}
 use Rattle.rules.specs.Events.{Event, tick}
 use Rattle.rules.specs.Run.{fresh}
-use Rattle.rules.proofs.Trials.{ms, settings, comes, ends, -, R, W, X, lines, waitingAfter}
+use Rattle.rules.proofs.Trials.{ms, settings, comes, ends, three, -, R, W, X, lines, waitingAfter}
 
 -- "depth 4, one guest (reservation 100, limit 250, shares 1), capacity 8"
 abbrev pub one : Table
@@ -23,14 +23,11 @@ ten =
 abbrev two : Table
 two = fresh 1 8 (settings 0 0 1 ∷ settings 0 0 2 ∷ [])
 
--- "A's ids 1, 2, 3 at 0", and then
-abbrev three : List Event → List Event
-three es = comes 0 1 0 ∷ comes 0 2 0 ∷ comes 0 3 0 ∷ es
-
 -- the share tags that wait after a run
 abbrev tags : Table → List Event → List ℕ
 tags t es = waitingAfter Request.stag t es
 
+-- the readings that document 01 marks with a star, in its order
 pub record Readings : Type 0 where
   pub reservation-3 : down 3 ≡ 333333333
   pub limit-3 : up 3 ≡ 333333334
@@ -45,6 +42,7 @@ pub record Readings : Type 0 where
   pub tie-to-the-earlier : lines two (three (comes 1 1 100 ∷ ends 0 1 100 ∷ ends 0 2 100 ∷ [])) ≡ W 0 1 ∷ - ∷ - ∷ - ∷ W 0 2 ∷ W 1 1 ∷ []
   pub moved-up : tags two (three (comes 1 1 1500 ∷ [])) ≡ ms 1500 ∷ ms 2500 ∷ ms 1500 ∷ []
 
+-- they all hold
 pub readings : Readings
 unfolding lines
 readings =

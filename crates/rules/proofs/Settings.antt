@@ -7,13 +7,13 @@ use lib.ListN.{length, getD, length-map, List·getD-map}
 use lib.Seq.{map-set-same}
 use Rattle.lists.specs.Words.{if_then_else_, all}
 use Rattle.lists.specs.WordsLaws.{all-of-map, map-each}
-use Rattle.rules.specs.declared.Answer.the-variants.{Nothing}
 use Rattle.rules.specs.Tables.{Settings, Guest, Request, Table, nobodys, owner, idle}
 use Rattle.rules.specs.Sound.{settled, ranges}
-use Rattle.rules.specs.Choice.{Pick, nobody, picked, least, due, open?, sending, sooner, dropOf, dropped, byWeight, byReservation, room, choice}
+use Rattle.rules.specs.Choice.{sending, sooner, dropOf, dropped, choice}
 use Rattle.rules.specs.Events.{Event, arrival, completion, tick, smallest, shiftedNext, adjusted, following, placed, stampedFor, arriveAs, arrive, complete, wait, enter}
 use Rattle.rules.specs.Refusals.{Verdict, accept, refuse, verdict}
 use Rattle.rules.specs.Run.{decided, step, after}
+use Rattle.rules.proofs.Cases.{choice-by}
 
 -- what was chosen at opening is the same in both tables
 pub record SameSettings (u t : Table) : Type 0 where
@@ -80,25 +80,12 @@ adjusted-settings true now t =
           0 (t .guests);
     }
 
--- the weight phase
-weight-settings : (t : Table) (k : Pick) → SameSettings ((byWeight t k) .table) t
-unfolding byWeight
-weight-settings t nobody = same-settings t
-weight-settings t (picked q w) =
-    through (dropped-settings q (sending t q w)) (sending-settings t q w)
-
--- the reservation phase
-reservation-settings : (t : Table) (k : Pick) → SameSettings ((byReservation t k) .table) t
-unfolding byReservation
-reservation-settings t nobody = weight-settings t (least (open? t) Request.stag (t .waiting))
-reservation-settings t (picked q w) = sending-settings t q w
-
 -- the choice
 pub choice-settings : (t : Table) → SameSettings ((choice t) .table) t
-unfolding choice
 choice-settings t =
-    elim (room t) as (λ b. SameSettings ((if b then byReservation t (least (due t) Request.rtag (t .waiting)) else record { table = t; answer = Nothing }) .table) t)
-    [ true ↦ reservation-settings t (least (due t) Request.rtag (t .waiting)) | false ↦ same-settings t ]
+    choice-by (λ r. SameSettings (r .table) t) t (same-settings t)
+    (λ p v f e. sending-settings t p v)
+    (λ p v f n e. through (dropped-settings p (sending t p v)) (sending-settings t p v))
 
 -- what an event does before the choice
 pub enter-settings : (t : Table) (e : Event) → SameSettings (enter t e) t

@@ -7,7 +7,7 @@ use native.Mathlib.Omega.{arith}
 use lib.Dec.{ltb, leb}
 use lib.ListN.{length}
 use borrow.Author.Tests.{leb-true, leb-false, lt-ltb, ltb-true, not-true}
-use Rattle.lists.specs.Words.{if_then_else_, all}
+use Rattle.lists.specs.Words.{all}
 use Rattle.lists.specs.WordsLaws.{all-mid, all-at, all-map}
 use Rattle.rules.specs.declared.Phase.{Phase}
 use Rattle.rules.specs.declared.Refusal.{Refusal}
@@ -15,7 +15,7 @@ use Rattle.rules.specs.declared.Phase.the-variants.{Reservation, Weight}
 use Rattle.rules.specs.declared.Answer.the-variants.{Nothing, Sent, Refused}
 use Rattle.rules.specs.Tables.{Request, Table, reserved, rspacing, owner, settingsOf, mine}
 use Rattle.rules.specs.Sound.{sound}
-use Rattle.rules.specs.Choice.{Result, Pick, nobody, picked, least, dueAt, passes, due, open?, sending, earlier, sooner, dropOf, dropped, byWeight, byReservation, room, choice}
+use Rattle.rules.specs.Choice.{Result, nobody, picked, least, dueAt, passes, due, open?, sending, earlier, sooner, dropOf, dropped, choice}
 use Rattle.rules.specs.Chosen.{blank, at}
 use Rattle.rules.specs.Events.{Event, moment, enter}
 use Rattle.rules.specs.Refusals.{Verdict, accept, refuse, isAccept, verdict}
@@ -28,6 +28,7 @@ use Rattle.rules.proofs.Picks.{Goes, open-goes, none-ok}
 use Rattle.rules.proofs.Drops.{dropped-own, dropped-owner}
 use Rattle.rules.proofs.ChoiceSound.{sent-known, sent-first}
 use Rattle.rules.proofs.EnterSound.{enter-time, enter-sound}
+use Rattle.rules.proofs.Cases.{choice-by}
 
 -- every reservation tag that waits of guest g, and its next reservation number, are above now
 pub record Above (now g : ℕ) (u : Table) : Type 0 where
@@ -113,26 +114,14 @@ module _ (t : Table) (s : Sound t) (g i : ℕ) (r : reserved ((owner (t .guests)
   abbrev Leaves : Result → Type 0
   Leaves x = x .answer ≡ Sent Weight g i → Above (t .time) g (x .table)
 
-  -- the weight phase
-  by-weight : least (due t) Request.rtag (t .waiting) ≡ nobody → (k : Pick) → least (open? t) Request.stag (t .waiting) ≡ k → Leaves (byWeight t k)
-  unfolding byWeight
-  by-weight none nobody e a = absurd (nothing-sent a)
-  by-weight none (picked p v) e a =
-      let q : p .guest ≡ g = cc in
-      rw (← q) (weight-above t s p v (record { none-due = none; picks = e; has = rw q r }))
-
-  -- the reservation phase
-  by-reservation : (k : Pick) → least (due t) Request.rtag (t .waiting) ≡ k → Leaves (byReservation t k)
-  unfolding byReservation
-  by-reservation nobody e a = by-weight e (least (open? t) Request.stag (t .waiting)) refl a
-  by-reservation (picked p v) e a = absurd (other-phase a)
-
   -- the choice
   choice-above : Leaves (choice t)
-  unfolding choice
   choice-above =
-      elim (room t) as (λ b. Leaves (if b then byReservation t (least (due t) Request.rtag (t .waiting)) else record { table = t; answer = Nothing }))
-      [ true ↦ by-reservation (least (due t) Request.rtag (t .waiting)) refl | false ↦ λ a. absurd (nothing-sent a) ]
+      choice-by Leaves t (λ a. absurd (nothing-sent a))
+      (λ p v f e a. absurd (other-phase a))
+      (λ p v f n e a.
+      let q : p .guest ≡ g = cc in
+      rw (← q) (weight-above t s p v (record { none-due = n; picks = e; has = rw q r })))
 
 -- After a weight send from a sound table the reservation tags that wait of the guest, and its next reservation number, are above the time.
 pub stay-above : (t : Table) → sound t ≡ true → (g i : ℕ) → (choice t) .answer ≡ Sent Weight g i → reserved ((owner (t .guests) g) .settings) ≡ true

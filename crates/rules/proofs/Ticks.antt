@@ -13,7 +13,7 @@ use Rattle.rules.specs.Numbers.{ceiling}
 use Rattle.rules.specs.Tables.{Request, Setup, Table}
 use Rattle.rules.specs.Sound.{sound}
 use Rattle.rules.specs.Choice.{Result, Pick, nobody, picked, least, due, open?, sending, dropped, byWeight, byReservation, room, choice}
-use Rattle.rules.specs.Events.{Event, tick, wait, enter}
+use Rattle.rules.specs.Events.{tick, wait, enter}
 use Rattle.rules.specs.Refusals.{eventTests, accepted}
 use Rattle.rules.specs.Run.{step}
 use Rattle.rules.specs.Turn.{isDue, ahead, findsRoom, atFree, sentByReservation}

@@ -15,26 +15,35 @@ use Rattle.rules.specs.Run.{decided, step, after, answers, fresh}
 abbrev pub ms : ℕ → ℕ
 ms n = n * 1000000
 
+-- settings from three numbers
 abbrev pub settings : (reservation limit shares : ℕ) → Settings
 settings r l s = record { reservation = r; limit = l; shares = s }
 
--- an arrival and a completion of guest g, and their times in ms
+-- an arrival of guest g's id i, n ms after 0
 abbrev pub comes : (g i : ℕ) → ℕ → Event
 comes g i n = arrival (record { guest = g; id = i }) (ms n)
 
+-- its completion, n ms after 0
 abbrev pub ends : (g i : ℕ) → ℕ → Event
 ends g i n = completion (record { guest = g; id = i }) (ms n)
 
--- how the paper prints a line: nothing, by reservation, by weight, refused
+-- guest 0's ids 1, 2, 3 at 0, and then es
+abbrev pub three : List Event → List Event
+three es = comes 0 1 0 ∷ comes 0 2 0 ∷ comes 0 3 0 ∷ es
+
+-- how the paper prints that nothing is sent
 abbrev pub - : Printed
 - = record { letter = 45; values = [] }
 
+-- a send by reservation
 abbrev pub R : ℕ → ℕ → Printed
 R g i = record { letter = 82; values = g ∷ i ∷ [] }
 
+-- a send by weight
 abbrev pub W : ℕ → ℕ → Printed
 W g i = record { letter = 87; values = g ∷ i ∷ [] }
 
+-- a refusal
 abbrev pub X : ℕ → Printed
 X n = record { letter = 88; values = n ∷ [] }
 

@@ -1,26 +1,23 @@
 -- The front of the line over a run: it begins with requests of given names, all due. Entering an event keeps that, and with a place free the
 -- choice sends the first of them by reservation. Names, because arrivals rewrite the share tags inside requests. Assumes nothing.
 use mathlib.Core.Path.{_≡_, refl, sym, ap, _∙_, fun-ext}
-use mathlib.Core.Bool.{Bool, true, false, not, _&&_}
+use mathlib.Core.Bool.{Bool, true, false, _&&_}
 use mathlib.Core.List.{List, [], _∷_, _++_, map, nil≢cons, head-eq-of-cons-eq, tail-eq-of-cons-eq}
 use Prim.Native.Nat.{ℕ, _≤_}
 use native.Mathlib.Omega.{arith}
 use lib.Dec.{ltb, leb}
 use lib.ListN.{getD, List·getD-map}
 use lib.Seq.{map-set-same}
-use borrow.Author.Tests.{ltb-false, le-leb}
+use borrow.Author.Tests.{le-leb}
 use Rattle.lists.specs.Words.{if_then_else_}
 use Rattle.lists.specs.WordsLaws.{join, map-append, map-same, map-each}
 use Rattle.rules.specs.Tables.{Settings, Guest, Request, Flight, Table, nobodys, settingsOf, idle, name}
-use Rattle.rules.specs.Sound.{sound}
 use Rattle.rules.specs.Choice.{Pick, picked, least, dueAt, passes, due, sending, byReservation, room, choice}
 use Rattle.rules.specs.Events.{Arriving, Event, arrival, completion, tick, moment, smallest, shifted, shiftedNext, adjusted, stamped, stampedFor, following, placed, arriveAs, arrive, complete, wait, enter}
-use Rattle.rules.specs.Refusals.{eventTests, tests, accepted}
 use Rattle.rules.specs.Turn.{tagged}
 use Rattle.rules.specs.declared.Phase.the-variants.{Reservation}
 use Rattle.rules.specs.declared.Answer.{Answer}
 use Rattle.rules.specs.declared.Answer.the-variants.{Sent}
-use Rattle.rules.proofs.Judged.{passed}
 use Rattle.rules.proofs.Sorted.{UpTo, each-weaken}
 use Rattle.rules.proofs.Line.{lineOf, first, inLine, first-in-line, head-goes}
 use Rattle.rules.proofs.Firsts.{passes-all}

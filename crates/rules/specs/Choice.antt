@@ -1,5 +1,5 @@
--- Document 01, "The choice".
-use mathlib.Core.Bool.{Bool, true, false, not, _&&_, _||_}
+-- Document 01, "The choice": "If in flight equals depth, nothing is sent. Otherwise at most one", by reservation, else by weight, else nothing.
+use mathlib.Core.Bool.{Bool, true, not, _&&_, _||_}
 use mathlib.Core.List.{List, [], _∷_, _++_, map}
 use Prim.Native.Nat.{ℕ, _-_}
 use lib.Dec.{ltb, leb}
@@ -20,17 +20,17 @@ pub data Pick : Type 0 where
   nobody : Pick
   picked : Request → List Request → Pick
 
--- q stands in front of the list that the pick is from
+-- a pick from the list behind q, as a pick from the list with q: q is among the others
 abbrev pub behind : Request → Pick → Pick
 behind q nobody = nobody
 behind q (picked p v) = picked p (q ∷ v)
 
--- q, in front of w, against the pick from w: the smaller tag wins, "ties to the earlier accepted"
+-- q in front of the list w, against the pick from w: the smaller tag wins, "ties to the earlier accepted", which is q
 abbrev pub against : (Request → ℕ) → Request → List Request → Pick → Pick
 against tag q w nobody = picked q w
 against tag q w (picked p v) = if leb (tag q) (tag p) then picked q w else picked p (q ∷ v)
 
--- of the requests that are ok, "the one with the smallest, ties to the earlier accepted"
+-- of the requests that are ok, "the one with the smallest" tag, "ties to the earlier accepted"; and the others
 abbrev pub least : (ok : Request → Bool) (tag : Request → ℕ) → List Request → Pick
 least ok tag [] = nobody
 least ok tag (q ∷ w) = if ok q then against tag q w (least ok tag w) else behind q (least ok tag w)
@@ -59,15 +59,15 @@ open? t q = openAt (settingsOf (t .guests) q) (t .time) q
 unfoldable pub sending : Table → Request → List Request → Table
 sending t q w = record { setup = t .setup; time = t .time; guests = t .guests; waiting = w; flight = t .flight ++ (name q ∷ []) }
 
--- a reservation tag drops by d
+-- the request q with its reservation tag dropped by d
 unfoldable pub earlier : ℕ → Request → Request
 earlier d q = record { guest = q .guest; id = q .id; rtag = q .rtag - d; ltag = q .ltag; stag = q .stag }
 
--- a next reservation number drops by d
+-- the guest h with its next reservation number dropped by d
 unfoldable pub sooner : ℕ → Guest → Guest
 sooner d h = record { settings = h .settings; rnext = h .rnext - d; lnext = h .lnext; snext = h .snext }
 
--- by how much the drop after a weight send of q is: "its reservation spacing, if it has one", else 0
+-- how far that guest's tags drop after q was sent by weight: "its reservation spacing, if it has one", else 0
 abbrev pub dropOf : Table → Request → ℕ
 dropOf t q = rspacing (settingsOf (t .guests) q) q
 
@@ -82,12 +82,12 @@ dropped q t =
       flight = t .flight;
     }
 
--- "Else weight phase .. Else nothing."
+-- what follows from the weight phase's pick: the send and the drop; "Else nothing"
 unfoldable pub byWeight : Table → Pick → Result
 byWeight t nobody = record { table = t; answer = Nothing }
 byWeight t (picked q w) = record { table = dropped q (sending t q w); answer = Sent Weight (q .guest) (q .id) }
 
--- "Reservation phase .. Else weight phase"
+-- what follows from the reservation phase's pick: the send; "Else weight phase"
 unfoldable pub byReservation : Table → Pick → Result
 byReservation t nobody = byWeight t (least (open? t) Request.stag (t .waiting))
 byReservation t (picked q w) = record { table = sending t q w; answer = Sent Reservation (q .guest) (q .id) }

@@ -25,9 +25,9 @@ pub record Foremost (ok : Request → Bool) (tag : Request → ℕ) (w : List Re
   pub smallest : (j : ℕ) → j < length w → ok (at w j) ≡ true → tag (at w i) ≤ tag (at w j)
   pub earliest : (j : ℕ) → j < i → ok (at w j) ≡ true → tag (at w i) < tag (at w j)
 
--- no request is ok
-abbrev pub NoneOf : (Request → Bool) → List Request → Type 0
-NoneOf ok w = (j : ℕ) → j < length w → ok (at w j) ≡ false
+-- none of the requests is ok
+abbrev pub NoneIs : (Request → Bool) → List Request → Type 0
+NoneIs ok w = (j : ℕ) → j < length w → ok (at w j) ≡ false
 
 -- nothing is sent and nothing changes
 abbrev pub unsent : Table → Result
@@ -49,9 +49,9 @@ sentByWeightAt t i =
       answer = Sent Weight ((at (t .waiting) i) .guest) ((at (t .waiting) i) .id);
     }
 
--- r is what the choice at the table t must be
+-- r is what the choice at the table t must be: one of four cases, each with what holds then
 pub data Chosen (t : Table) (r : Result) : Type 0 where
   full : t .setup .depth ≤ length (t .flight) → r ≡ unsent t → Chosen t r
   reservation : (i : ℕ) → length (t .flight) < t .setup .depth → Foremost (due t) Request.rtag (t .waiting) i → r ≡ sentByReservationAt t i → Chosen t r
-  weight : (i : ℕ) → length (t .flight) < t .setup .depth → NoneOf (due t) (t .waiting) → Foremost (open? t) Request.stag (t .waiting) i → r ≡ sentByWeightAt t i → Chosen t r
-  nothing : length (t .flight) < t .setup .depth → NoneOf (due t) (t .waiting) → NoneOf (open? t) (t .waiting) → r ≡ unsent t → Chosen t r
+  weight : (i : ℕ) → length (t .flight) < t .setup .depth → NoneIs (due t) (t .waiting) → Foremost (open? t) Request.stag (t .waiting) i → r ≡ sentByWeightAt t i → Chosen t r
+  nothing : length (t .flight) < t .setup .depth → NoneIs (due t) (t .waiting) → NoneIs (open? t) (t .waiting) → r ≡ unsent t → Chosen t r

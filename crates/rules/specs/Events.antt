@@ -1,13 +1,13 @@
 -- Document 01, "Arrival at time t", with completion and tick: what an event does before the choice is made.
 use mathlib.Core.Bool.{Bool, true, false}
-use mathlib.Core.List.{List, [], _∷_, _++_, map}
+use mathlib.Core.List.{[], _∷_, _++_, map}
 use Prim.Native.Nat.{ℕ, _+_, _-_}
 use lib.ListN.{set}
 use Rattle.lists.specs.Words.{if_then_else_, each, lowest, without}
 use Rattle.rules.specs.Numbers.{tagAt}
-use Rattle.rules.specs.Tables.{Settings, Guest, Request, Flight, Table, reserved, limited, rspacing, lspacing, sspacing, owner, idle, same}
+use Rattle.rules.specs.Tables.{Guest, Request, Flight, Table, reserved, limited, rspacing, lspacing, sspacing, owner, idle, same}
 
--- what an arrival brings: whose request, and its id
+-- the request that an arrival brings: whose, and its id
 pub record Arriving : Type 0 where
   pub guest : ℕ
   pub id : ℕ
@@ -24,7 +24,7 @@ moment (arrival a now) = now
 moment (completion f now) = now
 moment (tick now) = now
 
--- the name of the request that arrives
+-- the name of the request that an arrival brings
 abbrev pub calledBy : Arriving → Flight
 calledBy a = record { guest = a .guest; id = a .id }
 
@@ -32,11 +32,11 @@ calledBy a = record { guest = a .guest; id = a .id }
 abbrev pub smallest : Table → ℕ
 smallest t = lowest (map Request.stag (t .waiting))
 
--- a share tag moves by now − m, up or down
+-- a request's share tag moves by now − m, up or down; it is at least m, the smallest, so the difference is not cut off at 0
 unfoldable pub shifted : (now m : ℕ) → Request → Request
 shifted now m q = record { guest = q .guest; id = q .id; rtag = q .rtag; ltag = q .ltag; stag = q .stag + now - m }
 
--- a next share number moves by now − m, up or down
+-- a guest's next share number moves by now − m, up or down
 unfoldable pub shiftedNext : (now m : ℕ) → Guest → Guest
 shiftedNext now m h = record { settings = h .settings; rnext = h .rnext; lnext = h .lnext; snext = h .snext + now - m }
 
@@ -53,15 +53,15 @@ adjusted true now t =
       flight = t .flight;
     }
 
--- a tag of a kind that the guest has; one that it lacks is 0
+-- the tag of a kind that the guest has; of a kind that it lacks, 0
 abbrev pub tagIf : (has : Bool) (now next : ℕ) → ℕ
 tagIf has now next = if has then tagAt now next else 0
 
--- the share tag of a request of the guest h
+-- the share tag of a request of the guest h, idle or not: "Document 000's algorithm takes the larger of the two for every arrival, and so do we."
 unfoldable pub shareTag : (idle : Bool) (now : ℕ) → Guest → ℕ
 shareTag idle now h = tagAt now (h .snext)
 
--- "Each tag it has is the larger of the next number and t."
+-- the request with its tags: "Each tag it has is the larger of the next number and t."
 unfoldable pub stamped : (idle : Bool) (now : ℕ) → Arriving → Guest → Request
 stamped idle now a h =
     record {
@@ -82,7 +82,7 @@ following q h =
       snext = q .stag + sspacing (h .settings) q;
     }
 
--- "The request is placed last among the waiting"
+-- the request q "is placed last among the waiting", its guest gets its new next numbers, and the time is set
 unfoldable pub placed : (now : ℕ) → Request → Table → Table
 placed now q t =
     record {
@@ -93,19 +93,20 @@ placed now q t =
       flight = t .flight;
     }
 
--- the request that arrives, with its tags: "The arriving guest's own next number is not moved."
+-- the request that arrives, with the tags that its guest's next numbers in the table t give. "The arriving guest's own next number is not
+-- moved": t is the table before the shares are adjusted
 abbrev pub stampedFor : (idle : Bool) (now : ℕ) → Arriving → Table → Request
 stampedFor idle now a t = stamped idle now a (owner (t .guests) (a .guest))
 
--- the steps of an arrival at a guest that is idle or not
+-- an arrival at a guest that is idle or not: steps 1 to 4, but for the choice
 unfoldable pub arriveAs : (idle : Bool) (now : ℕ) → Arriving → Table → Table
 arriveAs idle now a t = placed now (stampedFor idle now a t) (adjusted idle now t)
 
--- an arrival
+-- an arrival, up to the choice
 unfoldable pub arrive : (now : ℕ) → Arriving → Table → Table
 arrive now a t = arriveAs (idle t (a .guest)) now a t
 
--- "A completion takes the named request out of flight"; "close up in the same way"
+-- "A completion takes the named request out of flight", and those behind it "close up in the same way"
 unfoldable pub complete : (now : ℕ) → Flight → Table → Table
 complete now f t = record { setup = t .setup; time = now; guests = t .guests; waiting = t .waiting; flight = without (same f) (t .flight) }
 
@@ -113,7 +114,7 @@ complete now f t = record { setup = t .setup; time = now; guests = t .guests; wa
 unfoldable pub wait : (now : ℕ) → Table → Table
 wait now t = record { setup = t .setup; time = now; guests = t .guests; waiting = t .waiting; flight = t .flight }
 
--- the table as the choice finds it
+-- what an event does before the choice is made: the table as the choice finds it
 unfoldable pub enter : Table → Event → Table
 enter t (arrival a now) = arrive now a t
 enter t (completion f now) = complete now f t

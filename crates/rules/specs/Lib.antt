@@ -1,12 +1,14 @@
+-- Document 01 as definitions that compute, in its order.
 pub mod Numbers
 pub mod Tables
-pub mod Answers
 pub mod Sound
-pub mod Choice
 pub mod Events
+pub mod Choice
+pub mod Answers
 pub mod Refusals
-pub mod Refused
 pub mod Run
+-- What the theorems say of them, in facts that compute nothing.
 pub mod Chosen
+pub mod Refused
 pub mod Order
 pub mod Turn

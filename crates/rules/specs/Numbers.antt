@@ -1,4 +1,5 @@
--- Document 01, "Numbers": the ceiling, the ranges, the spacings, and the tag that a next number and the time give.
+-- Document 01, "Numbers": the ceiling, the spacings, the tag that a next number and the time give, and the bound of an idle guest's next
+-- number. The ranges of settings are in Sound.antt, with the rule "settings lie in the ranges".
 use mathlib.Core.Bool.{Bool, _&&_}
 use Prim.Native.Nat.{ℕ, _+_, _-_, _/_, max}
 use lib.Dec.{leb}
@@ -7,19 +8,19 @@ use lib.Dec.{leb}
 abbrev pub ceiling : ℕ
 ceiling = 4611686018427387903
 
--- a second in nanoseconds
+-- a second in nanoseconds: the 1,000,000,000 of the spacings and of the bound
 abbrev pub second : ℕ
 second = 1000000000
 
--- n lies from a to b, both counted
+-- n lies from a to b, both included
 abbrev pub within : ℕ → ℕ → ℕ → Bool
 within a b n = leb a n && leb n b
 
--- "1,000,000,000 / r rounded down"; 0 where n is 0, so that a guest without a reservation has no spacing of it
+-- "reservation 1,000,000,000 / r rounded down", "shares 1,000,000,000 / w rounded down"; 0 where n is 0, as here a quotient by 0 is 0
 unfoldable pub down : ℕ → ℕ
 down n = second / n
 
--- "1,000,000,000 / l rounded up"; 0 where n is 0
+-- "limit 1,000,000,000 / l rounded up"; 0 where n is 0 likewise
 unfoldable pub up : ℕ → ℕ
 up n = (second + n - 1) / n
 

@@ -1,4 +1,4 @@
--- What comes, waits and leaves of one guest: "Requests of one guest always leave in order of acceptance".
+-- What comes, waits and leaves of one guest, to say that "Requests of one guest always leave in order of acceptance".
 use mathlib.Core.List.{List, [], _∷_, _++_, map}
 use Prim.Native.Nat.{ℕ}
 use lib.Dec.{eqb}

@@ -6,13 +6,13 @@ use lib.Dec.{ltb, leb, eqb}
 use lib.ListN.{length}
 use Rattle.lists.specs.Words.{if_then_else_, all}
 use Rattle.rules.specs.Numbers.{ceiling}
-use Rattle.rules.specs.Tables.{Settings, Flight, Table, idle, lacks, names}
+use Rattle.rules.specs.Tables.{Settings, Table, idle, lacks, names}
 use Rattle.rules.specs.Sound.{counted, settled, lawful, sound}
 use Rattle.rules.specs.Events.{Arriving, Event, arrival, completion, tick, calledBy, adjusted, stampedFor}
 use Rattle.rules.specs.declared.Refusal.{Refusal}
 use Rattle.rules.specs.declared.Refusal.the-variants.{BadSetting, ShortTable, Unsound, UnknownGuest, TimeAboveCeiling, TimeBeforeLast, IdInUse, NoRoom, TagAboveCeiling, NotInFlight}
 
--- a refusal and whether its condition holds
+-- a refusal, and whether its condition holds
 pub record Test : Type 0 where
   pub refusal : Refusal
   pub holds : Bool
@@ -27,22 +27,22 @@ abbrev pub judged : List Test → Verdict
 judged [] = accept
 judged (c ∷ cs) = if c .holds then refuse (c .refusal) else judged cs
 
--- "time above the ceiling", "time before the last accepted time"
+-- 5, "time above the ceiling", and 6, "time before the last accepted time"; then the tests cs
 abbrev pub timeTests : (now : ℕ) → Table → List Test → List Test
 timeTests now t cs =
     record { refusal = TimeAboveCeiling; holds = ltb ceiling now }
     ∷ record { refusal = TimeBeforeLast; holds = ltb now (t .time) }
     ∷ cs
 
--- "unknown guest", then the time
+-- 4, "unknown guest", then the time, then the tests cs
 abbrev pub guestTests : (g now : ℕ) → Table → List Test → List Test
 guestTests g now t cs = record { refusal = UnknownGuest; holds = leb (length (t .guests)) g } ∷ timeTests now t cs
 
--- "arrival: a tag given, or a share tag moved, would pass the ceiling"
+-- 9: "a tag given, or a share tag moved, would pass the ceiling"
 abbrev pub passing : (idle : Bool) (now : ℕ) → Arriving → Table → Bool
 passing idle now a t = not (all lawful ((adjusted idle now t) .waiting) && lawful (stampedFor idle now a t))
 
--- "Arrival: .. 4, 5, 6, 7, 8, 9. Completion: .. 4, 5, 6, 10. Tick: .. 5, 6."
+-- an event's own tests: "Arrival: .. 4, 5, 6, 7, 8, 9. Completion: .. 4, 5, 6, 10. Tick: .. 5, 6."
 unfoldable pub eventTests : Table → Event → List Test
 eventTests t (arrival a now) =
     guestTests (a .guest) now t
@@ -53,12 +53,12 @@ eventTests t (arrival a now) =
 eventTests t (completion f now) = guestTests (f .guest) now t (record { refusal = NotInFlight; holds = lacks f (t .flight) } ∷ [])
 eventTests t (tick now) = timeTests now t []
 
--- "2, 3", then the event's own. That a lent table is short, or the table not sound, is told to this list: the lengths and the unused
+-- all tests of an event: "2, 3", then its own. That a lent table is short, or the table not sound, is told to this list: the lengths and the unused
 -- places are the lent numbers', and `short` is false where guests, depth or capacity are out of range, so that those "give 3 at once".
 abbrev pub tests : (short unsound : Bool) → Table → Event → List Test
 tests short unsound t e = record { refusal = ShortTable; holds = short } ∷ record { refusal = Unsound; holds = unsound } ∷ eventTests t e
 
--- "Opening: depth, guests and capacity (1), lengths (2), guest settings (1)."
+-- the tests of an opening: "depth, guests and capacity (1), lengths (2), guest settings (1)."
 unfoldable pub openTests : (short : Bool) (depth guests capacity : ℕ) → List Settings → List Test
 openTests short d n c ss =
     record { refusal = BadSetting; holds = not (counted d n c) }
@@ -66,11 +66,11 @@ openTests short d n c ss =
     ∷ record { refusal = BadSetting; holds = not (all settled ss) }
     ∷ []
 
--- the verdict on an event at a table whose places suffice
+-- the verdict on an event at a table that is not short
 abbrev pub verdict : Table → Event → Verdict
 verdict t e = judged (tests false (not (sound t)) t e)
 
--- no condition holds
+-- the verdict accepts: no condition holds
 abbrev pub isAccept : Verdict → Bool
 isAccept accept = true
 isAccept (refuse r) = false

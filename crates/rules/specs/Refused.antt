@@ -1,4 +1,4 @@
--- Which refusal number is given when, in plain facts: document 01, "Refusal numbers". Each record is the list of one call: a number is given
+-- Which refusal number is given when, in plain facts beside the tests of Refusals.antt: document 01, "Refusal numbers". Each record is the list of one call: a number is given
 -- exactly where its condition holds and no earlier one of that list does. `gives n` is that the call gives number n, `accepts` that it
 -- gives none. A call is told whether a lent table is short, and whether the table is not sound.
 use mathlib.Core.Path.{_≡_}
@@ -21,18 +21,18 @@ noneOf n ns = all (λ m. not (eqb m n)) ns
 abbrev pub Above : Request → Type 0
 Above q = (ceiling < q .rtag) ⊎ ((ceiling < q .ltag) ⊎ (ceiling < q .stag))
 
--- "a tag given, or a share tag moved, would pass the ceiling"
+-- 9: "a tag given, or a share tag moved, would pass the ceiling". Share tags are moved only where the arriving guest is idle
 pub data Passing (idle : Bool) (now : ℕ) (a : Arriving) (t : Table) : Type 0 where
   given : Above (stampedFor idle now a t) → Passing idle now a t
   moved : idle ≡ true → (q : Request) → List·Memᴰ q (t .waiting) → ceiling < q .stag + now - smallest t → Passing idle now a t
 
--- "Depth .. 1 to 64", "1 to 64 guests", "Capacity .. 1 to 1,024"
+-- what `counted` tests: "Depth .. 1 to 64", "1 to 64 guests", "Capacity .. 1 to 1,024"
 pub record Countable (depth guests capacity : ℕ) : Type 0 where
   pub depths : (1 ≤ depth) × (depth ≤ 64)
   pub guest-count : (1 ≤ guests) × (guests ≤ 64)
   pub capacities : (1 ≤ capacity) × (capacity ≤ 1024)
 
--- "reservation 0 to 1,000,000 .. limit 0 to 1,000,000 .. shares 1 to 1,000,000. A reservation above a non-zero limit is bad; equal is good."
+-- what `settled` tests: "reservation 0 to 1,000,000 .. limit 0 to 1,000,000 .. shares 1 to 1,000,000. A reservation above a non-zero limit is bad; equal is good."
 pub record Good (s : Settings) : Type 0 where
   pub reservations : s .reservation ≤ 1000000
   pub limits : s .limit ≤ 1000000

@@ -1,6 +1,6 @@
 -- Document 01, "A table is sound when": its rules, in its order.
 use mathlib.Core.Bool.{Bool, true, false, not, _&&_, _||_}
-use mathlib.Core.List.{List, [], _∷_, _++_, map}
+use mathlib.Core.List.{List, [], _∷_}
 use Prim.Native.Nat.{ℕ, _+_}
 use lib.Dec.{ltb, leb, eqb}
 use lib.ListN.{length}
@@ -55,19 +55,20 @@ follows tag spacing [] n = leb n idleBound
 follows tag spacing (q ∷ []) n = eqb n (tag q + spacing q)
 follows tag spacing (q ∷ p ∷ l) n = follows tag spacing (p ∷ l) n
 
--- one kind of tag of what waits of a guest, and the next number of that kind; of a kind that it lacks, "meaningless numbers .. are zero"
+-- one kind of tag of a guest, of which the requests l wait, and its next number n of that kind: in order where the guest has the kind; where it
+-- does not, "meaningless numbers .. are zero". The gap is asked between neighbours, the spacing leads to the next number: `orderly` has one for both
 unfoldable pub kept : (has : Bool) (tag gap spacing : Request → ℕ) → List Request → (next : ℕ) → Bool
 kept true tag gap spacing l n = apart tag gap l && follows tag spacing l n
 kept false tag gap spacing l n = eqb n 0 && all (λ q. eqb (tag q) 0) l
 
--- the three kinds of a guest, of which l waits
+-- all three kinds of the guest h, of which the requests l wait; every guest has share tags
 unfoldable pub orderly : Guest → List Request → Bool
 orderly h l =
     kept (reserved (h .settings)) Request.rtag (rspacing (h .settings)) (rspacing (h .settings)) l (h .rnext)
     && kept (limited (h .settings)) Request.ltag (lspacing (h .settings)) (lspacing (h .settings)) l (h .lnext)
     && kept true Request.stag (sspacing (h .settings)) (sspacing (h .settings)) l (h .snext)
 
--- every guest's numbers are in order
+-- the tags and next numbers of every guest are in order
 abbrev pub ordered : Table → Bool
 ordered t = below (length (t .guests)) (λ g. orderly (owner (t .guests) g) (mine g (t .waiting)))
 

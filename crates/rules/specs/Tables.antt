@@ -1,6 +1,7 @@
--- Document 01, "The tables": guests, waiting requests, requests in flight, and the words about them.
+-- Document 01, "The tables": guests, waiting requests, requests in flight, and the words about them. What makes a table sound is in Sound.antt,
+-- and a fresh one in Run.antt.
 use mathlib.Core.Bool.{Bool, not, _&&_}
-use mathlib.Core.List.{List, [], _∷_, _++_, map}
+use mathlib.Core.List.{List, _++_, map}
 use Prim.Native.Nat.{ℕ}
 use lib.Dec.{ltb, eqb}
 use lib.ListN.{getD}
@@ -28,12 +29,12 @@ pub record Request : Type 0 where
   pub ltag : ℕ
   pub stag : ℕ
 
--- a request in flight, and the name of any request: whose, and its id
+-- a request in flight: whose, and its id. The same two numbers name any request
 pub record Flight : Type 0 where
   pub guest : ℕ
   pub id : ℕ
 
--- what is chosen at opening for the whole array
+-- "Depth (places at the array)", "Capacity (waiting places)": what is set at opening for the whole array
 pub record Setup : Type 0 where
   pub depth : ℕ
   pub capacity : ℕ
@@ -46,21 +47,24 @@ pub record Table : Type 0 where
   pub waiting : List Request
   pub flight : List Flight
 
--- "A guest with no reservation has reservation tags .. that mean nothing"
+-- the guest has a reservation: "0 meaning none"
 abbrev pub reserved : Settings → Bool
 reserved s = ltb 0 (s .reservation)
 
--- "so for the limit of an unlimited guest"
+-- the guest has a limit: "0 meaning unlimited"
 abbrev pub limited : Settings → Bool
 limited s = ltb 0 (s .limit)
 
--- how far the next reservation, limit and share tag of a guest with these settings lies past those of its request q
+-- "Spacings: reservation 1,000,000,000 / r rounded down": from the reservation tag of a guest's request q to its next one. Nothing in q
+-- makes a difference to it, nor to the two below
 abbrev pub rspacing : Settings → Request → ℕ
 rspacing s q = down (s .reservation)
 
+-- "limit 1,000,000,000 / l rounded up": from limit tag to limit tag
 abbrev pub lspacing : Settings → Request → ℕ
 lspacing s q = up (s .limit)
 
+-- "shares 1,000,000,000 / w rounded down": from share tag to share tag
 abbrev pub sspacing : Settings → Request → ℕ
 sspacing s q = down (s .shares)
 
@@ -68,11 +72,11 @@ sspacing s q = down (s .shares)
 abbrev pub nobodys : Guest
 nobodys = record { settings = record { reservation = 0; limit = 0; shares = 0 }; rnext = 0; lnext = 0; snext = 0 }
 
--- guest number g
+-- guest number g of the table, counted from 0
 abbrev pub owner : List Guest → ℕ → Guest
 owner gs g = getD gs g nobodys
 
--- the settings of the guest whose request q is
+-- the settings of the guest that q is a request of
 abbrev pub settingsOf : List Guest → Request → Settings
 settingsOf gs q = (owner gs (q .guest)) .settings
 
@@ -96,7 +100,7 @@ name q = record { guest = q .guest; id = q .id }
 abbrev pub same : Flight → Flight → Bool
 same a b = eqb (a .guest) (b .guest) && eqb (a .id) (b .id)
 
--- no entry of the list has the name a
+-- nothing in the list has the name a
 abbrev pub lacks : Flight → List Flight → Bool
 lacks a l = all (λ b. not (same a b)) l
 

@@ -1,4 +1,5 @@
--- What demand 3 speaks of: who stands before a request by reservation tag, and the events that find a place free.
+-- What demand 3 speaks of: who stands before a request by reservation tag, and the accepted events that find a place free. Words in quotes are
+-- the demand's.
 use mathlib.Core.Path.{_≡_}
 use mathlib.Core.Bool.{Bool, _&&_}
 use mathlib.Core.List.{List, [], _∷_, _++_}
@@ -15,11 +16,11 @@ use Rattle.rules.specs.declared.Phase.the-variants.{Reservation}
 use Rattle.rules.specs.declared.Answer.{Answer}
 use Rattle.rules.specs.declared.Answer.the-variants.{Nothing, Sent}
 
--- "requests of guests without a reservation have no such tag"
+-- q has a reservation tag: "requests of guests without a reservation have no such tag"
 abbrev pub tagged : Table → Request → Bool
 tagged t q = reserved (settingsOf (t .guests) q)
 
--- "a waiting request whose reservation tag is at or before that time"
+-- q is "a waiting request whose reservation tag is at or before that time"
 abbrev pub isDue : Table → Request → Bool
 isDue t q = dueAt (settingsOf (t .guests) q) (t .time) q
 
@@ -27,7 +28,7 @@ isDue t q = dueAt (settingsOf (t .guests) q) (t .time) q
 abbrev pub ahead : Table → Request → (a b : List Request) → List Request
 ahead t x a b = filter (λ q. tagged t q && leb (q .rtag) (x .rtag)) a ++ filter (λ q. tagged t q && ltb (q .rtag) (x .rtag)) b
 
--- q stands in front of the first whose reservation tag is not smaller than its own
+-- the list with q in front of the first whose reservation tag is not smaller than its own
 abbrev pub insert : Request → List Request → List Request
 insert q [] = q ∷ []
 insert q (p ∷ l) = if leb (q .rtag) (p .rtag) then q ∷ p ∷ l else p ∷ insert q l
@@ -37,7 +38,7 @@ abbrev pub sorted : List Request → List Request
 sorted [] = []
 sorted (q ∷ l) = insert q (sorted l)
 
--- "the accepted events that find a place free at the array (a completion frees its own first)"
+-- e is one of "the accepted events that find a place free at the array (a completion frees its own first)"
 abbrev pub findsRoom : Table → Event → Bool
 findsRoom t e = accepted t e && room (enter t e)
 
@@ -46,7 +47,7 @@ unfoldable pub atFree : Table → List Event → List Answer
 atFree t [] = []
 atFree t (e ∷ es) = if findsRoom t e then step t e .answer ∷ atFree (step t e .table) es else atFree (step t e .table) es
 
--- q is sent "by reservation"
+-- the answer that sends q "by reservation"
 abbrev pub sentByReservation : Request → Answer
 sentByReservation q = Sent Reservation (q .guest) (q .id)
 

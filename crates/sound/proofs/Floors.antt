@@ -10,7 +10,7 @@ use lib.Dec.{eqb}
 use lib.ListN.{length, getD, set, drop, replicate, length-set, length-replicate, getD-replicate, drop-of-length-le}
 use lib.Seq.{drop-cons, getD-set-same, getD-set-other}
 use borrow.Author.Tests.{eq-eqb, ne-eqb, eqb-true, eqb-false}
-use Rattle.rules.specs.Tables.{Request, of, mine}
+use Rattle.rules.specs.Tables.{Request, mine}
 use Rattle.sound.specs.Kinds.{passes, ends}
 use Rattle.sound.proofs.Chains.{run}
 

@@ -46,7 +46,7 @@ module _ (gs : List ℕ) (known : ℕ) (ws : List ℕ) (count : ℕ) (t : Tested
       let n = getD gs (g * 6 + 0) 0 in
       sym
       (ap (λ (o : Guest). keptOf 0 o l) (row-at guestForm gs known g h)
-      ∙ has-is (tagOf 0) (ltb 0 n) (down n) (nextAt gs 0 g) l (λ e. down-some n (ltb-true 0 n e) (in-range gs known ws count t g h .reservation)) (no-down n))
+      ∙ has-is (tagOf 0) (ltb 0 n) (down n) (nextAt gs 0 g) l (λ e. down-some n (ltb-true 0 n e) (in-range gs known ws count t g h .reservations)) (no-down n))
   kept-is (suc zero) g k h l =
       let n = getD gs (g * 6 + 1) 0 in
       sym
@@ -57,7 +57,7 @@ module _ (gs : List ℕ) (known : ℕ) (ws : List ℕ) (count : ℕ) (t : Tested
       let r = in-range gs known ws count t g h in
       sym
       (ap (λ (o : Guest). keptOf 2 o l) (row-at guestForm gs known g h)
-      ∙ has-is (tagOf 2) true (down n) (nextAt gs 2 g) l (λ e. down-some n (r .some) (r .shares)) (λ e. absurd (true≢false e)))
+      ∙ has-is (tagOf 2) true (down n) (nextAt gs 2 g) l (λ e. down-some n (r .share-count .0) (r .share-count .1)) (λ e. absurd (true≢false e)))
   kept-is (suc (suc (suc n))) g k h l = absurd (omega arith)
 
   module _ (kind : ℕ) (three : kind < 3) (gaps : List ℕ) (spaced : Gaps gs known kind gaps) where

@@ -15,7 +15,7 @@ use Rattle.lists.specs.RowsLaws.{row-at, length-rows}
 use Rattle.rules.specs.Tables.{Flight, name, same, lacks}
 use Rattle.rules.specs.Sound.{distinct}
 use Rattle.table.specs.View.{requestForm, flightForm, waitingOf, flightsOf}
-use Rattle.sound.specs.Names.{namesOf, guestAt, idAt}
+use Rattle.sound.specs.Names.{namesOf, partAt}
 
 -- what stands where there is no name
 abbrev nobody : Flight
@@ -66,18 +66,18 @@ module _ (ws : List ℕ) (n : ℕ) (fs : List ℕ) (m : ℕ) where
   length-names = omega (arith, length-append (map name (waitingOf ws n)) (flightsOf fs m), size, length-rows flightForm fs m)
 
   -- the name at place k is what the code reads
-  name-at : (k : ℕ) → k < n + m → getD (namesOf ws n fs m) k nobody ≡ record { guest = guestAt ws n fs k; id = idAt ws n fs k }
-  unfolding guestAt idAt
+  name-at : (k : ℕ) → k < n + m → getD (namesOf ws n fs m) k nobody ≡ record { guest = partAt ws n fs 0 k; id = partAt ws n fs 1 k }
+  unfolding partAt
   name-at k h = ⊎-elim low high (lt-or-le k n)
     where
-      low : k < n → getD (namesOf ws n fs m) k nobody ≡ record { guest = guestAt ws n fs k; id = idAt ws n fs k }
+      low : k < n → getD (namesOf ws n fs m) k nobody ≡ record { guest = partAt ws n fs 0 k; id = partAt ws n fs 1 k }
       low l =
           List·getD-append (map name (waitingOf ws n)) (flightsOf fs m) nobody k (omega (arith, size))
           ∙ List·getD-map name (waitingOf ws n) k (requestForm .read [])
           ∙ ap name (row-at requestForm ws n k l)
           ∙ sym (rw (lt-ltb k n l))
 
-      high : n ≤ k → getD (namesOf ws n fs m) k nobody ≡ record { guest = guestAt ws n fs k; id = idAt ws n fs k }
+      high : n ≤ k → getD (namesOf ws n fs m) k nobody ≡ record { guest = partAt ws n fs 0 k; id = partAt ws n fs 1 k }
       high l =
           let e : k ≡ length (map name (waitingOf ws n)) + (k - n) = omega (arith, size) in
           ap (λ (i : ℕ). getD (namesOf ws n fs m) i nobody) e
@@ -86,7 +86,7 @@ module _ (ws : List ℕ) (n : ℕ) (fs : List ℕ) (m : ℕ) where
           ∙ sym (rw (le-ltb k n l))
 
   -- two places that the code reads as one name
-  pub names-hit : (j i : ℕ) → j < i → i < n + m → guestAt ws n fs j ≡ guestAt ws n fs i → idAt ws n fs j ≡ idAt ws n fs i → distinct (namesOf ws n fs m) ≡ false
+  pub names-hit : (j i : ℕ) → j < i → i < n + m → partAt ws n fs 0 j ≡ partAt ws n fs 0 i → partAt ws n fs 1 j ≡ partAt ws n fs 1 i → distinct (namesOf ws n fs m) ≡ false
   names-hit j i l h e g =
       let at-j = name-at j (omega arith) in
       let at-i = name-at i h in
@@ -94,7 +94,7 @@ module _ (ws : List ℕ) (n : ℕ) (fs : List ℕ) (m : ℕ) where
       (ap Flight.guest at-j ∙ e ∙ sym (ap Flight.guest at-i)) (ap Flight.id at-j ∙ g ∙ sym (ap Flight.id at-i))
 
   -- and no two
-  pub names-none : ((i j : ℕ) → i < n + m → j < i → guestAt ws n fs j ≡ guestAt ws n fs i → idAt ws n fs j ≡ idAt ws n fs i → ⊥) → distinct (namesOf ws n fs m) ≡ true
+  pub names-none : ((i j : ℕ) → i < n + m → j < i → partAt ws n fs 0 j ≡ partAt ws n fs 0 i → partAt ws n fs 1 j ≡ partAt ws n fs 1 i → ⊥) → distinct (namesOf ws n fs m) ≡ true
   names-none h =
       distinct-none (namesOf ws n fs m)
       (λ j i l k e g.

@@ -1,39 +1,23 @@
 -- What the tests before that of order say of each row: settings are small, guests exist, tags are at most the ceiling. Assumes nothing.
 use Prim.Native.Nat.{ℕ, zero, suc, _+_, _*_, _≤_, _<_}
 use mathlib.Core.Path.{_≡_, sym, ap, _∙_}
-use mathlib.Core.Bool.{true, not, _&&_, _||_}
 use mathlib.Core.List.{List, []}
 use native.Mathlib.Omega.{arith}
-use lib.Dec.{ltb, leb}
+use lib.Dec.{ltb}
 use lib.ListN.{getD}
-use borrow.Author.Tests.{leb-true, ltb-true}
+use borrow.Author.Tests.{ltb-true}
 use Rattle.lists.specs.WordsLaws.{both, all-at}
 use Rattle.lists.specs.RowsLaws.{row-at, length-rows}
-use Rattle.rules.specs.Numbers.{ceiling, within}
+use Rattle.rules.specs.Numbers.{ceiling}
 use Rattle.rules.specs.Tables.{Request, name}
-use Rattle.rules.specs.Sound.{settled, lawful}
+use Rattle.rules.specs.Sound.{lawful}
+use Rattle.rules.specs.Refused.{Good}
 use Rattle.rules.proofs.Facts.{Lawful, lawful-is}
+use Rattle.rules.proofs.Conditions.{settled-good}
 use Rattle.table.specs.View.{guestForm, requestForm, guestsOf, waitingOf}
 use Rattle.sound.specs.Tests.{settingsAre, settledGuest, named}
 use Rattle.sound.specs.Kinds.{Tested}
 use Rattle.sound.proofs.Records.{guest-is, waiting-is}
-
--- settings in range, as numbers
-pub record Ranges (r l s : ℕ) : Type 0 where
-  pub reservation : r ≤ 1000000
-  pub limit : l ≤ 1000000
-  pub some : 1 ≤ s
-  pub shares : s ≤ 1000000
-
--- what the test of settings says
-ranges : (r l s : ℕ) → settled (settingsAre r l s) ≡ true → Ranges r l s
-unfolding settled
-ranges r l s h =
-    let a = both (leb r 1000000 && leb l 1000000 && within 1 1000000 s) (not (ltb 0 l) || leb r l) h in
-    let b = both (leb r 1000000 && leb l 1000000) (within 1 1000000 s) (a .0) in
-    let d = both (leb r 1000000) (leb l 1000000) (b .0) in
-    let e = both (leb 1 s) (leb s 1000000) (b .1) in
-    record { reservation = leb-true r 1000000 (d .0); limit = leb-true l 1000000 (d .1); some = leb-true 1 s (e .0); shares = leb-true s 1000000 (e .1) }
 
 -- the tag of a kind of a request
 abbrev pub tagOf : ℕ → Request → ℕ
@@ -59,16 +43,16 @@ owner-is ws count i h = ap Request.guest (row-at requestForm ws count i h)
 
 module _ (gs : List ℕ) (known : ℕ) (ws : List ℕ) (count : ℕ) (t : Tested gs known ws count) where
   -- a guest's settings lie in their ranges
-  pub in-range : (g : ℕ) → g < known → Ranges (getD gs (g * 6 + 0) 0) (getD gs (g * 6 + 1) 0) (getD gs (g * 6 + 2) 0)
+  pub in-range : (g : ℕ) → g < known → Good (settingsAre (getD gs (g * 6 + 0) 0) (getD gs (g * 6 + 1) 0) (getD gs (g * 6 + 2) 0))
   in-range g h =
-      ranges (getD gs (g * 6 + 0) 0) (getD gs (g * 6 + 1) 0) (getD gs (g * 6 + 2) 0)
+      settled-good (settingsAre (getD gs (g * 6 + 0) 0) (getD gs (g * 6 + 1) 0) (getD gs (g * 6 + 2) 0)) .0
       (sym (guest-is gs known g h) ∙ all-at settledGuest (guestsOf gs known) (guestForm .read []) (t .isSettled) g (omega (arith, length-rows guestForm gs known)))
 
   -- each is small
   pub setting-low : (kind g : ℕ) → kind < 3 → g < known → getD gs (g * 6 + kind) 0 ≤ 1000000
-  setting-low zero g k h = in-range g h .reservation
-  setting-low (suc zero) g k h = in-range g h .limit
-  setting-low (suc (suc zero)) g k h = in-range g h .shares
+  setting-low zero g k h = in-range g h .reservations
+  setting-low (suc zero) g k h = in-range g h .limits
+  setting-low (suc (suc zero)) g k h = in-range g h .share-count .1
   setting-low (suc (suc (suc n))) g k h = absurd (omega arith)
 
   -- a request's guest exists

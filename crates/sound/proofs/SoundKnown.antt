@@ -5,16 +5,13 @@ use mathlib.Core.List.{List}
 use Prim.Native.Nat.{ℕ, _≤_}
 use native.Mathlib.Omega.{arith}
 use lib.Dec.{lit<}
-use lib.ListN.{length}
-use Rattle.lists.specs.Words.{all}
 use Rattle.lists.specs.WordsLaws.{both, join}
 use Rattle.lists.specs.RowsLaws.{length-rows}
-use Rattle.rules.specs.Sound.{counted, settled, ranges, sound}
+use Rattle.rules.specs.Sound.{sound}
 use Rattle.rules.specs.declared.Gate.{Gate}
 use Rattle.rules.proofs.Facts.{sound-is}
-use Rattle.table.specs.View.{guestForm, requestForm, flightForm, tableOf, identified, zeroed, soundNumbers, Known}
+use Rattle.table.specs.View.{requestForm, flightForm, tableOf, identified, zeroed, soundNumbers, Known}
 use Rattle.sound.specs.Fitting.{Fitting}
-use Rattle.sound.proofs.Fitted.{counts}
 use Rattle.sound.proofs.Zeros.{zeroed-unused, unused-zeroed}
 
 -- the counts of a sound table do not exceed capacity and depth
@@ -60,16 +57,3 @@ module _ (g : Gate) (gs ws fs : List ℕ) where
       let r = roomy g gs ws fs (k .isSound) in
       join (join (join (k .isSound) (k .isIdentified)) (unused-zeroed 5 (g .capacity) (g .waiting) (lit< tt) ws (k .waitingRoom) (r .waits) (k .whole .waitingUnused)))
       (unused-zeroed 2 (g .depth) (g .flight) (lit< tt) fs (k .flightRoom) (r .flies) (k .whole .flightUnused))
-
-  -- so the test may be asked of them
-  pub known-fitting : Known g gs ws fs → Fitting g gs ws fs
-  unfolding ranges
-  known-fitting k =
-      let t = tableOf g gs ws fs in
-      let e = both (counted (g .depth) (length (t .guests)) (g .capacity)) (all (λ h. settled (h .settings)) (t .guests)) (sound-is t (k .isSound) .in-range) in
-      record {
-        counts = counts g (rw (length-rows guestForm gs (g .guests)) at (e .0));
-        guestRoom = k .guestRoom;
-        waitingRoom = k .waitingRoom;
-        flightRoom = k .flightRoom;
-      }

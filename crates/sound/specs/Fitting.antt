@@ -2,17 +2,12 @@
 use Prim.Native.Nat.{ℕ, _*_, _≤_}
 use mathlib.Core.List.{List}
 use lib.ListN.{length}
+use Rattle.rules.specs.Refused.{Countable}
 use Rattle.rules.specs.declared.Gate.{Gate}
 
--- depth, guests and capacity lie in their ranges
-pub record Counts (gate : Gate) : Type 0 where
-  pub depth : (1 ≤ gate .depth) × (gate .depth ≤ 64)
-  pub guests : (1 ≤ gate .guests) × (gate .guests ≤ 64)
-  pub capacity : (1 ≤ gate .capacity) × (gate .capacity ≤ 1024)
-
--- and the lent tables are long enough for them
+-- depth, guests and capacity lie in their ranges, and the lent tables are long enough for them
 pub record Fitting (gate : Gate) (gs ws fs : List ℕ) : Type 0 where
-  pub counts : Counts gate
+  pub counts : Countable (gate .depth) (gate .guests) (gate .capacity)
   pub guestRoom : gate .guests * 6 ≤ length gs
   pub waitingRoom : gate .capacity * 5 ≤ length ws
   pub flightRoom : gate .depth * 2 ≤ length fs

@@ -12,39 +12,39 @@ use Rattle.rules.specs.Sound.{lawful, kept}
 use Rattle.table.specs.View.{guestsOf, waitingOf}
 use Rattle.sound.specs.Tests.{settledGuest, named}
 
--- with the gap d, which is 0 where the guest lacks the kind, a tag x may stand where the one before asks for f
+-- the tag x may stand where the gap is d, which is 0 where the guest lacks the kind, and the tag before it asks for at least f
 abbrev pub passes : (d f x : ℕ) → Bool
 passes d f x = if eqb d 0 then eqb x 0 else leb f x
 
--- and n may be the next number where the last tag asks for f, which is 0 where nothing waits
+-- n may be the next number where the gap is d, and the last waiting tag asks for f, which is 0 where nothing waits
 abbrev pub ends : (d f n : ℕ) → Bool
 ends d f n = if eqb d 0 then eqb n 0 else (if eqb f 0 then leb n idleBound else eqb n f)
 
--- how far apart the tags of a kind stand, by the guest's setting of that kind
+-- how far apart the tags of a kind stand, by the guest's setting n of that kind
 abbrev pub gapOf : (kind setting : ℕ) → ℕ
 gapOf k n = if eqb k 1 then up n else down n
 
--- the gap of every guest
+-- gaps holds the gap of every guest, of one kind
 pub record Gaps (gs : List ℕ) (known kind : ℕ) (gaps : List ℕ) : Type 0 where
   pub long : length gaps ≡ 64
   pub gap : (g : ℕ) → g < known → getD gaps g 0 ≡ gapOf kind (getD gs (g * 6 + kind) 0)
 
--- the settings of a kind are low enough for their gaps to be computed
+-- the settings of a kind are low enough for the gaps to be computed
 pub record Low (gs : List ℕ) (known kind : ℕ) : Type 0 where
   pub few : known ≤ 64
   pub room : known * 6 ≤ length gs
   pub three : kind < 3
   pub low : (g : ℕ) → g < known → getD gs (g * 6 + kind) 0 ≤ 1000000
 
--- the next number of a kind of guest g
+-- guest g's next number of a kind
 abbrev pub nextAt : (gs : List ℕ) (kind g : ℕ) → ℕ
 nextAt gs k g = getD gs (g * 6 + (3 + k)) 0
 
--- guest g's next number of a kind, where its floor and its gap are these
+-- guest g's next number of a kind is right, by the gaps and by what the last waiting tags ask for, the floors
 abbrev pub endsAt : (gs : List ℕ) (kind : ℕ) (gaps floors : List ℕ) → ℕ → Bool
 endsAt gs k gaps floors g = ends (getD gaps g 0) (getD floors g 0) (nextAt gs k g)
 
--- `orderly` of one kind
+-- one kind of `orderly`
 abbrev pub keptOf : ℕ → Guest → List Request → Bool
 keptOf zero h l = kept (reserved (h .settings)) Request.rtag (rspacing (h .settings)) (rspacing (h .settings)) l (h .rnext)
 keptOf (suc zero) h l = kept (limited (h .settings)) Request.ltag (lspacing (h .settings)) (lspacing (h .settings)) l (h .lnext)
@@ -59,6 +59,6 @@ pub record Tested (gs : List ℕ) (known : ℕ) (ws : List ℕ) (count : ℕ) : 
   pub isNamed : all (λ q. named known (name q)) (waitingOf ws count) ≡ true
   pub isLawful : all lawful (waitingOf ws count) ≡ true
 
--- the order of one kind of every guest
+-- one kind of guest g is in order, by the numbers of both tables
 abbrev pub keptAll : (gs : List ℕ) (known : ℕ) (ws : List ℕ) (count kind : ℕ) → ℕ → Bool
 keptAll gs known ws count kind g = keptOf kind (owner (guestsOf gs known) g) (mine g (waitingOf ws count))

@@ -7,7 +7,7 @@ use Rattle.lists.specs.Lines.{whether}
 use Rattle.rules.specs.Tables.{Flight, name}
 use Rattle.table.specs.View.{waitingOf, flightsOf}
 
--- counts of both tables that the bucket arrays have room for, and tables long enough for them
+-- what `all_once` asks: the bucket arrays have room for both counts, and both tables are long enough for them
 pub record Rooms (ws : List ℕ) (count : ℕ) (fs : List ℕ) (sent : ℕ) : Type 0 where
   pub few : count ≤ 1024
   pub fewer : sent ≤ 64
@@ -18,13 +18,10 @@ pub record Rooms (ws : List ℕ) (count : ℕ) (fs : List ℕ) (sent : ℕ) : Ty
 abbrev pub namesOf : List ℕ → ℕ → List ℕ → ℕ → List Flight
 namesOf ws n fs m = map name (waitingOf ws n) ++ flightsOf fs m
 
--- the guest and the id of request k, counted through both tables
-unfoldable pub guestAt : List ℕ → ℕ → List ℕ → ℕ → ℕ
-guestAt ws n fs k = whether (ltb k n) (getD ws (k * 5 + 0) 0) (getD fs ((k - n) * 2 + 0) 0)
+-- part 0 or 1 of the name of request k, its guest or its id, where k counts through n waiting requests and then those in flight
+unfoldable pub partAt : (ws : List ℕ) (n : ℕ) (fs : List ℕ) (part : ℕ) → ℕ → ℕ
+partAt ws n fs part k = whether (ltb k n) (getD ws (k * 5 + part) 0) (getD fs ((k - n) * 2 + part) 0)
 
-unfoldable pub idAt : List ℕ → ℕ → List ℕ → ℕ → ℕ
-idAt ws n fs k = whether (ltb k n) (getD ws (k * 5 + 1) 0) (getD fs ((k - n) * 2 + 1) 0)
-
--- the bucket of a name: any function of it below 4,096 would do
+-- the bucket of a guest and an id: any function of them below 4,096 would do
 unfoldable pub bucketOf : ℕ → ℕ → ℕ
 bucketOf guest id = (guest % 64 * 64 + id % 4096) % 4096

@@ -1,8 +1,7 @@
--- The rules of soundness that look at one record, by its numbers.
+-- The rules of soundness that look at one guest or one request, by its numbers.
 use Prim.Native.Nat.{ℕ}
 use mathlib.Core.Bool.{Bool, _&&_}
-use lib.Dec.{ltb, leb}
-use Rattle.rules.specs.Numbers.{ceiling}
+use lib.Dec.{ltb}
 use Rattle.rules.specs.Tables.{Settings, Guest, Flight}
 use Rattle.rules.specs.Sound.{settled}
 
@@ -10,7 +9,7 @@ use Rattle.rules.specs.Sound.{settled}
 abbrev pub settingsAre : ℕ → ℕ → ℕ → Settings
 settingsAre r l s = record { reservation = r; limit = l; shares = s }
 
--- a guest whose settings lie in the ranges
+-- the guest's settings lie in the ranges
 abbrev pub settledGuest : Guest → Bool
 settledGuest h = settled (h .settings)
 
@@ -18,10 +17,6 @@ settledGuest h = settled (h .settings)
 abbrev pub nameIs : ℕ → ℕ → Flight
 nameIs g i = record { guest = g; id = i }
 
--- of so many guests the guest exists, and the id has 32 bits
+-- of n guests the name's guest exists, and its id has 32 bits
 abbrev pub named : ℕ → Flight → Bool
 named n f = ltb (f .guest) n && ltb (f .id) 4294967296
-
--- three tags that are at most the ceiling
-abbrev pub lawfulTags : ℕ → ℕ → ℕ → Bool
-lawfulTags r l s = leb r ceiling && leb l ceiling && leb s ceiling

@@ -6,10 +6,13 @@ ghost use Rattle.lists.specs.Words.{all};
 ghost use Rattle.rules.specs.Tables.{name};
 ghost use Rattle.rules.specs.Sound.{lawful};
 ghost use Rattle.table.specs.View.{waitingOf, flightsOf};
-ghost use Rattle.sound.specs.Tests.{named, nameIs, lawfulTags};
+ghost use Rattle.table.specs.Stamp.{lawfulTags};
+ghost use Rattle.sound.specs.Tests.{named, nameIs};
 
+// The most that a time or a tag may be.
 pub const CEILING: u64 = 4611686018427387903;
 
+// Where the numbers of a waiting request stand in its row; a request in flight has the first two.
 const GUEST: usize = 0;
 
 const ID: usize = 1;
@@ -20,7 +23,7 @@ const LTAG: usize = 3;
 
 const STAG: usize = 4;
 
-// One name: the guest exists, and the id has 32 bits.
+// One request's name: of `known` guests its guest exists, and its id has 32 bits.
 fn is_named(guest: u64, id: u64, known: u64) -> bool
     ensures { λ b. ⌜ b ≡ named known (nameIs guest id) ⌝ }
 {
@@ -60,7 +63,7 @@ pub fn all_named(waiting: &[u64], count: usize, known: u64) -> bool
     true
 }
 
-// The same of every request in flight.
+// Every guest of a request in flight exists, and its id has 32 bits.
 pub fn all_flown(flight: &[u64], count: usize, known: u64) -> bool
     requires { ⌜ count * 2 ≤ length (now flight) ⌝ }
     ensures { λ b. ⌜ b ≡ all (named known) (flightsOf (now (flight .entry)) count) ⌝ }

@@ -10,20 +10,21 @@ ghost use Rattle.rules.specs.Sound.{orderly};
 ghost use Rattle.table.specs.View.{guestsOf, waitingOf};
 ghost use Rattle.sound.specs.Kinds.{passes, ends, gapOf, Gaps, Low, Tested, endsAt, keptAll};
 
+// The kinds of tags.
 const RESERVATION: usize = 0;
 
 const LIMIT: usize = 1;
 
 const SHARES: usize = 2;
 
-// Where the guest of a request stands in its row, and the first of its tags; and the first of a guest's next numbers.
+// Where the guest of a request stands in its row, and its first tag; and in a guest's row its first next number.
 const GUEST: usize = 0;
 
 const TAGS: usize = 2;
 
 const NEXTS: usize = 3;
 
-// The ceiling plus 1,000,000,000.
+// The most that an idle guest's next number may be: the ceiling plus 1,000,000,000.
 const IDLE: u64 = 4611686019427387903;
 
 // How far apart the tags of a kind stand, by the guest's setting of that kind; 0 where the guest lacks it.
@@ -38,7 +39,7 @@ fn gap_of(kind: usize, n: u64) -> u64
     }
 }
 
-// The gap of every guest.
+// The gap of every guest, by a kind of its settings.
 fn gaps_of(guests: &[u64], known: usize, kind: usize) -> [u64; 64]
     requires { ⌜ Low (now guests) known kind ⌝ }
     ensures { λ r. ⌜ Gaps (now (guests .entry)) known kind r ⌝ }
@@ -60,7 +61,7 @@ fn is_passed(gap: u64, floor: u64, tag: u64) -> bool
     if gap == 0 { tag == 0 } else { floor <= tag }
 }
 
-// A next number where the last tag asks for `floor`, which is 0 where nothing waits.
+// A next number is right where the last waiting tag asks for `floor`, which is 0 where nothing waits; of a kind that the guest lacks it is 0.
 fn is_end(gap: u64, floor: u64, next: u64) -> bool
     ensures { λ b. ⌜ b ≡ ends gap floor next ⌝ }
 {
@@ -73,7 +74,7 @@ fn is_end(gap: u64, floor: u64, next: u64) -> bool
     next == floor
 }
 
-// The next numbers of every guest.
+// The next number of every guest, of one kind, is right.
 fn all_end(guests: &[u64], known: usize, kind: usize, gaps: [u64; 64], floors: [u64; 64]) -> bool
     requires { ⌜ (known ≤ 64) × (known * 6 ≤ length (now guests)) × (kind < 3) ⌝ }
     ensures { λ b. ⌜ b ≡ below known (endsAt (now (guests .entry)) kind gaps floors) ⌝ }
@@ -111,7 +112,7 @@ fn is_kept(guests: &[u64], known: usize, waiting: &[u64], count: usize, kind: us
     all_end(guests, known, kind, gaps, floors)
 }
 
-// The order of every guest.
+// The order of every guest, kind by kind.
 pub fn all_orderly(guests: &[u64], known: usize, waiting: &[u64], count: usize) -> bool
     requires { ⌜ Tested (now guests) known (now waiting) count ⌝ }
     ensures { λ b. ⌜ b ≡ below known (λ g. orderly (owner (guestsOf (now (guests .entry)) known) g) (mine g (waitingOf (now (waiting .entry)) count))) ⌝ }

@@ -11,7 +11,7 @@ pub fn is_countable(gate: Gate) -> bool
     is_counted(gate.depth, gate.guests, gate.capacity)
 }
 
-// A lent table is shorter than the settings need.
+// A lent table is shorter than the settings need; where the counts are out of range nothing is known to be needed.
 pub fn is_short(gate: Gate, guests: &[u64], waiting: &[u64], flight: &[u64]) -> bool
     ensures { λ b. ⌜ b ≡ short gate (now (guests .entry)) (now (waiting .entry)) (now (flight .entry)) ⌝ }
 {

@@ -1,4 +1,4 @@
-// Whether lent tables are sound. Functions for this repository's own crates.
+// Whether lent tables are sound, by the numbers in them. Functions for this repository's own crates.
 pub mod ranges; // counts and settings in range, on plain numbers
 pub mod lengths; // counts in range, and tables long enough for them
 pub mod settings; // the settings of all guests
@@ -20,7 +20,7 @@ ghost use mathlib.Core.Path.{_≡_};
 ghost use Rattle.table.specs.View.{soundNumbers};
 ghost use Rattle.sound.specs.Fitting.{Fitting};
 
-// The rules in document 01's order; the first broken one ends the test.
+// Whether lent tables that are long enough are sound: the rules in document 01's order; the first broken one ends the test.
 pub fn is_sound(gate: Gate, guests: &[u64], waiting: &[u64], flight: &[u64]) -> bool
     requires { ⌜ Fitting gate (now guests) (now waiting) (now flight) ⌝ }
     ensures { λ b. ⌜ b ≡ soundNumbers gate (now (guests .entry)) (now (waiting .entry)) (now (flight .entry)) ⌝ }

@@ -2,50 +2,40 @@
 ghost use mathlib.Core.Path.{_≡_};
 ghost use Prim.Native.Nat.{_+_, _*_, _<_};
 ghost use Rattle.rules.specs.Sound.{distinct};
-ghost use Rattle.sound.specs.Names.{Rooms, namesOf, guestAt, idAt, bucketOf};
+ghost use Rattle.sound.specs.Names.{Rooms, namesOf, partAt, bucketOf};
 
+// Where the guest and the id of a request stand in its row.
 const GUEST: usize = 0;
 
 const ID: usize = 1;
 
-// The guest of request k, counted through both tables.
-fn guest_of(waiting: &[u64], count: usize, flight: &[u64], sent: usize, k: usize) -> u64
-    requires { ⌜ Rooms (now waiting) count (now flight) sent × (k < count + sent) ⌝ }
-    ensures { λ g. ⌜ g ≡ guestAt (now (waiting .entry)) count (now (flight .entry)) k ⌝ }
+// The guest or the id of request k, counted through the waiting ones and then those in flight.
+fn part_of(waiting: &[u64], count: usize, flight: &[u64], sent: usize, k: usize, part: usize) -> u64
+    requires { ⌜ Rooms (now waiting) count (now flight) sent × (k < count + sent) × (part < 2) ⌝ }
+    ensures { λ n. ⌜ n ≡ partAt (now (waiting .entry)) count (now (flight .entry)) part k ⌝ }
 {
     if k < count {
-        waiting[k * 5 + GUEST]
+        waiting[k * 5 + part]
     } else {
-        flight[(k - count) * 2 + GUEST]
+        flight[(k - count) * 2 + part]
     }
 }
 
-// Its id.
-fn id_of(waiting: &[u64], count: usize, flight: &[u64], sent: usize, k: usize) -> u64
-    requires { ⌜ Rooms (now waiting) count (now flight) sent × (k < count + sent) ⌝ }
-    ensures { λ i. ⌜ i ≡ idAt (now (waiting .entry)) count (now (flight .entry)) k ⌝ }
-{
-    if k < count {
-        waiting[k * 5 + ID]
-    } else {
-        flight[(k - count) * 2 + ID]
-    }
-}
-
-// The bucket of a guest and an id together.
+// The bucket of a guest and an id: requests of one name fall into one bucket.
 fn bucket(guest: u64, id: u64) -> usize
     ensures { λ b. ⌜ (b ≡ bucketOf guest id) × (b < 4096) ⌝ }
 {
     ((guest % 64 * 64 + id % 4096) % 4096) as usize
 }
 
+// The same number in more bits.
 fn wide(x: u16) -> usize
     ensures { λ r. ⌜ r ≡ x ⌝ }
 {
     x as usize
 }
 
-// Each request beside the earlier ones of its bucket: heads[b] is 1 + the latest place of bucket b, links[k] 1 + the one before place k in its bucket.
+// No request has the name of an earlier one. Each is held beside the earlier ones of its bucket only: heads[b] is 1 + the latest place of bucket b, links[k] 1 + the one before place k in its bucket.
 pub fn all_once(waiting: &[u64], count: usize, flight: &[u64], sent: usize) -> bool
     requires { ⌜ Rooms (now waiting) count (now flight) sent ⌝ }
     ensures { λ b. ⌜ b ≡ distinct (namesOf (now (waiting .entry)) count (now (flight .entry)) sent) ⌝ }
@@ -56,15 +46,15 @@ pub fn all_once(waiting: &[u64], count: usize, flight: &[u64], sent: usize) -> b
     let mut once = true;
     let mut i: usize = 0;
     'pairs: while i < total {
-        let guest = guest_of(waiting, count, flight, sent, i);
-        let id = id_of(waiting, count, flight, sent, i);
+        let guest = part_of(waiting, count, flight, sent, i, GUEST);
+        let id = part_of(waiting, count, flight, sent, i, ID);
         let b = bucket(guest, id);
         let first = heads[b];
         let mut next = wide(first);
         while 0 < next {
             let j = next - 1;
-            if guest_of(waiting, count, flight, sent, j) == guest {
-                if id_of(waiting, count, flight, sent, j) == id {
+            if part_of(waiting, count, flight, sent, j, GUEST) == guest {
+                if part_of(waiting, count, flight, sent, j, ID) == id {
                     once = false;
                     break 'pairs;
                 }

@@ -4,9 +4,10 @@ ghost use Rattle.rules.specs.Numbers.{within as withinOf};
 ghost use Rattle.rules.specs.Sound.{counted, settled};
 ghost use Rattle.sound.specs.Tests.{settingsAre};
 
+// The most that a setting may be.
 const MOST: u64 = 1000000;
 
-// From low to high, both counted.
+// n lies from low to high, both included.
 fn within(low: u64, high: u64, n: u64) -> bool
     ensures { λ b. ⌜ b ≡ withinOf low high n ⌝ }
 {
@@ -16,7 +17,7 @@ fn within(low: u64, high: u64, n: u64) -> bool
     n <= high
 }
 
-// Depth, guests and capacity.
+// Depth, guests and capacity lie in their ranges.
 pub fn is_counted(depth: u64, guests: u64, capacity: u64) -> bool
     ensures { λ b. ⌜ b ≡ counted depth guests capacity ⌝ }
 {
@@ -29,7 +30,7 @@ pub fn is_counted(depth: u64, guests: u64, capacity: u64) -> bool
     within(1, 1024, capacity)
 }
 
-// One guest's settings. A reservation above a non-zero limit is bad; equal is good.
+// One guest's settings lie in their ranges. A reservation above a non-zero limit is bad; equal is good.
 pub fn is_settled(reservation: u64, limit: u64, shares: u64) -> bool
     ensures { λ b. ⌜ b ≡ settled (settingsAre reservation limit shares) ⌝ }
 {

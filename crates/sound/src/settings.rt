@@ -9,13 +9,14 @@ ghost use Rattle.rules.specs.Sound.{settled};
 ghost use Rattle.table.specs.View.{settingsForm, guestsOf};
 ghost use Rattle.sound.specs.Tests.{settledGuest};
 
+// Where a guest's settings stand in its row.
 const RESERVATION: usize = 0;
 
 const LIMIT: usize = 1;
 
 const SHARES: usize = 2;
 
-// A list of settings, three numbers a guest.
+// The settings of every guest lie in their ranges, in a list of settings, three numbers a guest.
 pub fn all_settled_list(settings: &[u64], known: usize) -> bool
     requires { ⌜ known * 3 ≤ length (now settings) ⌝ }
     ensures { λ b. ⌜ b ≡ all settled (rowsOf settingsForm (now (settings .entry)) known) ⌝ }
@@ -33,7 +34,7 @@ pub fn all_settled_list(settings: &[u64], known: usize) -> bool
     true
 }
 
-// The settings in a guest table.
+// Those of every guest do, in a guest table, six numbers a guest.
 pub fn all_settled(guests: &[u64], known: usize) -> bool
     requires { ⌜ known * 6 ≤ length (now guests) ⌝ }
     ensures { λ b. ⌜ b ≡ all settledGuest (guestsOf (now (guests .entry)) known) ⌝ }

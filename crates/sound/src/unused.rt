@@ -7,7 +7,7 @@ ghost use lib.ListN.{length};
 ghost use Rattle.lists.specs.Words.{all};
 ghost use Rattle.table.specs.View.{zeroed};
 
-// Every number is zero.
+// Every number of a part is zero.
 fn is_blank(part: &[u64]) -> bool
     ensures { λ b. ⌜ b ≡ all (λ x. eqb x 0) (now (part .entry)) ⌝ }
 {
@@ -21,7 +21,7 @@ fn is_blank(part: &[u64]) -> bool
     true
 }
 
-// From the last waiting request to the capacity, and from the last in flight to the depth.
+// Every place is zero from the last waiting request to the capacity, and from the last request in flight to the depth.
 pub fn is_clear(
     waiting: &[u64],
     count: usize,

@@ -1,4 +1,4 @@
-use mathlib.Core.Path.{_≡_, sym, ap, _∙_}
+use mathlib.Core.Path.{sym, ap, _∙_}
 use Rattle.host.specs.Host.{replyOf}
 use borrow.Author.Needs.{needs}
 use Rattle.host.proofs.four_of.Statement.{statement}

@@ -1,5 +1,4 @@
-use Prim.Native.Nat.{ℕ}
-use mathlib.Core.Path.{_≡_, sym, ap, _∙_}
+use mathlib.Core.Path.{sym, ap, _∙_}
 use Rattle.rules.specs.declared.Answer.{Answer}
 use Rattle.host.specs.Host.{written}
 use borrow.Author.Needs.{needs}

@@ -1,4 +1,3 @@
-use mathlib.Core.Path.{_≡_, sym, ap, _∙_}
 use Rattle.rules.specs.Events.{Event}
 use Rattle.host.proofs.Returns.{call-returned}
 use borrow.Author.Needs.{needs}

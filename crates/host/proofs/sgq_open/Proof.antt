@@ -1,4 +1,3 @@
-use mathlib.Core.Path.{_≡_, sym, ap, _∙_}
 use Rattle.gate.specs.Promise.{opened}
 use Rattle.host.proofs.Returns.{returned}
 use borrow.Author.Needs.{needs}

@@ -3,7 +3,7 @@ use mathlib.Core.Path.{_≡_, sym, _∙_}
 use mathlib.Core.Bool.{Bool, true, false, true≢false}
 use native.Mathlib.Omega.{arith}
 use borrow.Author.Tests.{not-true, not-false}
-use Rattle.sound.proofs.Fitted.{is-counted}
+use Rattle.rules.proofs.Conditions.{counted-means}
 use Rattle.sound.proofs.Judged.{unsound, decided}
 use borrow.Author.Needs.{needs}
 use Rattle.sound.proofs.is_sound.Statement.{statement}
@@ -72,7 +72,7 @@ all-orderly-requires : tie.Need-all-orderly-requires
 all-orderly-requires c κs =
     let f = c .before .before .before .before .before .before .before .before .before .before .before .before .before .before .before .before .before .pre in
     record {
-      few = f .counts .guests .1;
+      few = f .counts .guest-count .1;
       guestRoom = f .guestRoom;
       waitingRoom = omega (arith, f .waitingRoom, c .before .before .before .before .before .before .before .before .before .before .before .if2 .left);
       isSettled = sym (c .before .before .before .before .before .before .before .before .before .before .before .before .before .all-settled .ensures) ∙ not-false _ (c .before .before .before .before .before .before .before .before .before .before .before .before .if1 .left);
@@ -94,7 +94,7 @@ returns-10 c =
     let f = c .before .before .before .before .before .before .before .before .before .before .before .before .before .before .before .before .before .before .before .before .pre in
     decided (a .gate) (a .guests .now) (a .waiting .now) (a .flight .now) (c .is-clear .result)
     (λ e. record {
-      isCounted = is-counted (a .gate) (f .counts);
+      isCounted = counted-means (a .gate .depth) (a .gate .guests) (a .gate .capacity) .holds .1 (f .counts);
       isSettled = sym (c .before .before .before .before .before .before .before .before .before .before .before .before .before .before .before .before .all-settled .ensures) ∙ not-false _ (c .before .before .before .before .before .before .before .before .before .before .before .before .before .before .before .if1 .left);
       waits = c .before .before .before .before .before .before .before .before .before .before .before .before .before .before .if2 .left;
       flies = c .before .before .before .before .before .before .before .before .before .before .before .before .before .if3 .left;

@@ -1,6 +1,5 @@
 use native.Mathlib.Omega.{arith}
-use mathlib.Core.Path.{_≡_, ap, sym, _∙_}
-use mathlib.Core.List.{List}
+use mathlib.Core.Path.{ap, _∙_}
 use Rattle.gate.specs.Promise.{seen, opened}
 use Rattle.decide.proofs.Begins.{sizes}
 use Rattle.decide.proofs.Opening.{opening-became, opening-shows}

@@ -1,5 +1,4 @@
 use native.Mathlib.Omega.{arith}
-use mathlib.Core.Path.{_≡_, refl}
 use Rattle.feed.proofs.Cut.{cut-none, cut-some}
 use borrow.Author.Needs.{needs}
 use Rattle.feed.proofs.buffer.put_cut.Statement.{statement}

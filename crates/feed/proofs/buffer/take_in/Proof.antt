@@ -1,8 +1,7 @@
 use native.Mathlib.Omega.{arith}
-use Prim.Native.Nat.{ℕ, _+_, _-_, _*_, _/_, _≤_}
-use mathlib.Core.Path.{_≡_, refl, ap, sym, _∙_}
-use mathlib.Core.List.{List}
-use lib.ListN.{length, take, drop}
+use Prim.Native.Nat.{ℕ, _+_, _-_, _*_}
+use mathlib.Core.Path.{_≡_, ap, sym, _∙_}
+use lib.ListN.{take, drop}
 use lib.Seq.{length-take-le}
 use Rattle.trace.specs.Event.{whole}
 use Rattle.feed.proofs.Shift.{shift-front}

@@ -4,7 +4,7 @@ use mathlib.Core.Bool.{Bool, true, false, _&&_, _||_}
 use native.Mathlib.Omega.{arith}
 use borrow.Author.Tests.{not-true, not-false, lt-ltb, le-ltb}
 use Rattle.table.specs.View.{short}
-use Rattle.sound.proofs.Fitted.{counts}
+use Rattle.rules.proofs.Conditions.{counted-means}
 use borrow.Author.Needs.{needs}
 use Rattle.sound.proofs.lengths.is_short.Statement.{statement}
 use Rattle.sound.proofs.lengths.is_short.Tie as tie
@@ -21,21 +21,21 @@ unfolding short
 returns c = simp (sym (c .before .is-countable .ensures) ∙ not-true _ (c .if1 .taken))
 
 mul-if2 : tie.Need-mul-if2
-mul-if2 c = omega (arith, counts (c .before .before .before .before .before .args .gate) (sym (c .before .is-countable .ensures) ∙ not-false _ (c .if1 .left)) .guests)
+mul-if2 c = omega (arith, counted-means _ _ _ .holds .0 (sym (c .before .is-countable .ensures) ∙ not-false _ (c .if1 .left)) .guest-count)
 
 returns-2 : tie.Need-returns-2
 unfolding short
 returns-2 c = simp ((sym (c .before .before .is-countable .ensures) ∙ not-false _ (c .before .if1 .left)), lt-ltb _ _ (c .if2 .taken))
 
 mul-if3 : tie.Need-mul-if3
-mul-if3 c = omega (arith, counts (c .before .before .before .before .before .before .args .gate) (sym (c .before .before .is-countable .ensures) ∙ not-false _ (c .before .if1 .left)) .capacity)
+mul-if3 c = omega (arith, counted-means _ _ _ .holds .0 (sym (c .before .before .is-countable .ensures) ∙ not-false _ (c .before .if1 .left)) .capacities)
 
 returns-3 : tie.Need-returns-3
 unfolding short
 returns-3 c = simp ((sym (c .before .before .before .is-countable .ensures) ∙ not-false _ (c .before .before .if1 .left)), le-ltb _ _ (c .before .if2 .left), lt-ltb _ _ (c .if3 .taken))
 
 mul-result : tie.Need-mul-result
-mul-result c = omega (arith, counts (c .before .before .before .before .before .before .before .args .gate) (sym (c .before .before .before .is-countable .ensures) ∙ not-false _ (c .before .before .if1 .left)) .depth)
+mul-result c = omega (arith, counted-means _ _ _ .holds .0 (sym (c .before .before .before .is-countable .ensures) ∙ not-false _ (c .before .before .if1 .left)) .depths)
 
 returns-4 : tie.Need-returns-4
 unfolding short

@@ -6,22 +6,22 @@ use mathlib.Core.Logic.{⊎-elim}
 use native.Mathlib.Nat.{not-suc-le-zero}
 use native.Mathlib.Omega.{arith}
 use borrow.Author.Needs.{needs}
-use Rattle.sound.specs.Names.{guestAt, idAt, bucketOf}
+use Rattle.sound.specs.Names.{partAt, bucketOf}
 use Rattle.sound.proofs.Places.{names-hit, names-none}
 use Rattle.sound.proofs.Buckets.{lastBefore, last-le, bucketAt, Apart, Linked, linked-start, linked-next, Passed, passed-start, passed-next, passed-end}
 use Rattle.sound.proofs.pairs.all_once.Statement.{statement}
 use Rattle.sound.proofs.pairs.all_once.Tie as tie
 
 abbrev Inv-loop : tie.InvT-loop
-Inv-loop waiting count flight sent heads links total once₀ i guest id b first next₀ once next = Passed (guestAt waiting count flight) (idAt waiting count flight) i next × (once ≡ true)
+Inv-loop waiting count flight sent heads links total once₀ i guest id b first next₀ once next = Passed (partAt waiting count flight 0) (partAt waiting count flight 1) i next × (once ≡ true)
 
 abbrev μ-loop : tie.MeasureT-loop
 μ-loop waiting count flight sent heads links total once₀ i guest id b first next₀ once next = next
 
 abbrev Inv-pairs : tie.InvT-pairs
 Inv-pairs waiting count flight sent heads₀ links₀ total once₀ i₀ heads links once i =
-    (i ≤ total) × Linked (bucketAt (guestAt waiting count flight) (idAt waiting count flight)) heads links i
-    × Apart (guestAt waiting count flight) (idAt waiting count flight) i × (once ≡ true)
+    (i ≤ total) × Linked (bucketAt (partAt waiting count flight 0) (partAt waiting count flight 1)) heads links i
+    × Apart (partAt waiting count flight 0) (partAt waiting count flight 1) i × (once ≡ true)
 
 abbrev μ-pairs : tie.MeasureT-pairs
 μ-pairs waiting count flight sent heads₀ links₀ total once₀ i₀ heads links once i = total - i
@@ -32,11 +32,11 @@ add-total c = omega arith
 pairs-holds : tie.Need-pairs-holds Inv-loop μ-loop Inv-pairs μ-pairs
 pairs-holds c = (omega arith, linked-start _, λ i j l. absurd (not-suc-le-zero l), refl)
 
-guest-of-requires : tie.Need-guest-of-requires Inv-loop μ-loop Inv-pairs μ-pairs
-guest-of-requires c κs = search needs
+part-of-requires : tie.Need-part-of-requires Inv-loop μ-loop Inv-pairs μ-pairs
+part-of-requires c κs = search needs
 
-id-of-requires : tie.Need-id-of-requires Inv-loop μ-loop Inv-pairs μ-pairs
-id-of-requires c κs = search needs
+part-of-requires-2 : tie.Need-part-of-requires-2 Inv-loop μ-loop Inv-pairs μ-pairs
+part-of-requires-2 c κs = search needs
 
 bucket-requires : tie.Need-bucket-requires Inv-loop μ-loop Inv-pairs μ-pairs
 bucket-requires c κs = search needs
@@ -54,21 +54,21 @@ loop-holds : tie.Need-loop-holds Inv-loop μ-loop Inv-pairs μ-pairs
 loop-holds c =
     let o = c .before .before .before .before .before .pairs in
     let a = c .before .before .before .before .before .before .before .before .args in
-    let guest = guestAt (a .waiting .now) (a .count) (a .flight .now) in
-    let id = idAt (a .waiting .now) (a .count) (a .flight .now) in
+    let guest = partAt (a .waiting .now) (a .count) (a .flight .now) 0 in
+    let id = partAt (a .waiting .now) (a .count) (a .flight .now) 1 in
     let e : c .before .bucket .result ≡ bucketAt guest id (o .i) =
-    c .before .bucket .ensures .0 ∙ ap (λ (x : ℕ). bucketOf x (c .before .before .id-of .result)) (c .before .before .before .guest-of .ensures) ∙ ap (λ (x : ℕ). bucketOf (guest (o .i)) x) (c .before .before .id-of .ensures)
+    c .before .bucket .ensures .0 ∙ ap (λ (x : ℕ). bucketOf x (c .before .before .part-of2 .result)) (c .before .before .before .part-of .ensures) ∙ ap (λ (x : ℕ). bucketOf (guest (o .i)) x) (c .before .before .part-of2 .ensures)
     in
     (passed-start guest id (o .i) (c .wide .result) (c .wide .ensures ∙ o .inv .1 .head (c .before .bucket .result) (c .before .bucket .ensures .1) ∙ ap (λ (b : ℕ). lastBefore (bucketAt guest id) b (o .i)) e), o .inv .3)
 
 sub-j : tie.Need-sub-j Inv-loop μ-loop Inv-pairs μ-pairs
 sub-j c = omega arith
 
-guest-of-requires-2 : tie.Need-guest-of-requires-2 Inv-loop μ-loop Inv-pairs μ-pairs
-guest-of-requires-2 c κs = search needs
+part-of-requires-3 : tie.Need-part-of-requires-3 Inv-loop μ-loop Inv-pairs μ-pairs
+part-of-requires-3 c κs = search needs
 
-id-of-requires-2 : tie.Need-id-of-requires-2 Inv-loop μ-loop Inv-pairs μ-pairs
-id-of-requires-2 c κs = search needs
+part-of-requires-4 : tie.Need-part-of-requires-4 Inv-loop μ-loop Inv-pairs μ-pairs
+part-of-requires-4 c κs = search needs
 
 mul-wide : tie.Need-mul-wide Inv-loop μ-loop Inv-pairs μ-pairs
 mul-wide c = omega arith
@@ -83,8 +83,8 @@ loop-less : tie.Need-loop-less Inv-loop μ-loop Inv-pairs μ-pairs
 loop-less c =
     let o = c .before .before .before .before .before .before .before .before .before .before .pairs in
     let a = c .before .before .before .before .before .before .before .before .before .before .before .before .before .args in
-    let guest = guestAt (a .waiting .now) (a .count) (a .flight .now) in
-    let id = idAt (a .waiting .now) (a .count) (a .flight .now) in
+    let guest = partAt (a .waiting .now) (a .count) (a .flight .now) 0 in
+    let id = partAt (a .waiting .now) (a .count) (a .flight .now) 1 in
     let s = c .before .before .before .before .loop in
     let low : s .next ≤ o .i = s .inv .0 .low in
     let more : c .wide2 .result ≡ lastBefore (bucketAt guest id) (bucketAt guest id (s .next - 1)) (s .next - 1) =
@@ -96,8 +96,8 @@ loop-again : tie.Need-loop-again Inv-loop μ-loop Inv-pairs μ-pairs
 loop-again c =
     let o = c .before .before .before .before .before .before .before .before .before .before .pairs in
     let a = c .before .before .before .before .before .before .before .before .before .before .before .before .before .args in
-    let guest = guestAt (a .waiting .now) (a .count) (a .flight .now) in
-    let id = idAt (a .waiting .now) (a .count) (a .flight .now) in
+    let guest = partAt (a .waiting .now) (a .count) (a .flight .now) 0 in
+    let id = partAt (a .waiting .now) (a .count) (a .flight .now) 1 in
     let s = c .before .before .before .before .loop in
     let low : s .next ≤ o .i = s .inv .0 .low in
     let more : c .wide2 .result ≡ lastBefore (bucketAt guest id) (bucketAt guest id (s .next - 1)) (s .next - 1) =
@@ -106,8 +106,8 @@ loop-again c =
     let other : guest (s .next - 1) ≡ guest (o .i) → id (s .next - 1) ≡ id (o .i) → ⊥ =
     λ g d.
     ⊎-elim
-    (λ w. w .2 .left (w .1 .ensures ∙ d ∙ sym (c .before .before .before .before .before .before .before .id-of .ensures)))
-    (λ w. w .left (c .before .before .guest-of2 .ensures ∙ g ∙ sym (c .before .before .before .before .before .before .before .before .guest-of .ensures)))
+    (λ w. w .2 .left (w .1 .ensures ∙ d ∙ sym (c .before .before .before .before .before .before .before .part-of2 .ensures)))
+    (λ w. w .left (c .before .before .part-of3 .ensures ∙ g ∙ sym (c .before .before .before .before .before .before .before .before .part-of .ensures)))
     (c .before .if1 .came)
     in
     (passed-next guest id (o .i) (s .next) (s .next - 1) (c .wide2 .result) (s .inv .0) (omega (arith, c .before .before .before .loop-test .taken)) other more, s .inv .1)
@@ -140,10 +140,10 @@ pairs-again : tie.Need-pairs-again Inv-loop μ-loop Inv-pairs μ-pairs
 pairs-again c =
     let o = c .before .before .before .before .before .before .before .pairs in
     let a = c .before .before .before .before .before .before .before .before .before .before .args in
-    let guest = guestAt (a .waiting .now) (a .count) (a .flight .now) in
-    let id = idAt (a .waiting .now) (a .count) (a .flight .now) in
+    let guest = partAt (a .waiting .now) (a .count) (a .flight .now) 0 in
+    let id = partAt (a .waiting .now) (a .count) (a .flight .now) 1 in
     let e : c .before .before .before .bucket .result ≡ bucketAt guest id (o .i) =
-    c .before .before .before .bucket .ensures .0 ∙ ap (λ (x : ℕ). bucketOf x (c .before .before .before .before .id-of .result)) (c .before .before .before .before .before .guest-of .ensures) ∙ ap (λ (x : ℕ). bucketOf (guest (o .i)) x) (c .before .before .before .before .id-of .ensures)
+    c .before .before .before .bucket .ensures .0 ∙ ap (λ (x : ℕ). bucketOf x (c .before .before .before .before .part-of2 .result)) (c .before .before .before .before .before .part-of .ensures) ∙ ap (λ (x : ℕ). bucketOf (guest (o .i)) x) (c .before .before .before .before .part-of2 .ensures)
     in
     let s = c .before .loop in (
       omega arith,
@@ -166,8 +166,8 @@ returns-2 c =
     let low : s .next ≤ o .i = s .inv .0 .low in
     sym
     (names-hit (a .waiting .now) (a .count) (a .flight .now) (a .sent) (s .next - 1) (o .i) (omega (arith, low, c .before .before .before .before .loop-test .taken)) (omega arith)
-    (sym (c .before .before .before .guest-of2 .ensures) ∙ c .before .before .if1 .taken ∙ c .before .before .before .before .before .before .before .before .before .guest-of .ensures)
-    (sym (c .before .id-of2 .ensures) ∙ c .if2 .taken ∙ c .before .before .before .before .before .before .before .before .id-of .ensures))
+    (sym (c .before .before .before .part-of3 .ensures) ∙ c .before .before .if1 .taken ∙ c .before .before .before .before .before .before .before .before .before .part-of .ensures)
+    (sym (c .before .part-of4 .ensures) ∙ c .if2 .taken ∙ c .before .before .before .before .before .before .before .before .part-of2 .ensures))
 
 pub all-once-spec : {M : Type 1} → statement M
 all-once-spec =
@@ -179,16 +179,16 @@ all-once-spec =
     μ-pairs
     add-total
     pairs-holds
-    guest-of-requires
-    id-of-requires
+    part-of-requires
+    part-of-requires-2
     bucket-requires
     mul-first
     array-read-first
     wide-requires
     loop-holds
     sub-j
-    guest-of-requires-2
-    id-of-requires-2
+    part-of-requires-3
+    part-of-requires-4
     mul-wide
     array-read-wide
     wide-requires-2

@@ -1,9 +1,9 @@
 -- Each branch reads its own table.
 use borrow.Author.Tests.{lt-ltb, le-ltb}
-use Rattle.sound.specs.Names.{idAt}
+use Rattle.sound.specs.Names.{partAt}
 use borrow.Author.Needs.{needs}
-use Rattle.sound.proofs.pairs.id_of.Statement.{statement}
-use Rattle.sound.proofs.pairs.id_of.Tie as tie
+use Rattle.sound.proofs.pairs.part_of.Statement.{statement}
+use Rattle.sound.proofs.pairs.part_of.Tie as tie
 
 mul-result : tie.Need-mul-result
 mul-result c = search needs
@@ -30,15 +30,15 @@ shared-slice-read-result-2 : tie.Need-shared-slice-read-result-2
 shared-slice-read-result-2 c = search needs
 
 returns : tie.Need-returns
-unfolding idAt
+unfolding partAt
 returns c = rw (lt-ltb _ _ (c .before .if1 .taken))
 
 returns-2 : tie.Need-returns-2
-unfolding idAt
+unfolding partAt
 returns-2 c = rw (le-ltb _ _ (c .before .if1 .left))
 
-pub id-of-spec : {M : Type 1} → statement M
-id-of-spec =
+pub part-of-spec : {M : Type 1} → statement M
+part-of-spec =
     tie.close
     (tie.spec
     mul-result
