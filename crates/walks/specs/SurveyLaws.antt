@@ -59,7 +59,7 @@ module _ (ws : List ℕ) (g id : ℕ) where
   lacks-all : (n : ℕ) → lacksIn ws n g id ≡ all another (waitingOf ws n)
   lacks-all n = all-of-map (λ f. not (same (record { guest = g; id = id }) f)) name (waitingOf ws n)
 
-  pub lacks-none : lacksIn ws 0 g id ≡ true
+  lacks-none : lacksIn ws 0 g id ≡ true
   unfolding rowsOf linesOf
   lacks-none = refl
 
@@ -67,18 +67,68 @@ module _ (ws : List ℕ) (g id : ℕ) where
   lacks-next k e h = lacks-all (k + 1) ∙ all-next another ws k ∙ join (sym (lacks-all k) ∙ e) h
 
   -- a row of another guest, and one with another id
-  pub lacks-guest : (k : ℕ) → lacksIn ws k g id ≡ true → (getD ws (k * 5 + 0) 0 ≡ g → ⊥) → lacksIn ws (k + 1) g id ≡ true
+  lacks-guest : (k : ℕ) → lacksIn ws k g id ≡ true → (getD ws (k * 5 + 0) 0 ≡ g → ⊥) → lacksIn ws (k + 1) g id ≡ true
   lacks-guest k e h = lacks-next k e (rw (ne-eqb g (getD ws (k * 5 + 0) 0) (λ q. h (sym q))))
 
-  pub lacks-id : (k : ℕ) → lacksIn ws k g id ≡ true → (getD ws (k * 5 + 1) 0 ≡ id → ⊥) → lacksIn ws (k + 1) g id ≡ true
+  lacks-id : (k : ℕ) → lacksIn ws k g id ≡ true → (getD ws (k * 5 + 1) 0 ≡ id → ⊥) → lacksIn ws (k + 1) g id ≡ true
   lacks-id k e h = lacks-next k e (rw (ne-eqb id (getD ws (k * 5 + 1) 0) (λ q. h (sym q)), and-false (eqb g (getD ws (k * 5 + 0) 0))))
 
   -- the row is there
-  pub lacks-not : (n k : ℕ) → k < n → getD ws (k * 5 + 0) 0 ≡ g → getD ws (k * 5 + 1) 0 ≡ id → lacksIn ws n g id ≡ false
+  lacks-not : (n k : ℕ) → k < n → getD ws (k * 5 + 0) 0 ≡ g → getD ws (k * 5 + 1) 0 ≡ id → lacksIn ws n g id ≡ false
   lacks-not n k h e i =
       lacks-all n
       ∙ place-not another (waitingOf ws n) (requestForm .read []) k (omega (arith, length-rows requestForm ws n))
       (ap another (row-at requestForm ws n k h) ∙ rw (eq-eqb g (getD ws (k * 5 + 0) 0) (sym e), eq-eqb id (getD ws (k * 5 + 1) 0) (sym i)))
+
+-- the walk over the rows, at the one whose numbers begin at `from`: none passed is this request, and whether one is of its guest
+pub record Searched (ws : List ℕ) (count g id : ℕ) (waits : Bool) (from : ℕ) : Type 0 where
+  pub row : ℕ
+  pub begins : from ≡ row * 5
+  pub inside : row ≤ count
+  pub lacking : lacksIn ws row g id ≡ true
+  pub idling : idleIn ws row g ≡ not waits
+
+module _ (ws : List ℕ) (count g id : ℕ) where
+  pub search-start : Searched ws count g id false 0
+  search-start = record { row = 0; begins = refl; inside = omega arith; lacking = lacks-none ws g id; idling = idle-none ws g }
+
+  module _ {waits : Bool} {from : ℕ} (s : Searched ws count g id waits from) (more : from < count * 5) where
+    -- the number n places into the row, as the code reads it
+    number-here : (n : ℕ) → getD ws (s .row * 5 + n) 0 ≡ getD ws (from + n) 0
+    number-here n = ap (λ (k : ℕ). getD ws (k + n) 0) (sym (s .begins))
+
+    -- the row is this request
+    pub search-hit : getD ws (from + 0) 0 ≡ g → getD ws (from + 1) 0 ≡ id → lacksIn ws count g id ≡ false
+    search-hit e i = lacks-not ws g id count (s .row) (omega (arith, s .begins)) (number-here 0 ∙ e) (number-here 1 ∙ i)
+
+    -- another request of the guest
+    pub search-own : getD ws (from + 0) 0 ≡ g → (getD ws (from + 1) 0 ≡ id → ⊥) → Searched ws count g id true (from + 5)
+    search-own e i =
+        record {
+          row = s .row + 1;
+          begins = omega (arith, s .begins);
+          inside = omega (arith, s .begins);
+          lacking = lacks-id ws g id (s .row) (s .lacking) (λ q. i (sym (number-here 1) ∙ q));
+          idling = idle-not ws g (s .row) (number-here 0 ∙ e);
+        }
+
+    -- another guest's
+    pub search-other : (getD ws (from + 0) 0 ≡ g → ⊥) → Searched ws count g id waits (from + 5)
+    search-other d =
+        let h : getD ws (s .row * 5 + 0) 0 ≡ g → ⊥ = λ q. d (sym (number-here 0) ∙ q) in
+        record {
+          row = s .row + 1;
+          begins = omega (arith, s .begins);
+          inside = omega (arith, s .begins);
+          lacking = lacks-guest ws g id (s .row) (s .lacking) h;
+          idling = idle-same ws g (s .row) h ∙ s .idling;
+        }
+
+  -- behind the last row
+  pub search-end : {waits : Bool} {from : ℕ} → Searched ws count g id waits from → count * 5 ≤ from → (lacksIn ws count g id ≡ true) × (idleIn ws count g ≡ not waits)
+  search-end s done =
+      let q : s .row ≡ count = omega (arith, s .begins, s .inside) in
+      (rw q at (s .lacking), rw q at (s .idling))
 
 -- THE ENDS
 

@@ -32,16 +32,17 @@ pub fn own_rows(waiting: &[u64], count: usize, guest: u64, id: u64) -> Own
     requires { ⌜ (count ≤ 1024) × (count * 5 ≤ length (now waiting)) ⌝ }
     ensures { λ o. ⌜ o ≡ ownOf (record { guest = guest; id = id }) (waitingOf (now (waiting .entry)) count) ⌝ }
 {
+    let used = count * 5;
     let mut waits = false;
-    let mut i: usize = 0;
-    while i < count {
-        if waiting[i * 5 + GUEST] == guest {
-            if waiting[i * 5 + ID] == id {
+    let mut at: usize = 0;
+    while at < used {
+        if waiting[at + GUEST] == guest {
+            if waiting[at + ID] == id {
                 return Own::Repeated;
             }
             waits = true;
         }
-        i += 1;
+        at += 5;
     }
     if waits { Own::Waits } else { Own::Idle }
 }
