@@ -1,0 +1,66 @@
+-- `once`: any two outcomes that the promise of a call through C admits are equal: the answer's four numbers, the gate's six, every number of
+-- every table. And four numbers are one answer only, so nothing of an answer is lost on the way. Assumes nothing.
+use Prim.Native.Nat.{ℕ}
+use mathlib.Core.Path.{_≡_, refl, sym, ap, _∙_}
+use mathlib.Core.List.{List}
+use native.Mathlib.Omega.{arith}
+use Rattle.rules.specs.Tables.{Flight}
+use Rattle.rules.specs.Events.{Arriving, arrival, completion, tick}
+use Rattle.rules.proofs.Judged.{numberOf-once}
+use Rattle.rules.specs.declared.Phase.{Phase}
+use Rattle.rules.specs.declared.Phase.the-variants.{Reservation, Weight}
+use Rattle.rules.specs.declared.Answer.{Answer}
+use Rattle.rules.specs.declared.Answer.the-variants.{Nothing, Sent, Refused}
+use Rattle.gate.specs.Promise.{called, opened}
+use Rattle.host.specs.declared.Reply.{Reply}
+use Rattle.host.specs.Host.{kindOf, gateIn, replyOf, hosted}
+
+-- ANSWERS
+
+-- a phase is its kind
+kindOf-once : (p q : Phase) → kindOf p ≡ kindOf q → p ≡ q
+kindOf-once Reservation Reservation h = refl
+kindOf-once Reservation Weight h = absurd (omega (arith, h))
+kindOf-once Weight Reservation h = absurd (omega (arith, h))
+kindOf-once Weight Weight h = refl
+
+-- and that is neither 0 nor 3
+other-kind : (p : Phase) → (kindOf p ≡ 0 → ⊥) × (kindOf p ≡ 3 → ⊥)
+other-kind Reservation = (λ h. omega (arith, h), λ h. omega (arith, h))
+other-kind Weight = (λ h. omega (arith, h), λ h. omega (arith, h))
+
+-- two answers that have the same four numbers are equal
+pub reply-once : (a b : Answer) → replyOf a ≡ replyOf b → a ≡ b
+reply-once Nothing Nothing h = refl
+reply-once Nothing (Sent q k j) h = absurd (other-kind q .0 (sym (ap Reply.kind h)))
+reply-once Nothing (Refused s) h = absurd (omega (arith, ap Reply.kind h))
+reply-once (Sent p g i) Nothing h = absurd (other-kind p .0 (ap Reply.kind h))
+reply-once (Sent p g i) (Sent q k j) h = λ n. Sent (kindOf-once p q (ap Reply.kind h) n) (h n .guest) (h n .id)
+reply-once (Sent p g i) (Refused s) h = absurd (other-kind p .1 (ap Reply.kind h))
+reply-once (Refused r) Nothing h = absurd (omega (arith, ap Reply.kind h))
+reply-once (Refused r) (Sent q k j) h = absurd (other-kind q .1 (sym (ap Reply.kind h)))
+reply-once (Refused r) (Refused s) h = ap Refused (numberOf-once r s (ap Reply.refusal h))
+
+-- OUTCOMES
+
+-- what a call hands back through C: the answer, the gate's six numbers, and the three tables
+abbrev pub Back : Type 0
+Back = Reply × List ℕ × List ℕ × List ℕ × List ℕ
+
+-- what an equation of a promise admits, once
+admits : (s h k : Back) → h ≡ s → k ≡ s → h ≡ k
+admits s h k p q = p ∙ sym q
+
+module _ (h k : Back) (six : List ℕ) where
+  -- of an arrival, a completion, a tick and an opening
+  pub arrive-once : (a : Arriving) (now : ℕ) (gs ws fs : List ℕ) → h ≡ hosted six (called (arrival a now) (gateIn six) gs ws fs) → k ≡ hosted six (called (arrival a now) (gateIn six) gs ws fs) → h ≡ k
+  arrive-once a now gs ws fs = admits (hosted six (called (arrival a now) (gateIn six) gs ws fs)) h k
+
+  pub complete-once : (f : Flight) (now : ℕ) (gs ws fs : List ℕ) → h ≡ hosted six (called (completion f now) (gateIn six) gs ws fs) → k ≡ hosted six (called (completion f now) (gateIn six) gs ws fs) → h ≡ k
+  complete-once f now gs ws fs = admits (hosted six (called (completion f now) (gateIn six) gs ws fs)) h k
+
+  pub tick-once : (now : ℕ) (gs ws fs : List ℕ) → h ≡ hosted six (called (tick now) (gateIn six) gs ws fs) → k ≡ hosted six (called (tick now) (gateIn six) gs ws fs) → h ≡ k
+  tick-once now gs ws fs = admits (hosted six (called (tick now) (gateIn six) gs ws fs)) h k
+
+  pub open-once : (d n c : ℕ) (ss gs ws fs : List ℕ) → h ≡ hosted six (opened d n c ss gs ws fs) → k ≡ hosted six (opened d n c ss gs ws fs) → h ≡ k
+  open-once d n c ss gs ws fs = admits (hosted six (opened d n c ss gs ws fs)) h k
