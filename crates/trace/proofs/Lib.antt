@@ -3,6 +3,7 @@ pub mod SettingsRows
 pub mod EventLaws
 pub mod RunLaws
 pub mod Runs
+pub mod Shown
 pub mod Split
 pub mod FirstRead
 pub mod AnySplit

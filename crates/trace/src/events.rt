@@ -6,7 +6,7 @@ ghost use mathlib.Core.Path.{_≡_};
 ghost use Prim.Native.Nat.{_≤_};
 ghost use lib.ListN.{length};
 ghost use Rattle.trace.specs.Little.{eight as eightOf};
-ghost use Rattle.trace.specs.Event.{eventFrom, eventOf};
+ghost use Rattle.trace.specs.Event.{readShown, eventFrom, eventOf};
 
 // Eight bytes, of which the lower four and the higher four make these numbers.
 fn eight(low: u32, high: u32) -> u64
@@ -38,7 +38,7 @@ fn event_from(kind: u8, guest: u64, id: u32, time: u64) -> Read
 // The event that stands at the front of the bytes.
 pub fn read_event(bytes: &[u8]) -> Read
     requires { ⌜ 14 ≤ length (now bytes) ⌝ }
-    ensures { λ r. ⌜ r ≡ eventOf (now (bytes .entry)) ⌝ }
+    ensures { λ r. ⌜ readShown r ≡ readShown (eventOf (now (bytes .entry))) ⌝ }
 {
     let id = four(bytes[2], bytes[3], bytes[4], bytes[5]);
     let low = four(bytes[6], bytes[7], bytes[8], bytes[9]);

@@ -14,7 +14,7 @@ ghost use lib.Dec.{eqb};
 ghost use Rattle.lists.specs.Words.{all};
 ghost use Rattle.lists.specs.Tab.{tab};
 ghost use Rattle.rules.specs.Sound.{counted, settled};
-ghost use Rattle.trace.specs.Header.{mark, same, versionOf, depthOf, guestsOf, capacityOf, body, numberAt, settingsAt, headerOf};
+ghost use Rattle.trace.specs.Header.{mark, same, versionOf, depthOf, guestsOf, capacityOf, body, numberAt, settingsAt, headerShown, headerOf};
 
 // The three letters.
 fn is_marked(bytes: &[u8]) -> bool
@@ -100,7 +100,7 @@ fn has_settings(bytes: &[u8], guests: usize) -> bool
 
 // The header that stands at the front of the bytes, of which there may be any number.
 pub fn read_header(bytes: &[u8]) -> Header
-    ensures { λ r. ⌜ r ≡ headerOf (now (bytes .entry)) ⌝ }
+    ensures { λ r. ⌜ headerShown r ≡ headerShown (headerOf (now (bytes .entry))) ⌝ }
 {
     if bytes.len() < 9 {
         return Header::Refused(Refusal::HeaderCut);

@@ -1,5 +1,6 @@
 use native.Mathlib.Omega.{arith}
 use mathlib.Core.Path.{sym, _∙_}
+use Rattle.trace.proofs.Shown.{header-shown-once}
 use borrow.Author.Needs.{needs}
 use Rattle.decide.proofs.run.Statement.{statement}
 use Rattle.decide.proofs.run.Tie as tie
@@ -29,7 +30,7 @@ follow-requires : tie.Need-follow-requires
 follow-requires c κs =
     let f = c .before .before .before .before .before .before .before .before .before .before .before .before .before .read-full in
     let p = c .before .before .before .before .before .before .before .before .before .before .before .before .before .before .before .before .before .before .before .before .before .pre in
-    ((f .kept .1 .0 ∙ p .0 .0, omega (arith, f .ensures, f .kept .1 .0, p .0 .0), p .0 .1), (sym (c .before .before .before .before .before .before .before .before .before .read-header .ensures) ∙ c .before .before .before .before .before .before .before .header2 .given .1, p .1))
+    ((f .kept .1 .0 ∙ p .0 .0, omega (arith, f .ensures, f .kept .1 .0, p .0 .0), p .0 .1), (sym (header-shown-once (c .before .before .before .before .before .before .before .before .before .read-header .result) _ (c .before .before .before .before .before .before .before .before .before .read-header .ensures)) ∙ c .before .before .before .before .before .before .before .header2 .given .1, p .1))
 
 same-length : tie.Need-same-length
 same-length c = search needs

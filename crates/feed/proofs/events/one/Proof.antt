@@ -4,6 +4,7 @@ use native.Mathlib.Omega.{arith}
 use lib.ListN.{take, drop}
 use Rattle.trace.specs.Event.{eventOf}
 use Rattle.trace.proofs.EventLaws.{event-take}
+use Rattle.trace.proofs.Shown.{read-shown-once}
 use Rattle.feed.proofs.Judging.{judged-by}
 use borrow.Author.Needs.{needs}
 use Rattle.feed.proofs.events.one.Statement.{statement}
@@ -46,7 +47,8 @@ returns : tie.Need-returns
 returns c =
     let a = c .before .before .before .before .before .before .before .before .before .before .before .before .before .before .before .before .before .before .before .before .before .before .args in
     let n : a .from + 14 - a .from ≡ 14 = omega arith in
-    let e = c .before .before .before .before .before .before .before .before .before .before .before .before .before .before .before .read-event .ensures ∙ ap (λ (k : ℕ). eventOf (take k (drop (a .from) (a .bytes .now)))) n ∙ event-take (drop (a .from) (a .bytes .now)) in
+    let x = c .before .before .before .before .before .before .before .before .before .before .before .before .before .before .before .read-event in
+    let e = read-shown-once (x .result) _ (x .ensures) ∙ ap (λ (k : ℕ). eventOf (take k (drop (a .from) (a .bytes .now)))) n ∙ event-take (drop (a .from) (a .bytes .now)) in
     let j = c .before .before .before .before .before .before .before .before .before .before .before .judge in
     let l = c .before .before .put-line in
     judged-by (a .gate) (a .guests .now) (a .waiting .now) (a .flight .now) _ _ e (a .number) (a .at) (l .result) (a .out .now) _ (j .result) _ _ _ (j .ensures .0) (j .ensures .1) (l .ensures .0) (l .ensures .1)

@@ -1,4 +1,5 @@
-use mathlib.Core.Path.{_∙_}
+use mathlib.Core.Path.{ap, _∙_}
+use Rattle.trace.specs.Event.{readShown}
 use Rattle.trace.proofs.EventLaws.{event-by}
 use borrow.Author.Needs.{needs}
 use Rattle.trace.proofs.events.read_event.Statement.{statement}
@@ -66,8 +67,9 @@ event-from-requires c κs = search needs
 
 returns : tie.Need-returns
 returns c =
-    c .event-from .ensures
-    ∙ event-by _ _ _ _ _ _ (c .before .before .wide .ensures) (c .before .before .before .before .before .before .before .before .before .before .before .before .before .before .before .four .ensures) (c .before .before .before .before .before .before .before .before .before .before .four2 .ensures) (c .before .before .before .before .before .four3 .ensures) (c .before .eight .ensures)
+    ap readShown
+    (c .event-from .ensures
+    ∙ event-by _ _ _ _ _ _ (c .before .before .wide .ensures) (c .before .before .before .before .before .before .before .before .before .before .before .before .before .before .before .four .ensures) (c .before .before .before .before .before .before .before .before .before .before .four2 .ensures) (c .before .before .before .before .before .four3 .ensures) (c .before .eight .ensures))
 
 pub read-event-spec : {M : Type 1} → statement M
 read-event-spec =

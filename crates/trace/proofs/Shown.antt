@@ -1,0 +1,46 @@
+-- What is shown of a header and of an event is that header and that event alone, so the promises of `read_header` and `read_event`, which are
+-- stated by what is shown, admit one answer only. Assumes nothing.
+use Prim.Native.Nat.{ℕ}
+use mathlib.Core.Path.{_≡_, refl, ap}
+use mathlib.Core.List.{List}
+use native.Mathlib.Omega.{arith}
+use lib.ListN.{length, getD}
+use Rattle.rules.proofs.Judged.{numberOf-once}
+use Rattle.trace.specs.Header.{headerShown}
+use Rattle.trace.specs.Event.{readShown}
+use Rattle.trace.specs.declared.Header.{Header}
+use Rattle.trace.specs.declared.Header.the-variants.{Opened, Refused}
+use Rattle.trace.specs.declared.Read.{Read}
+use Rattle.trace.specs.declared.Read.the-variants.{Arrival, Completion, Tick, Bad}
+
+-- the number that is shown at place n
+at : ℕ → List ℕ → ℕ
+at n l = getD l n 0
+
+-- two headers that are shown alike are equal
+pub header-shown-once : (a b : Header) → headerShown a ≡ headerShown b → a ≡ b
+unfolding at
+header-shown-once (Opened d n c) (Opened e m k) h = λ i. Opened (ap (at 1) h i) (ap (at 2) h i) (ap (at 3) h i)
+header-shown-once (Opened d n c) (Refused s) h = absurd (omega (arith, ap length h))
+header-shown-once (Refused r) (Opened e m k) h = absurd (omega (arith, ap length h))
+header-shown-once (Refused r) (Refused s) h = ap Refused (numberOf-once r s (ap (at 0) h))
+
+-- two events that are shown alike are equal
+pub read-shown-once : (a b : Read) → readShown a ≡ readShown b → a ≡ b
+unfolding at
+read-shown-once (Arrival g i t) (Arrival k j u) h = λ n. Arrival (ap (at 1) h n) (ap (at 2) h n) (ap (at 3) h n)
+read-shown-once (Arrival g i t) (Completion k j u) h = absurd (omega (arith, ap (at 0) h))
+read-shown-once (Arrival g i t) (Tick u) h = absurd (omega (arith, ap (at 0) h))
+read-shown-once (Arrival g i t) Bad h = absurd (omega (arith, ap (at 0) h))
+read-shown-once (Completion g i t) (Arrival k j u) h = absurd (omega (arith, ap (at 0) h))
+read-shown-once (Completion g i t) (Completion k j u) h = λ n. Completion (ap (at 1) h n) (ap (at 2) h n) (ap (at 3) h n)
+read-shown-once (Completion g i t) (Tick u) h = absurd (omega (arith, ap (at 0) h))
+read-shown-once (Completion g i t) Bad h = absurd (omega (arith, ap (at 0) h))
+read-shown-once (Tick t) (Arrival k j u) h = absurd (omega (arith, ap (at 0) h))
+read-shown-once (Tick t) (Completion k j u) h = absurd (omega (arith, ap (at 0) h))
+read-shown-once (Tick t) (Tick u) h = ap Tick (ap (at 3) h)
+read-shown-once (Tick t) Bad h = absurd (omega (arith, ap (at 0) h))
+read-shown-once Bad (Arrival k j u) h = absurd (omega (arith, ap (at 0) h))
+read-shown-once Bad (Completion k j u) h = absurd (omega (arith, ap (at 0) h))
+read-shown-once Bad (Tick u) h = absurd (omega (arith, ap (at 0) h))
+read-shown-once Bad Bad h = refl
