@@ -1,8 +1,8 @@
 // The public calls over a lent slice of guest records, of any length: the records in use become numbers in a local array, the call over numbers
 // is made on them, and they come back. Records past the settings' need are neither read nor changed. What each call promises is in
 // specs/Promise.antt.
-pub mod guests; // the thin functions: one record read and written, and the records in use to numbers and back
-pub mod part; // the calls over numbers on the rows in use
+mod guests; // the thin functions: one record read and written, and the records in use to numbers and back
+mod part; // the calls over numbers on the rows in use
 
 use crate::guests::pack;
 use crate::guests::unpack;
