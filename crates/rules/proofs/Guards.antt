@@ -8,7 +8,7 @@ use Rattle.rules.specs.Numbers.{ceiling}
 use Rattle.rules.specs.Tables.{Settings, Guest, Request, Table}
 use Rattle.rules.specs.Events.{Event, arrival, tick}
 use Rattle.rules.specs.Run.{fresh}
-use Rattle.rules.proofs.Trials.{ms, settings, comes, ends, three, -, R, W, X, lines, waitingAfter, guestsAfter}
+use Rattle.rules.proofs.Trials.{ms, settings, comes, ends, three, -, R, W, X, lines, waitingAfter, guestsAfter, flightAfter, named}
 
 -- a guest without reservation or limit, with shares 1: its spacing is a second
 abbrev free : Settings
@@ -50,6 +50,14 @@ returned = comes 1 1 0 ∷ comes 0 1 0 ∷ comes 0 2 0 ∷ comes 1 2 100 ∷ []
 abbrev spared : List Event
 spared = three (comes 1 1 0 ∷ comes 1 2 0 ∷ ends 0 1 0 ∷ ends 1 1 0 ∷ [])
 
+-- three requests are sent and a fourth waits; the completion of the middle one sends it
+abbrev flown : List Event
+flown = comes 0 7 0 ∷ comes 1 5 0 ∷ comes 0 6 0 ∷ comes 1 9 0 ∷ ends 1 5 0 ∷ []
+
+-- reservation, limit and shares 3, of which a second is no multiple
+abbrev third : Table
+third = gate (settings 3 3 3 ∷ [])
+
 -- the readings
 pub record Guards : Type 0 where
   -- "Time 2^62 − 1 is accepted, 2^62 is refused 5."
@@ -89,6 +97,12 @@ pub record Guards : Type 0 where
   pub spare : lines (gate (owed ∷ owed ∷ [])) spared ≡ R 0 1 ∷ - ∷ - ∷ - ∷ - ∷ R 1 1 ∷ W 0 2 ∷ []
   pub spare-tags : waitingAfter Request.rtag (gate (owed ∷ owed ∷ [])) spared ≡ ms 1000 ∷ ms 1000 ∷ []
   pub spare-nexts : guestsAfter Guest.rnext (gate (owed ∷ owed ∷ [])) spared ≡ ms 2000 ∷ ms 2000 ∷ []
+  -- "Requests in flight stand in order of sending and close up in the same way."
+  pub in-flight : flightAfter (fresh 3 8 (free ∷ free ∷ [])) flown ≡ named 0 7 ∷ named 0 6 ∷ named 1 9 ∷ []
+  -- the spacings of reservations and shares are rounded down, those of limits up
+  pub thirds-reserved : waitingAfter Request.rtag third (three []) ≡ 333333333 ∷ 666666666 ∷ []
+  pub thirds-limited : waitingAfter Request.ltag third (three []) ≡ 333333334 ∷ 666666668 ∷ []
+  pub thirds-shared : waitingAfter Request.stag third (three []) ≡ 333333333 ∷ 666666666 ∷ []
 
 -- they all hold
 pub guards : Guards
@@ -115,4 +129,8 @@ guards =
       spare = refl;
       spare-tags = refl;
       spare-nexts = refl;
+      in-flight = refl;
+      thirds-reserved = refl;
+      thirds-limited = refl;
+      thirds-shared = refl;
     }

@@ -10,6 +10,7 @@ pub mod Demand3
 pub mod Ticks
 pub mod Readings
 pub mod Spacings
+pub mod Rounding
 pub mod Names
 pub mod Chains
 pub mod Settings
@@ -31,3 +32,4 @@ pub mod Refused
 pub mod Trials
 pub mod Answered
 pub mod Guards
+pub mod InFlight

@@ -3,7 +3,7 @@ use mathlib.Core.List.{List, [], _∷_, map}
 use Prim.Native.Nat.{ℕ, _*_}
 use Rattle.lists.specs.Words.{lowest}
 use Rattle.rules.specs.Numbers.{down, up}
-use Rattle.rules.specs.Tables.{Settings, Guest, Request, Table, idle}
+use Rattle.rules.specs.Tables.{Settings, Guest, Request, Flight, Table, idle}
 use Rattle.rules.specs.Answers.{Printed, shown}
 use Rattle.rules.specs.Sound.{counted, settled, ranges, distinct, lawful, kept, orderly, sound}
 use Rattle.rules.specs.Choice.{dueAt, openAt, passes, sending, earlier, sooner, dropped, byWeight, byReservation, room, choice}
@@ -59,3 +59,10 @@ waitingAfter tag t es = map tag ((after t es) .waiting)
 -- a number of each guest after a run
 abbrev pub guestsAfter : (Guest → ℕ) → Table → List Event → List ℕ
 guestsAfter next t es = map next ((after t es) .guests)
+
+-- the requests in flight after a run, and the name of one
+abbrev pub flightAfter : Table → List Event → List Flight
+flightAfter t es = (after t es) .flight
+
+abbrev pub named : (g i : ℕ) → Flight
+named g i = record { guest = g; id = i }
