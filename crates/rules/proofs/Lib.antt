@@ -33,3 +33,4 @@ pub mod Trials
 pub mod Answered
 pub mod Guards
 pub mod InFlight
+pub mod Soundness
