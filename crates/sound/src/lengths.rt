@@ -1,6 +1,6 @@
 // Whether the counts of a gate lie in their ranges, and whether lent tables are long enough for them.
-use crate::ranges::is_counted;
 use rules::Gate;
+use table::ranges::is_counted;
 ghost use mathlib.Core.Path.{_≡_};
 ghost use Rattle.table.specs.View.{countable, short};
 

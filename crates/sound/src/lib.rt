@@ -1,5 +1,4 @@
 // Whether lent tables are sound, by the numbers in them. Functions for this repository's own crates.
-pub mod ranges; // counts and settings in range, on plain numbers
 pub mod lengths; // counts in range, and tables long enough for them
 pub mod settings; // the settings of all guests
 pub mod entries; // each request by itself

@@ -1,5 +1,5 @@
 // Whether the settings of all guests lie in their ranges.
-use crate::ranges::is_settled;
+use table::ranges::is_settled;
 ghost use mathlib.Core.Path.{_≡_};
 ghost use Prim.Native.Nat.{_*_, _≤_};
 ghost use lib.ListN.{length};

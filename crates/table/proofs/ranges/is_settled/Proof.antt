@@ -2,8 +2,8 @@ use mathlib.Core.Path.{sym, _∙_}
 use borrow.Author.Tests.{not-true, not-false, le-leb, lt-leb, lt-ltb, le-ltb}
 use Rattle.rules.specs.Sound.{settled}
 use borrow.Author.Needs.{needs}
-use Rattle.sound.proofs.ranges.is_settled.Statement.{statement}
-use Rattle.sound.proofs.ranges.is_settled.Tie as tie
+use Rattle.table.proofs.ranges.is_settled.Statement.{statement}
+use Rattle.table.proofs.ranges.is_settled.Tie as tie
 
 returns : tie.Need-returns
 unfolding settled

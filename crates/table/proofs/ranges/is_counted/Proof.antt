@@ -2,8 +2,8 @@ use mathlib.Core.Path.{sym, _∙_}
 use borrow.Author.Tests.{not-true, not-false}
 use Rattle.rules.specs.Sound.{counted}
 use borrow.Author.Needs.{needs}
-use Rattle.sound.proofs.ranges.is_counted.Statement.{statement}
-use Rattle.sound.proofs.ranges.is_counted.Tie as tie
+use Rattle.table.proofs.ranges.is_counted.Statement.{statement}
+use Rattle.table.proofs.ranges.is_counted.Tie as tie
 
 within-requires : tie.Need-within-requires
 within-requires c κs = search needs

@@ -1,6 +1,6 @@
 use borrow.Author.Tests.{le-leb, lt-leb}
-use Rattle.sound.proofs.ranges.within.Statement.{statement}
-use Rattle.sound.proofs.ranges.within.Tie as tie
+use Rattle.table.proofs.ranges.within.Statement.{statement}
+use Rattle.table.proofs.ranges.within.Tie as tie
 
 returns : tie.Need-returns
 returns c = simp (lt-leb _ _ (c .if1 .taken))

@@ -2,7 +2,6 @@
 ghost use mathlib.Core.Path.{_≡_};
 ghost use Rattle.rules.specs.Numbers.{within as withinOf};
 ghost use Rattle.rules.specs.Sound.{counted, settled};
-ghost use Rattle.sound.specs.Tests.{settingsAre};
 
 // The most that a setting may be.
 const MOST: u64 = 1000000;
@@ -32,7 +31,7 @@ pub fn is_counted(depth: u64, guests: u64, capacity: u64) -> bool
 
 // One guest's settings lie in their ranges. A reservation above a non-zero limit is bad; equal is good.
 pub fn is_settled(reservation: u64, limit: u64, shares: u64) -> bool
-    ensures { λ b. ⌜ b ≡ settled (settingsAre reservation limit shares) ⌝ }
+    ensures { λ b. ⌜ b ≡ settled (record { reservation = reservation; limit = limit; shares = shares }) ⌝ }
 {
     if MOST < reservation {
         return false;
