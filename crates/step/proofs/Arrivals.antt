@@ -1,14 +1,12 @@
 -- An arrival at a known table: each refusal, and what enters before the choice. Assumes nothing.
-use Prim.Native.Nat.{ℕ, _+_, _-_, _*_, _≤_, _<_}
+use Prim.Native.Nat.{ℕ, _+_, _*_, _≤_, _<_}
 use mathlib.Core.Path.{_≡_, refl, sym, ap, _∙_, subst}
-use mathlib.Core.Bool.{Bool, true, false, not}
+use mathlib.Core.Bool.{Bool, true, false}
 use mathlib.Core.List.{List, [], _∷_, _++_}
 use native.Mathlib.Omega.{arith}
-use lib.Dec.{ltb, eqb}
 use lib.ListN.{length, set, length-append, length-set}
 use borrow.Author.Tests.{lt-ltb, le-ltb, le-leb, lt-leb, eq-eqb, ne-eqb}
-use Rattle.lists.specs.Words.{if_then_else_}
-use Rattle.lists.specs.Rows.{rowsOf, overRows, Unused}
+use Rattle.lists.specs.Rows.{overRows, Unused}
 use Rattle.lists.specs.RowsLaws.{length-rows, length-over-rows, rows-over, over-twice, over-unused, over-same}
 use Rattle.rules.specs.Numbers.{ceiling}
 use Rattle.rules.specs.Tables.{Setup, Guest, Request, Flight, Table, owner, idle, lacks, names}
@@ -19,7 +17,7 @@ use Rattle.rules.specs.Refusals.{eventTests, passing, refuse, verdict, accepted
 use Rattle.rules.specs.Run.{step}
 use Rattle.rules.proofs.Facts.{is-sound}
 use Rattle.rules.proofs.EnterSound.{enter-sound}
-use Rattle.rules.proofs.Settings.{SameSettings, adjusted-settings, same-count}
+use Rattle.rules.proofs.Settings.{adjusted-settings, same-count}
 use Rattle.rules.specs.declared.Gate.{Gate}
 use Rattle.rules.specs.declared.Refusal.the-variants.{UnknownGuest, TimeAboveCeiling, TimeBeforeLast, IdInUse, NoRoom, TagAboveCeiling}
 use Rattle.table.specs.View.{guestForm, requestForm, flightForm, guestsOf, waitingOf, tableOf, Known}
@@ -28,9 +26,8 @@ use Rattle.moves.specs.Moves.{appended, followed}
 use Rattle.moves.specs.MovesLaws.{appended-is}
 use Rattle.moves.specs.FollowLaws.{followed-is}
 use Rattle.step.specs.Does.{written, does, placedGate}
-use Rattle.step.proofs.Lens.{known-written}
-use Rattle.step.proofs.Enter.{narrow, entered-known, entered-moves}
-use Rattle.step.proofs.Facts.{Facts, facts}
+use Rattle.step.proofs.Enter.{entered-known, entered-moves}
+use Rattle.step.proofs.Facts.{facts}
 
 -- the settling leaves as many requests waiting
 adjusted-count : (b : Bool) (now : ℕ) (t : Table) → length ((adjusted b now t) .waiting) ≡ length (t .waiting)

@@ -1,40 +1,32 @@
 -- What the functions of an arrival know at their calls and at their ends, from what their callees ensure. Assumes nothing.
-use Prim.Native.Nat.{ℕ, _+_, _-_, _*_, _≤_, _<_}
+use Prim.Native.Nat.{ℕ, _+_, _*_, _≤_, _<_}
 use mathlib.Core.Path.{_≡_, refl, sym, ap, _∙_, subst}
-use mathlib.Core.Bool.{Bool, true, false, not, _&&_, true≢false}
-use mathlib.Core.List.{List, map, _++_}
+use mathlib.Core.Bool.{Bool, true, false, not, _&&_}
+use mathlib.Core.List.{List, map}
 use native.Mathlib.Omega.{arith}
-use lib.Dec.{leb}
 use lib.ListN.{length, getD}
-use borrow.Author.Tests.{le-leb, lt-leb}
-use Rattle.lists.specs.Words.{all, lowest}
-use Rattle.lists.specs.WordsLaws.{all-append, all-parts}
+use Rattle.lists.specs.Words.{lowest}
 use Rattle.lists.specs.Lines.{lineAt}
 use Rattle.lists.specs.Rows.{overRows}
-use Rattle.lists.specs.RowsLaws.{length-rows, row-at, length-over-rows, rows-over, over-same, all-used}
-use Rattle.rules.specs.Numbers.{ceiling}
-use Rattle.rules.specs.Tables.{Settings, Guest, Request, Flight, Table, owner, idle, mine, same, lacks, name, names}
-use Rattle.rules.specs.Sound.{lawful, orderly}
+use Rattle.lists.specs.RowsLaws.{length-rows, row-at, length-over-rows, rows-over}
+use Rattle.rules.specs.Tables.{Settings, Guest, Request, Flight, Table, owner, idle}
 use Rattle.rules.specs.Choice.{choice}
-use Rattle.rules.specs.Events.{Arriving, Event, arrival, smallest, adjusted, stamped, stampedFor}
+use Rattle.rules.specs.Events.{Arriving, Event, arrival, adjusted, stamped, stampedFor}
 use Rattle.rules.specs.Refusals.{passing, refuse, verdict}
 use Rattle.rules.specs.Run.{step}
-use Rattle.rules.proofs.Facts.{Sound, Lawful, lawful-is, any-orderly}
+use Rattle.rules.proofs.Facts.{lawful-is}
 use Rattle.rules.proofs.Settings.{adjusted-settings, same-count, same-owner}
 use Rattle.rules.specs.declared.Gate.{Gate}
-use Rattle.rules.specs.declared.Refusal.the-variants.{IdInUse, NoRoom, TagAboveCeiling}
-use Rattle.table.specs.View.{guestForm, requestForm, guestsOf, waitingOf, tableOf, Known}
+use Rattle.rules.specs.declared.Refusal.the-variants.{TagAboveCeiling}
+use Rattle.table.specs.View.{guestForm, requestForm, guestsOf, tableOf, Known}
 use Rattle.table.specs.ViewLaws.{guest-exact, request-exact}
 use Rattle.moves.specs.Moves.{appended, followed}
 use Rattle.table.specs.Stamp.{lawfulTags, movesFit}
-use Rattle.walks.specs.Survey.{idleIn, highest}
-use Rattle.moves.specs.Shares.{TagsMove, NextsMove, movedTags, movedNexts}
-use Rattle.moves.specs.SharesLaws.{adjusted-is}
-use Rattle.moves.specs.MovableLaws.{tags-movable, nexts-movable}
-use Rattle.moves.specs.Passing.{passing-is, lowest-highest, highest-fits}
+use Rattle.walks.specs.Survey.{highest}
+use Rattle.moves.specs.Passing.{passing-is}
 use Rattle.step.specs.declared.arrive.Stamp.{Stamp}
 use Rattle.step.specs.Does.{does, placedGate}
-use Rattle.step.specs.Arrive.{stampOf, requestOf, Timely, Ready, PlacedKnown, Placeable}
+use Rattle.step.specs.Arrive.{stampOf, requestOf, Ready, PlacedKnown, Placeable}
 use Rattle.step.proofs.Facts.{Facts, facts, guest-is}
 use Rattle.step.proofs.Arrivals.{arrival-known, arrival-moves, arrival-passing}
 

@@ -1,22 +1,20 @@
 -- An accepted event enters the tables, and then the choice is made: together a step. A refused one leaves all as it stood. Assumes nothing.
 use Prim.Native.Nat.{ℕ}
 use mathlib.Core.Path.{_≡_, refl, sym, ap, _∙_, subst}
-use mathlib.Core.Bool.{Bool, true, false, false≢true}
+use mathlib.Core.Bool.{Bool, true, false≢true}
 use mathlib.Core.List.{List}
 use lib.Dec.{ltb}
-use lib.ListN.{length}
 use Rattle.rules.specs.Tables.{Table, Flight}
 use Rattle.rules.specs.Sound.{sound}
-use Rattle.rules.specs.Choice.{Result, choice}
+use Rattle.rules.specs.Choice.{choice}
 use Rattle.rules.specs.Events.{Event, enter}
 use Rattle.rules.specs.Refusals.{Verdict, accept, refuse, verdict, isAccept, accepted}
 use Rattle.rules.specs.Run.{decided, step}
-use Rattle.rules.proofs.Settings.{SameSettings, enter-settings, choice-settings}
+use Rattle.rules.proofs.Settings.{enter-settings, choice-settings}
 use Rattle.rules.specs.declared.Gate.{Gate}
 use Rattle.rules.specs.declared.Refusal.{Refusal}
-use Rattle.rules.specs.declared.Answer.{Answer}
 use Rattle.rules.specs.declared.Answer.the-variants.{Refused}
-use Rattle.table.specs.View.{tableOf, gateOf, handed, identified, Known}
+use Rattle.table.specs.View.{tableOf, handed, Known}
 use Rattle.step.specs.Does.{Lent, written, does}
 use Rattle.step.proofs.Lens.{Room, written-shown, written-known, handed-again, known-room, known-written, handed-written}
 use Rattle.step.proofs.Ids.{Brings, enter-all}

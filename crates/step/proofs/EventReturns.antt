@@ -1,6 +1,6 @@
 -- What the functions of the events know at their calls and at their ends, from what their callees ensure. Assumes nothing.
-use Prim.Native.Nat.{ℕ, _+_, _-_, _*_, _≤_, _<_}
-use mathlib.Core.Path.{_≡_, refl, sym, ap, _∙_, subst}
+use Prim.Native.Nat.{ℕ, _*_, _≤_, _<_}
+use mathlib.Core.Path.{_≡_, sym, ap, _∙_, subst}
 use mathlib.Core.List.{List}
 use native.Mathlib.Omega.{arith}
 use lib.ListN.{length}
@@ -14,7 +14,7 @@ use Rattle.rules.specs.declared.Gate.{Gate}
 use Rattle.rules.specs.declared.Refusal.{Refusal}
 use Rattle.rules.specs.declared.Refusal.the-variants.{NotInFlight}
 use Rattle.rules.specs.declared.Outcome.{Outcome}
-use Rattle.table.specs.View.{tableOf, Handed, Known}
+use Rattle.table.specs.View.{tableOf, Known}
 use Rattle.moves.specs.Moves.{freed}
 use Rattle.walks.specs.Walks.{Finds}
 use Rattle.walks.specs.declared.Found.{Found}

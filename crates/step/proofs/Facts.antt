@@ -1,8 +1,8 @@
 -- What a known table gives the functions, as facts about its numbers. Assumes nothing.
 use Prim.Native.Nat.{ℕ, _+_, _*_, _≤_, _<_}
-use mathlib.Core.Path.{_≡_, refl, sym, ap, _∙_}
-use mathlib.Core.Bool.{Bool, true, false, not, _&&_, _||_}
-use mathlib.Core.List.{List, map, _++_}
+use mathlib.Core.Path.{_≡_, sym, ap, _∙_}
+use mathlib.Core.Bool.{true, not, _&&_, _||_}
+use mathlib.Core.List.{List, map}
 use native.Mathlib.Omega.{arith}
 use lib.Dec.{ltb, leb}
 use lib.ListN.{length, getD}
@@ -12,12 +12,12 @@ use Rattle.lists.specs.WordsLaws.{both, all-at, all-parts, all-of-map}
 use Rattle.lists.specs.Lines.{lineAt}
 use Rattle.lists.specs.RowsLaws.{length-rows, row-at}
 use Rattle.rules.specs.Numbers.{ceiling, within}
-use Rattle.rules.specs.Tables.{Settings, Guest, Request, Flight, Table, limited, nobodys, owner, name, names}
+use Rattle.rules.specs.Tables.{Settings, Request, Table, limited, nobodys, owner, name}
 use Rattle.rules.specs.Sound.{counted, settled, ranges, lawful}
 use Rattle.rules.specs.Chosen.{blank, at}
 use Rattle.rules.proofs.Facts.{Sound, sound-is, Lawful, lawful-is, waiting-known}
 use Rattle.rules.specs.declared.Gate.{Gate}
-use Rattle.table.specs.View.{guestForm, requestForm, flightForm, guestsOf, waitingOf, flightsOf, tableOf, identified, Known}
+use Rattle.table.specs.View.{guestForm, requestForm, flightForm, guestsOf, waitingOf, tableOf, Known}
 
 -- depth, guests and capacity as document 01 bounds them
 pub record Counted (d n c : ℕ) : Type 0 where

@@ -1,14 +1,13 @@
 -- A test that every name in a table passes, passes after a step too: a step brings only the name that arrives. Assumes nothing.
 use Prim.Native.Nat.{ℕ}
-use mathlib.Core.Path.{_≡_, refl, sym, ap, _∙_}
-use mathlib.Core.Bool.{Bool, true, false, _&&_}
+use mathlib.Core.Path.{_≡_, refl, ap, _∙_}
+use mathlib.Core.Bool.{Bool, true, false}
 use mathlib.Core.List.{List, [], _∷_, _++_, map}
-use lib.ListN.{length}
 use Rattle.lists.specs.Words.{if_then_else_, all, without}
 use Rattle.lists.specs.WordsLaws.{join, all-append, all-parts, all-mid, all-without, map-append}
 use Rattle.rules.specs.Tables.{Request, Flight, Table, idle, name, same, names}
-use Rattle.rules.specs.Choice.{Result, Pick, nobody, picked, least, due, open?, sending, dropped, byWeight, byReservation, room, choice}
-use Rattle.rules.specs.Events.{Arriving, Event, arrival, completion, tick, calledBy, adjusted, stamped, stampedFor, placed, arriveAs, arrive, complete, wait, enter}
+use Rattle.rules.specs.Choice.{Pick, nobody, picked, least, due, open?, sending, byWeight, byReservation, room, choice}
+use Rattle.rules.specs.Events.{Event, arrival, completion, tick, calledBy, adjusted, stamped, stampedFor, placed, arriveAs, arrive, complete, wait, enter}
 use Rattle.rules.specs.declared.Answer.the-variants.{Nothing}
 use Rattle.rules.proofs.Picks.{Between, Split, splits}
 use Rattle.rules.proofs.Drops.{dropped-names}

@@ -1,21 +1,21 @@
 -- A table written over lent numbers is shown by them again, and is known as before. Assumes nothing.
 use Prim.Native.Nat.{ℕ, _*_, _≤_}
-use mathlib.Core.Path.{_≡_, refl, sym, ap, _∙_, subst}
+use mathlib.Core.Path.{_≡_, sym, ap, _∙_}
 use mathlib.Core.Bool.{true}
 use mathlib.Core.List.{List}
 use native.Mathlib.Omega.{arith}
 use lib.ListN.{length}
-use Rattle.lists.specs.Rows.{Form, rowsOf, overRows, Exact}
+use Rattle.lists.specs.Rows.{overRows}
 use Rattle.lists.specs.RowsLaws.{length-rows, length-over-rows, rows-over, over-twice, over-unused, over-same, all-used}
-use Rattle.rules.specs.Tables.{Guest, Request, Flight, Table}
+use Rattle.rules.specs.Tables.{Table}
 use Rattle.rules.specs.Sound.{sound}
 use Rattle.rules.specs.Choice.{Result}
 use Rattle.rules.proofs.Facts.{sound-is}
 use Rattle.rules.proofs.Settings.{SameSettings, same-count}
 use Rattle.rules.specs.declared.Gate.{Gate}
 use Rattle.rules.specs.declared.Answer.{Answer}
-use Rattle.table.specs.View.{guestForm, requestForm, flightForm, guestsOf, waitingOf, flightsOf, tableOf, gateOf, Handed, handed, identified, Whole, Known}
-use Rattle.step.specs.Does.{Lent, written}
+use Rattle.table.specs.View.{guestForm, requestForm, flightForm, guestsOf, tableOf, gateOf, handed, identified, Known}
+use Rattle.step.specs.Does.{written}
 use Rattle.table.specs.ViewLaws.{guest-exact, request-exact, flight-exact}
 
 -- the lent tables have room for what the table u needs

@@ -1,27 +1,27 @@
 -- What the walks and the moves of the choice ask, from a known table; and what the walks find, as the phases pick. Assumes nothing.
-use Prim.Native.Nat.{ℕ, zero, suc, _+_, _-_, _*_, _≤_, _<_}
+use Prim.Native.Nat.{ℕ, _+_, _-_, _*_, _≤_, _<_}
 use mathlib.Core.Path.{_≡_, refl, sym, ap, _∙_}
-use mathlib.Core.Bool.{Bool, true, false, not, _&&_, and-true}
-use mathlib.Core.List.{List, [], _∷_}
+use mathlib.Core.Bool.{true, false, and-true}
+use mathlib.Core.List.{List}
 use native.Mathlib.Omega.{arith}
 use lib.Dec.{leb, eqb}
 use lib.ListN.{length, getD}
 use borrow.Author.Tests.{eq-eqb, eqb-true}
-use Rattle.lists.specs.Words.{if_then_else_, all, filter}
+use Rattle.lists.specs.Words.{all}
 use Rattle.lists.specs.WordsLaws.{both, all-passing-at}
 use Rattle.lists.specs.Lines.{lineAt}
-use Rattle.lists.specs.RowsLaws.{length-rows, row-at}
+use Rattle.lists.specs.RowsLaws.{row-at}
 use Rattle.rules.specs.Numbers.{ceiling, down}
 use Rattle.rules.specs.Tables.{Guest, Request, Table, limited, lspacing, owner, settingsOf, of, mine}
 use Rattle.rules.specs.Sound.{kept}
-use Rattle.rules.specs.Choice.{least, dueAt, openAt, passes, due, open?, dropOf}
+use Rattle.rules.specs.Choice.{dueAt, passes, due, open?, dropOf}
 use Rattle.rules.specs.Chosen.{blank, at}
-use Rattle.rules.proofs.Facts.{Sound, Orderly, orderly-is, any-orderly}
+use Rattle.rules.proofs.Facts.{orderly-is, any-orderly}
 use Rattle.rules.proofs.WeightFits.{weight-fits}
 use Rattle.rules.specs.declared.Gate.{Gate}
-use Rattle.table.specs.View.{guestForm, requestForm, guestsOf, waitingOf, tableOf, Known}
+use Rattle.table.specs.View.{guestForm, requestForm, guestsOf, tableOf, Known}
 use Rattle.walks.specs.LeastLaws.{least-ext, open-by-tag}
-use Rattle.moves.specs.Moves.{gone, spacingOf}
+use Rattle.moves.specs.Moves.{spacingOf}
 use Rattle.walks.specs.Walks.{Picks, Owned, Rising, SharesFit}
 use Rattle.walks.specs.declared.Found.{Found}
 use Rattle.walks.specs.declared.Found.the-variants.{At}

@@ -1,7 +1,6 @@
 -- What the functions of the choice know at their calls and at their ends, from what their callees ensure. Assumes nothing.
 use Prim.Native.Nat.{ℕ, _+_, _-_, _*_, _≤_, _<_}
-use mathlib.Core.Path.{_≡_, refl, sym, ap, _∙_, subst}
-use mathlib.Core.Bool.{Bool}
+use mathlib.Core.Path.{_≡_, sym, ap, _∙_, subst}
 use mathlib.Core.List.{List}
 use native.Mathlib.Omega.{arith}
 use lib.Dec.{leb}
@@ -22,7 +21,7 @@ use Rattle.step.specs.Does.{does, weightPhase, reservationPhase, sentGat
 use Rattle.step.proofs.Facts.{facts}
 use Rattle.step.proofs.Sends.{found-at, reservation-sent, weight-none, reservation-none}
 use Rattle.step.proofs.WeightSend.{weight-sent}
-use Rattle.step.proofs.Phases.{due-picks, open-picks, send-asks, sent-asks, drop-asks}
+use Rattle.step.proofs.Phases.{due-picks, open-picks, drop-asks}
 
 module _ (g : Gate) (gs ws fs : List ℕ) (k : Known g gs ws fs) where
   abbrev t : Table

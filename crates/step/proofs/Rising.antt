@@ -1,23 +1,23 @@
 -- In a known table no later row of a guest has a smaller tag of any kind: what lets the walk of the choice look at the first row of each guest
 -- alone. Assumes nothing.
 use Prim.Native.Nat.{ℕ, zero, suc, _+_, _*_, _≤_, _<_}
-use mathlib.Core.Path.{_≡_, refl, sym, ap, _∙_}
+use mathlib.Core.Path.{_≡_, refl, ap, _∙_}
 use mathlib.Core.Bool.{Bool, true, false, _&&_}
 use mathlib.Core.List.{List, [], _∷_}
 use native.Mathlib.Omega.{arith}
 use lib.Dec.{leb, eqb}
 use lib.ListN.{length, getD}
 use borrow.Author.Tests.{eq-eqb, eqb-true, leb-true}
-use Rattle.lists.specs.Words.{if_then_else_, all, filter}
+use Rattle.lists.specs.Words.{if_then_else_, all}
 use Rattle.lists.specs.WordsLaws.{both, all-passing-at}
 use Rattle.lists.specs.RowsLaws.{length-rows}
 use Rattle.rules.specs.Tables.{Request, Table, reserved, limited, rspacing, lspacing, sspacing, owner, of, mine}
 use Rattle.rules.specs.Sound.{kept}
 use Rattle.rules.specs.Chosen.{blank, at}
 use Rattle.rules.proofs.Chains.{rising, kept-rising}
-use Rattle.rules.proofs.Facts.{Orderly, orderly-is, any-orderly}
+use Rattle.rules.proofs.Facts.{orderly-is, any-orderly}
 use Rattle.rules.specs.declared.Gate.{Gate}
-use Rattle.table.specs.View.{requestForm, waitingOf, tableOf, Known}
+use Rattle.table.specs.View.{requestForm, tableOf, Known}
 use Rattle.walks.specs.Walks.{Rising}
 use Rattle.step.proofs.Facts.{facts, row-is}
 

@@ -1,7 +1,7 @@
 -- A send by reservation over the lent numbers is the one of the definitions; and what the choice leaves where nothing is sent. Assumes nothing.
 use Prim.Native.Nat.{ℕ, _+_, _-_, _*_, _≤_, _<_}
 use mathlib.Core.Path.{_≡_, refl, sym, ap, _∙_}
-use mathlib.Core.Bool.{Bool, true, false, _&&_}
+use mathlib.Core.Bool.{Bool}
 use mathlib.Core.List.{List, [], _∷_, _++_}
 use native.Mathlib.Omega.{arith}
 use lib.ListN.{length, getD, length-append}
@@ -9,23 +9,22 @@ use borrow.Author.Tests.{lt-ltb, le-ltb}
 use Rattle.lists.specs.Tab.{removeAt, length-removeAt}
 use Rattle.lists.specs.Rows.{overRows}
 use Rattle.lists.specs.RowsLaws.{length-rows, over-same, all-used}
-use Rattle.rules.specs.Tables.{Request, Flight, Table, name}
-use Rattle.rules.specs.Choice.{Result, least, due, open?, sending, byReservation, byWeight, room, choice}
+use Rattle.rules.specs.Tables.{Request, Table, name}
+use Rattle.rules.specs.Choice.{due, open?, sending, byReservation, byWeight, room, choice}
 use Rattle.rules.specs.Chosen.{at}
 use Rattle.rules.specs.declared.Gate.{Gate}
-use Rattle.rules.specs.declared.Answer.{Answer}
 use Rattle.rules.specs.declared.Answer.the-variants.{Nothing, Sent}
 use Rattle.rules.specs.declared.Phase.the-variants.{Reservation}
-use Rattle.table.specs.View.{guestForm, requestForm, flightForm, guestsOf, waitingOf, flightsOf, tableOf, handed, Known}
+use Rattle.table.specs.View.{guestForm, requestForm, flightForm, tableOf, handed, Known}
 use Rattle.table.specs.ViewLaws.{guest-exact}
-use Rattle.moves.specs.Moves.{gone, joined, Named}
+use Rattle.moves.specs.Moves.{gone, joined}
 use Rattle.moves.specs.MovesLaws.{gone-is, joined-is}
 use Rattle.walks.specs.Walks.{Picks}
 use Rattle.walks.specs.declared.Found.{Found}
 use Rattle.walks.specs.declared.Found.the-variants.{At, Nothing as NoPlace}
-use Rattle.step.specs.Does.{Lent, written, does, weightPhase, reservationPhase, sentGate}
+use Rattle.step.specs.Does.{written, does, weightPhase, reservationPhase, sentGate}
 use Rattle.step.proofs.Lens.{known-written, handed-written}
-use Rattle.step.proofs.Facts.{Facts, facts, row-is}
+use Rattle.step.proofs.Facts.{facts, row-is}
 
 module _ (g : Gate) (gs ws fs : List ℕ) (k : Known g gs ws fs) where
   abbrev t : Table

@@ -1,17 +1,17 @@
 -- A tick and a completion of a known table: each refusal, and what enters before the choice. Assumes nothing.
-use Prim.Native.Nat.{ℕ, _+_, _-_, _*_, _≤_, _<_}
-use mathlib.Core.Path.{_≡_, refl, sym, ap, _∙_}
-use mathlib.Core.Bool.{Bool, true, false, not}
-use mathlib.Core.List.{List, [], _∷_}
+use Prim.Native.Nat.{ℕ, _-_, _≤_, _<_}
+use mathlib.Core.Path.{_≡_, sym, ap, _∙_}
+use mathlib.Core.Bool.{true}
+use mathlib.Core.List.{List}
 use native.Mathlib.Omega.{arith}
 use lib.ListN.{length}
 use borrow.Author.Tests.{lt-ltb, le-ltb, le-leb, lt-leb}
-use Rattle.lists.specs.Words.{if_then_else_, without}
-use Rattle.lists.specs.Tab.{removeAt, length-removeAt}
+use Rattle.lists.specs.Words.{without}
+use Rattle.lists.specs.Tab.{length-removeAt}
 use Rattle.lists.specs.Rows.{overRows}
 use Rattle.lists.specs.RowsLaws.{length-rows}
 use Rattle.rules.specs.Numbers.{ceiling}
-use Rattle.rules.specs.Tables.{Flight, Table, same, lacks}
+use Rattle.rules.specs.Tables.{Flight, Table, same}
 use Rattle.rules.specs.Sound.{sound}
 use Rattle.rules.specs.Choice.{choice}
 use Rattle.rules.specs.Events.{Event, completion, tick, complete, wait, enter}
@@ -21,7 +21,7 @@ use Rattle.rules.proofs.Facts.{is-sound}
 use Rattle.rules.proofs.EnterSound.{enter-sound}
 use Rattle.rules.specs.declared.Gate.{Gate}
 use Rattle.rules.specs.declared.Refusal.the-variants.{UnknownGuest, TimeAboveCeiling, TimeBeforeLast, NotInFlight}
-use Rattle.table.specs.View.{guestForm, requestForm, flightForm, tableOf, Known}
+use Rattle.table.specs.View.{guestForm, flightForm, tableOf, Known}
 use Rattle.walks.specs.Walks.{Finds}
 use Rattle.moves.specs.Moves.{freed}
 use Rattle.moves.specs.MovesLaws.{freed-is}
@@ -29,7 +29,7 @@ use Rattle.walks.specs.declared.Found.the-variants.{At, Nothing as NoPlace}
 use Rattle.step.specs.Does.{written, does, timedGate, freedGate}
 use Rattle.step.proofs.Lens.{known-written}
 use Rattle.step.proofs.Enter.{entered-known, entered-moves}
-use Rattle.step.proofs.Facts.{Facts, facts}
+use Rattle.step.proofs.Facts.{facts}
 
 module _ (g : Gate) (gs ws fs : List ℕ) (k : Known g gs ws fs) (now : ℕ) where
   abbrev t : Table

@@ -1,19 +1,18 @@
 -- A send by weight over the lent numbers, with the drop behind it, is the one of the definitions. Assumes nothing.
 use Prim.Native.Nat.{ℕ, _+_, _-_, _*_, _≤_, _<_}
 use mathlib.Core.Path.{_≡_, refl, sym, ap, _∙_, subst}
-use mathlib.Core.Bool.{Bool, true, false}
 use mathlib.Core.List.{List}
 use native.Mathlib.Omega.{arith}
-use lib.ListN.{length, getD, length-map, length-set}
+use lib.ListN.{length, length-map, length-set}
 use Rattle.lists.specs.Words.{if_then_else_}
-use Rattle.lists.specs.Rows.{rowsOf, overRows, Unused}
+use Rattle.lists.specs.Rows.{overRows, Unused}
 use Rattle.lists.specs.RowsLaws.{length-rows, length-over-rows, rows-over, over-twice, over-unused}
 use Rattle.rules.specs.Tables.{Request, Table, of, owner}
-use Rattle.rules.specs.Choice.{least, open?, sending, earlier, sooner, dropOf, dropped, byWeight}
+use Rattle.rules.specs.Choice.{open?, sending, earlier, sooner, dropOf, dropped, byWeight}
 use Rattle.rules.specs.declared.Gate.{Gate}
 use Rattle.rules.specs.declared.Answer.the-variants.{Sent}
 use Rattle.rules.specs.declared.Phase.the-variants.{Weight}
-use Rattle.table.specs.View.{guestForm, requestForm, waitingOf, tableOf, handed, Known}
+use Rattle.table.specs.View.{guestForm, requestForm, waitingOf, tableOf, Known}
 use Rattle.table.specs.ViewLaws.{request-exact}
 use Rattle.moves.specs.Moves.{gone, joined, spacingOf, nextDropped, tagsDropped}
 use Rattle.moves.specs.MovesLaws.{gone-is}
@@ -22,7 +21,7 @@ use Rattle.walks.specs.Walks.{Picks}
 use Rattle.walks.specs.declared.Found.the-variants.{At}
 use Rattle.step.specs.Does.{written, does, weightPhase, sentGate}
 use Rattle.step.proofs.Lens.{handed-written}
-use Rattle.step.proofs.Facts.{Facts, facts}
+use Rattle.step.proofs.Facts.{facts}
 use Rattle.step.proofs.Sends.{goes, stay, goesGuest, goesId, guest-goes, id-goes, length-stay, sent-written}
 
 module _ (g : Gate) (gs ws fs : List ℕ) (k : Known g gs ws fs) (free : g .flight < g .depth) (place : ℕ) (here : place < g .waiting) where

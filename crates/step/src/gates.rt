@@ -6,7 +6,7 @@ use rules::Phase;
 use rules::Refusal;
 ghost use mathlib.Core.Path.{_≡_};
 ghost use Prim.Native.Nat.{_≤_, _<_};
-ghost use Rattle.step.specs.Does.{sentGate, timedGate, freedGate, placedGate, refusing, sending};
+ghost use Rattle.step.specs.Does.{timedGate, freedGate, placedGate, refusing, sending};
 
 // A refusal leaves the gate as it stood.
 pub fn refused(gate: Gate, why: Refusal) -> Outcome

@@ -1,8 +1,7 @@
 -- The forms of the three tables are exact, and the view and the way back are inverse where the table is whole. Assumes nothing.
-use Prim.Native.Nat.{ℕ, _*_, _≤_}
-use mathlib.Core.Path.{_≡_, refl}
+use mathlib.Core.Path.{refl}
 use lib.Dec.{lit<}
-use Rattle.lists.specs.Rows.{Form, Exact}
+use Rattle.lists.specs.Rows.{Exact}
 use Rattle.table.specs.View.{settingsForm, guestForm, requestForm, flightForm}
 
 pub settings-exact : Exact settingsForm

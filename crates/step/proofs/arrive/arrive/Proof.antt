@@ -1,5 +1,3 @@
-use mathlib.Core.Path.{_≡_, refl, sym, _∙_}
-use mathlib.Core.Bool.{true, false}
 use Rattle.rules.specs.Events.{Event}
 use Rattle.rules.specs.declared.Refusal.the-variants.{UnknownGuest, TimeAboveCeiling, TimeBeforeLast, IdInUse}
 use Rattle.step.proofs.Phases.{rows-ask}

@@ -1,12 +1,9 @@
-use mathlib.Core.Path.{_≡_, refl, sym, _∙_, ap}
-use mathlib.Core.Bool.{true, false}
-use Prim.Native.Nat.{_+_, _-_, _≤_, _<_}
+use mathlib.Core.Path.{sym, _∙_}
+use mathlib.Core.Bool.{true}
 use native.Mathlib.Omega.{arith}
-use borrow.Author.Tests.{not-true, not-false, le-leb, lt-leb}
-use Rattle.rules.specs.Numbers.{ceiling}
+use borrow.Author.Tests.{not-true, not-false}
 use Rattle.rules.specs.Events.{Event}
 use Rattle.rules.specs.declared.Refusal.the-variants.{TagAboveCeiling}
-use Rattle.table.specs.Stamp.{movesFit}
 use Rattle.step.proofs.Phases.{rows-ask}
 use Rattle.step.proofs.EventReturns.{refused-returns}
 use Rattle.step.proofs.ArriveReturns.{stamp-passes, move-passes, ready-known, ready-moves, placeable}

@@ -1,8 +1,4 @@
-use mathlib.Core.Path.{_≡_, sym, ap, _∙_, subst}
-use mathlib.Core.List.{List}
-use Prim.Native.Nat.{ℕ}
-use Rattle.rules.specs.Choice.{choice}
-use Rattle.step.specs.Does.{does}
+use mathlib.Core.Path.{_∙_}
 use Rattle.step.proofs.ArriveReturns.{place-known, place-returns}
 use borrow.Author.Needs.{needs}
 use Rattle.step.proofs.arrive.place.Statement.{statement}

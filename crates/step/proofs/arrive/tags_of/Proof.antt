@@ -1,4 +1,4 @@
-use mathlib.Core.Path.{_≡_, refl}
+use mathlib.Core.Path.{refl}
 use Rattle.lists.specs.Lines.{lineAt}
 use Rattle.table.specs.View.{guestForm}
 use borrow.Author.Needs.{needs}

@@ -1,4 +1,4 @@
-use mathlib.Core.Path.{_≡_, _∙_}
+use mathlib.Core.Path.{_∙_}
 use native.Mathlib.Omega.{arith}
 use Rattle.step.proofs.Phases.{line-asks, send-asks, sent-asks}
 use Rattle.step.proofs.Returns.{narrow-id, due-here, reservation-returns, none-due}

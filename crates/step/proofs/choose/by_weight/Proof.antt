@@ -1,4 +1,3 @@
-use mathlib.Core.Path.{_≡_}
 use native.Mathlib.Omega.{arith}
 use Rattle.step.proofs.Phases.{send-asks, sent-asks}
 use Rattle.step.proofs.Returns.{narrow-id, open-here, drop-asked, weight-returns, none-open}

@@ -1,4 +1,4 @@
-use mathlib.Core.Path.{_≡_, _∙_}
+use mathlib.Core.Path.{_∙_}
 use Rattle.step.proofs.Sends.{choice-room, choice-full}
 use borrow.Author.Needs.{needs}
 use Rattle.step.proofs.choose.choose.Statement.{statement}

@@ -1,4 +1,4 @@
-use mathlib.Core.Path.{_≡_, _∙_}
+use mathlib.Core.Path.{_∙_}
 use native.Mathlib.Omega.{arith}
 use Rattle.rules.specs.Events.{Event}
 use Rattle.rules.specs.declared.Refusal.the-variants.{UnknownGuest, TimeAboveCeiling, TimeBeforeLast, NotInFlight}
