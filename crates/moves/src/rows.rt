@@ -1,5 +1,18 @@
 // The moves that write the lent tables: send, take out, append, drop, follow, start and clear. Each contract says what becomes of the
 // numbers; MovesLaws, DropLaws and FollowLaws in specs/ say which lists of document 01 they then show.
+use table::columns::GUEST;
+use table::columns::ID;
+use table::columns::LIMIT;
+use table::columns::LNEXT;
+use table::columns::LTAG;
+use table::columns::RESERVATION;
+use table::columns::RNEXT;
+use table::columns::RTAG;
+use table::columns::SHARES;
+use table::columns::SNEXT;
+use table::columns::STAG;
+use table::numbers::spacing_down;
+use table::numbers::spacing_up;
 ghost use mathlib.Core.Path.{_≡_};
 ghost use Prim.Native.Nat.{ℕ, _+_, _-_, _*_, _≤_, _<_};
 ghost use lib.Dec.{eqb};
@@ -7,30 +20,6 @@ ghost use lib.ListN.{length, getD};
 ghost use Rattle.lists.specs.Parts.{closed, zeros};
 ghost use Rattle.lists.specs.Lines.{whether};
 ghost use Rattle.moves.specs.Moves.{gone, joined, Named, freed, appended, spacingOf, nextDropped, tagsDropped, followed, started};
-use table::numbers::spacing_down;
-use table::numbers::spacing_up;
-
-const RESERVATION: usize = 0;
-
-const LIMIT: usize = 1;
-
-const SHARES: usize = 2;
-
-const RNEXT: usize = 3;
-
-const LNEXT: usize = 4;
-
-const SNEXT: usize = 5;
-
-const GUEST: usize = 0;
-
-const ID: usize = 1;
-
-const RTAG: usize = 2;
-
-const LTAG: usize = 3;
-
-const STAG: usize = 4;
 
 // The first row of `tail`, of `wide` numbers, goes; each later one moves down a place, and the last becomes zeros.
 pub fn close_up(tail: &mut [u64], wide: usize)

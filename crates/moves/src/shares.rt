@@ -1,5 +1,8 @@
 // The settling of the shares when an idle guest's request arrives: every waiting share tag, and the next share number of every guest with
 // something waiting, moves by time − m, up or down. One pass over the waiting rows and one over the guests.
+use table::columns::GUEST;
+use table::columns::SNEXT;
+use table::columns::STAG;
 ghost use mathlib.Core.Path.{_≡_};
 ghost use Prim.Native.Nat.{ℕ, _*_, _+_, _-_, _≤_, _<_};
 ghost use mathlib.Core.Bool.{false};
@@ -7,12 +10,6 @@ ghost use lib.Dec.{eqb};
 ghost use lib.ListN.{length, getD};
 ghost use Rattle.walks.specs.Survey.{idleIn};
 ghost use Rattle.moves.specs.Shares.{Movable, TagsMove, NextsMove, Marked, movedTags, movedUnless, movedNexts};
-
-const GUEST: usize = 0;
-
-const STAG: usize = 4;
-
-const SNEXT: usize = 5;
 
 // A share number moved by time − m, up or down.
 fn moved(x: u64, time: u64, m: u64) -> u64

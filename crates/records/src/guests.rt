@@ -1,6 +1,12 @@
 // The thin functions over a lent slice of guest records. Only `read` and `write` touch the slice, one record each; a record's six numbers
 // stand in a lent list of numbers, a row for each record.
 use rules::Guest;
+use table::columns::LIMIT;
+use table::columns::LNEXT;
+use table::columns::RESERVATION;
+use table::columns::RNEXT;
+use table::columns::SHARES;
+use table::columns::SNEXT;
 ghost use mathlib.Core.Path.{_≡_};
 ghost use mathlib.Core.List.{_++_};
 ghost use Prim.Native.Nat.{_+_, _*_, _≤_, _<_, min};
@@ -9,19 +15,6 @@ ghost use Rattle.lists.specs.Stores.{stores};
 ghost use Rattle.lists.specs.Lines.{lineAt};
 ghost use Rattle.lists.specs.Rows.{rowsOf, overRows};
 ghost use Rattle.records.specs.Records.{recordForm, blank, inUse};
-
-// Where the numbers of a record stand in its row.
-const RESERVATION: usize = 0;
-
-const LIMIT: usize = 1;
-
-const SHARES: usize = 2;
-
-const RNEXT: usize = 3;
-
-const LNEXT: usize = 4;
-
-const SNEXT: usize = 5;
 
 // The smaller of two numbers.
 pub fn least(a: usize, b: usize) -> usize

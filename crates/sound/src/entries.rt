@@ -1,4 +1,10 @@
 // Whether each request, by itself, is one: its guest exists, its id has 32 bits, its tags are at most the ceiling.
+use table::columns::GUEST;
+use table::columns::ID;
+use table::columns::LTAG;
+use table::columns::RTAG;
+use table::columns::STAG;
+use table::numbers::CEILING;
 ghost use mathlib.Core.Path.{_≡_};
 ghost use Prim.Native.Nat.{_*_, _≤_};
 ghost use lib.ListN.{length};
@@ -8,20 +14,6 @@ ghost use Rattle.rules.specs.Sound.{lawful};
 ghost use Rattle.table.specs.View.{waitingOf, flightsOf};
 ghost use Rattle.table.specs.Stamp.{lawfulTags};
 ghost use Rattle.sound.specs.Tests.{named, nameIs};
-
-// The most that a time or a tag may be.
-pub const CEILING: u64 = 4611686018427387903;
-
-// Where the numbers of a waiting request stand in its row; a request in flight has the first two.
-const GUEST: usize = 0;
-
-const ID: usize = 1;
-
-const RTAG: usize = 2;
-
-const LTAG: usize = 3;
-
-const STAG: usize = 4;
 
 // One request's name: of `known` guests its guest exists, and its id has 32 bits.
 fn is_named(guest: u64, id: u64, known: u64) -> bool

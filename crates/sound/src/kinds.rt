@@ -1,4 +1,5 @@
 // One kind of tag at a time: the spacing within each guest, and the next numbers. Kinds are 0 reservation, 1 limit, 2 shares.
+use table::columns::GUEST;
 use table::numbers::spacing_down;
 use table::numbers::spacing_up;
 ghost use mathlib.Core.Path.{_≡_};
@@ -17,9 +18,7 @@ const LIMIT: usize = 1;
 
 const SHARES: usize = 2;
 
-// Where the guest of a request stands in its row, and its first tag; and in a guest's row its first next number.
-const GUEST: usize = 0;
-
+// Where a request's first tag stands in its row, and in a guest's row its first next number.
 const TAGS: usize = 2;
 
 const NEXTS: usize = 3;

@@ -6,7 +6,6 @@ pub mod pairs; // no request twice
 pub mod kinds; // the spacing within each guest, and the next numbers
 pub mod unused; // the places past the counts
 
-use entries::CEILING;
 use entries::all_flown;
 use entries::all_lawful;
 use entries::all_named;
@@ -14,6 +13,7 @@ use kinds::all_orderly;
 use pairs::all_once;
 use rules::Gate;
 use settings::all_settled;
+use table::numbers::CEILING;
 use unused::is_clear;
 ghost use mathlib.Core.Path.{_≡_};
 ghost use Rattle.table.specs.View.{soundNumbers};

@@ -1,13 +1,10 @@
 // Whether no guest has one id twice, among waiting requests (five numbers each) and requests in flight (two numbers each).
+use table::columns::GUEST;
+use table::columns::ID;
 ghost use mathlib.Core.Path.{_≡_};
 ghost use Prim.Native.Nat.{_+_, _*_, _<_};
 ghost use Rattle.rules.specs.Sound.{distinct};
 ghost use Rattle.sound.specs.Names.{Rooms, namesOf, partAt, bucketOf};
-
-// Where the guest and the id of a request stand in its row.
-const GUEST: usize = 0;
-
-const ID: usize = 1;
 
 // The guest or the id of request k, counted through the waiting ones and then those in flight.
 fn part_of(waiting: &[u64], count: usize, flight: &[u64], sent: usize, k: usize, part: usize) -> u64

@@ -1,4 +1,7 @@
 // Whether the settings of all guests lie in their ranges.
+use table::columns::LIMIT;
+use table::columns::RESERVATION;
+use table::columns::SHARES;
 use table::ranges::is_settled;
 ghost use mathlib.Core.Path.{_≡_};
 ghost use Prim.Native.Nat.{_*_, _≤_};
@@ -8,13 +11,6 @@ ghost use Rattle.lists.specs.Rows.{rowsOf};
 ghost use Rattle.rules.specs.Sound.{settled};
 ghost use Rattle.table.specs.View.{settingsForm, guestsOf};
 ghost use Rattle.sound.specs.Tests.{settledGuest};
-
-// Where a guest's settings stand in its row.
-const RESERVATION: usize = 0;
-
-const LIMIT: usize = 1;
-
-const SHARES: usize = 2;
 
 // The settings of every guest lie in their ranges, in a list of settings, three numbers a guest.
 pub fn all_settled_list(settings: &[u64], known: usize) -> bool

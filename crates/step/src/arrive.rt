@@ -5,6 +5,12 @@ use crate::gates;
 use rules::Gate;
 use rules::Outcome;
 use rules::Refusal;
+use table::columns::LIMIT;
+use table::columns::LNEXT;
+use table::columns::RESERVATION;
+use table::columns::RNEXT;
+use table::columns::SNEXT;
+use table::numbers::CEILING;
 use walks::Found;
 use walks::survey::Own;
 ghost use mathlib.Core.Path.{_≡_};
@@ -21,18 +27,6 @@ ghost use Rattle.table.specs.View.{guestForm, waitingOf, tableOf, Known};
 ghost use Rattle.moves.specs.Moves.{appended, followed};
 ghost use Rattle.step.specs.Does.{does, placedGate};
 ghost use Rattle.step.specs.Arrive.{stampOf, requestOf, Timely, Ready, PlacedKnown, Placeable};
-
-const CEILING: u64 = 4611686018427387903;
-
-const RESERVATION: usize = 0;
-
-const LIMIT: usize = 1;
-
-const RNEXT: usize = 3;
-
-const LNEXT: usize = 4;
-
-const SNEXT: usize = 5;
 
 // The tags that an arriving request gets.
 pub struct Stamp {

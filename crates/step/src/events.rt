@@ -4,14 +4,13 @@ use crate::gates;
 use rules::Gate;
 use rules::Outcome;
 use rules::Refusal;
+use table::numbers::CEILING;
 use walks::Found;
 ghost use mathlib.Core.Path.{_≡_};
 ghost use Rattle.rules.specs.Events.{Event};
 ghost use Rattle.rules.specs.Run.{step};
 ghost use Rattle.table.specs.View.{Known};
 ghost use Rattle.step.specs.Does.{does};
-
-const CEILING: u64 = 4611686018427387903;
 
 // A tick: only the time moves on before the choice.
 pub fn tick(

@@ -7,7 +7,7 @@ ghost use Rattle.rules.specs.Events.{tagIf, shareTag};
 ghost use Rattle.table.specs.Stamp.{lawfulTags};
 
 // The largest time and the largest tag.
-const CEILING: u64 = 4611686018427387903;
+pub const CEILING: u64 = 4611686018427387903;
 
 // A second over n, rounded down; 0 where n is 0.
 pub fn spacing_down(n: u64) -> u64

@@ -1,6 +1,12 @@
 // The walks over the lent rows that read and change nothing: the request that each phase of the choice would send, and the place of a name
 // in flight.
 use super::Found;
+use table::columns::GUEST;
+use table::columns::ID;
+use table::columns::LTAG;
+use table::columns::RESERVATION;
+use table::columns::RTAG;
+use table::columns::STAG;
 ghost use mathlib.Core.Path.{_≡_};
 ghost use mathlib.Core.Bool.{_&&_};
 ghost use Prim.Native.Nat.{_+_, _*_, _≤_};
@@ -11,18 +17,6 @@ ghost use Rattle.rules.specs.Tables.{Request, settingsOf};
 ghost use Rattle.rules.specs.Choice.{dueAt};
 ghost use Rattle.table.specs.View.{guestsOf, waitingOf, flightsOf};
 ghost use Rattle.walks.specs.Walks.{Picks, Finds, Owned, Rising, SharesFit, placeIn};
-
-const RESERVATION: usize = 0;
-
-const GUEST: usize = 0;
-
-const ID: usize = 1;
-
-const RTAG: usize = 2;
-
-const LTAG: usize = 3;
-
-const STAG: usize = 4;
 
 // One past the ceiling: no share tag is as large.
 const PAST: u64 = 4611686018427387904;

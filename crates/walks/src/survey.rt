@@ -1,4 +1,7 @@
 // What an arrival has to know of the waiting rows: whether its guest has this id, or anything, waiting, and the ends of the share tags.
+use table::columns::GUEST;
+use table::columns::ID;
+use table::columns::STAG;
 ghost use mathlib.Core.Path.{_≡_};
 ghost use mathlib.Core.List.{map};
 ghost use Prim.Native.Nat.{ℕ, _+_, _*_, _≤_, _<_, min, max};
@@ -7,12 +10,6 @@ ghost use Rattle.lists.specs.Words.{lowest};
 ghost use Rattle.rules.specs.Tables.{Request};
 ghost use Rattle.table.specs.View.{waitingOf};
 ghost use Rattle.walks.specs.Survey.{ownOf, tagOf, highest};
-
-const GUEST: usize = 0;
-
-const ID: usize = 1;
-
-const STAG: usize = 4;
 
 // The guest has this id waiting; has something else waiting; has nothing waiting.
 pub enum Own {
