@@ -29,11 +29,12 @@ module _ (g d : ℕ) (xs w : List ℕ) (i : ℕ) (e : w ≡ tagsDropped g d xs i
       stores-next (λ k. k * 5 + 2) (tagDropped g d xs) xs w i (i * 5 + 2) q e refl
       (f ∙ rw (read 0 (omega arith), read 2 (omega arith)))
 
--- a drop by nothing
+-- a tag dropped by nothing
 same-tag : (b : Bool) (x : ℕ) → whether b (x - 0) x ≡ x
 same-tag true x = omega arith
 same-tag false x = refl
 
+-- dropped by nothing, every tag is as it was
 same-tags : (g : ℕ) (ws : List ℕ) (n : ℕ) → ws ≡ tagsDropped g 0 ws n
 unfolding stores
 same-tags g ws zero = refl
@@ -45,13 +46,16 @@ same-tags g ws (suc n) =
 
 -- without a reservation nothing drops
 module _ (g : ℕ) (gs : List ℕ) (none : getD gs (g * 6 + 0) 0 ≡ 0) where
+  -- its spacing is 0
   nothing : spacingOf g gs ≡ 0
   unfolding down
   nothing = rw none
 
+  -- its next number is as it was
   pub no-next-dropped : gs ≡ nextDropped g gs
   no-next-dropped =
       sym (ap (λ (d : ℕ). set gs (g * 6 + 3) (getD gs (g * 6 + 3) 0 - d)) nothing ∙ ap (set gs (g * 6 + 3)) (omega arith) ∙ set-getD gs (g * 6 + 3) 0)
 
+  -- and so are the tags
   pub no-tags-dropped : (ws : List ℕ) (n : ℕ) → ws ≡ tagsDropped g (spacingOf g gs) ws n
   no-tags-dropped ws n = same-tags g ws n ∙ ap (λ (d : ℕ). tagsDropped g d ws n) (sym nothing)

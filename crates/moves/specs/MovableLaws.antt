@@ -23,6 +23,7 @@ use Rattle.moves.specs.Shares.{TagsMove, NextsMove}
 abbrev inside : ℕ → Request → Bool
 inside m q = leb m (q .stag) && leb (q .stag) ceiling
 
+-- tags from m on, of lawful requests
 inside-all : (m : ℕ) (w : List Request) → all (leb m) (map Request.stag w) ≡ true → all lawful w ≡ true → all (inside m) w ≡ true
 unfolding lawful
 inside-all m [] p h = refl
@@ -51,19 +52,22 @@ kept-shares h l e =
     && kept (limited (h .settings)) Request.ltag (lspacing (h .settings)) (lspacing (h .settings)) l (h .lnext))
     (kept true Request.stag (sspacing (h .settings)) (sspacing (h .settings)) l (h .snext)) e .1
 
+-- and of its next share number
 orderly-follows : (h : Guest) (l : List Request) → orderly h l ≡ true → follows Request.stag (sspacing (h .settings)) l (h .snext) ≡ true
 unfolding kept
 orderly-follows h l e = both (apart Request.stag (sspacing (h .settings)) l) (follows Request.stag (sspacing (h .settings)) l (h .snext)) (kept-shares h l e) .1
 
 module _ (gs ws : List ℕ) (known count time : ℕ) (timely : time ≤ ceiling) (fit : all lawful (waitingOf ws count) ≡ true) where
+  -- the smallest share tag that waits
   abbrev m : ℕ
   m = lowest (map Request.stag (waitingOf ws count))
 
+  -- every share tag that waits lies from it to the ceiling
   all-inside : all (inside m) (waitingOf ws count) ≡ true
   all-inside = inside-all m (waitingOf ws count) (lowest-all (map Request.stag (waitingOf ws count)) m (omega arith)) fit
 
   -- every share tag that waits
-  pub tags-movable : TagsMove time (lowest (map Request.stag (waitingOf ws count))) ws count
+  pub tags-movable : TagsMove time m ws count
   tags-movable k h =
       let here = sym (ap (inside m) (row-at requestForm ws count k h)) ∙ all-at (inside m) (waitingOf ws count) (requestForm .read []) all-inside k (omega (arith, length-rows requestForm ws count)) in
       let c = both (leb m (getD ws (k * 5 + 4) 0)) (leb (getD ws (k * 5 + 4) 0) ceiling) here in
@@ -71,7 +75,7 @@ module _ (gs ws : List ℕ) (known count time : ℕ) (timely : time ≤ ceiling)
 
   -- every next share number of a guest with something waiting
   pub nexts-movable : ((g : ℕ) → g < known → orderly (owner (guestsOf gs known) g) (mine g (waitingOf ws count)) ≡ true)
-      → NextsMove time (lowest (map Request.stag (waitingOf ws count))) (idleIn ws count) gs known
+      → NextsMove time m (idleIn ws count) gs known
   nexts-movable ordered g h busy =
       let own : Guest = owner (guestsOf gs known) g in
       let c = follows-inside (own .settings) m (mine g (waitingOf ws count)) (own .snext) (all-filter (inside m) (of g) (waitingOf ws count) all-inside) busy (orderly-follows own (mine g (waitingOf ws count)) (ordered g h)) in

@@ -1,4 +1,4 @@
--- What the functions of src/moves.rt do to the lent numbers. MovesLaws, DropLaws and FollowLaws say which entries the numbers then show.
+-- What the functions of src/rows.rt do to the lent numbers. MovesLaws, DropLaws and FollowLaws say which entries the numbers then show.
 use Prim.Native.Nat.{ℕ, _+_, _-_, _*_}
 use mathlib.Core.Path.{_≡_}
 use mathlib.Core.List.{List, map}

@@ -1,4 +1,4 @@
--- Which entries the numbers show that the functions of src/moves.rt leave: the lists of document 01's definitions, written over what was
+-- Which entries the numbers show that the functions of src/rows.rt leave: the lists of document 01's definitions, written over what was
 -- lent. The rooms suffice, and the unused places are zero.
 -- Assumes nothing.
 use Prim.Native.Nat.{ℕ, _+_, _*_, _≤_, _<_}
@@ -16,8 +16,7 @@ use Rattle.lists.specs.FillLaws.{rows-cleared}
 use Rattle.rules.specs.Tables.{Request, Flight, name}
 use Rattle.table.specs.View.{requestForm, flightForm, waitingOf, flightsOf}
 use Rattle.table.specs.ViewLaws.{request-exact, flight-exact}
-use Rattle.moves.specs.Moves.{gone, joined, Named, freed, appended}
-use Rattle.moves.specs.declared.rows.Name.{Name}
+use Rattle.moves.specs.Moves.{gone, joined, freed, appended}
 
 -- IN FLIGHT
 
@@ -46,27 +45,12 @@ module _ (cap n : ℕ) (ws : List ℕ) (room : cap * 5 ≤ length ws) (unused : 
   pub gone-is : n ≤ cap → (place : ℕ) → place < n → gone place n ws ≡ overRows requestForm cap (removeAt place (waitingOf ws n)) ws
   gone-is fit place here = row-out requestForm request-exact cap n ws room fit unused place here
 
-  -- a request is sent: it goes, its name stands last among those in flight, and it is the one that is answered
-  module _ (depth flying : ℕ) (fs : List ℕ) (places : depth * 2 ≤ length fs) (free : flying < depth) (rest : Unused flightForm depth flying fs) (place : ℕ) (here : place < n) where
-    abbrev sentOne : Request
-    sentOne = getD (waitingOf ws n) place (requestForm .read [])
+-- AT OPENING; what `start` gives the guests, its contract says
 
-    pub sent-is : n ≤ cap → (r : Name) → Named place ws r
-        → (gone place n ws ≡ overRows requestForm cap (removeAt place (waitingOf ws n)) ws)
-        × (joined place flying ws fs ≡ overRows flightForm depth (flightsOf fs flying ++ (name sentOne ∷ [])) fs)
-        × (r .guest ≡ sentOne .guest)
-        × (r .id ≡ sentOne .id)
-    sent-is fit r e = (
-      gone-is fit place here,
-      joined-is depth flying fs places rest free ws n place here,
-      e .0 ∙ ap Request.guest (sym (row-at requestForm ws n place here)),
-      e .1 ∙ ap Request.id (sym (row-at requestForm ws n place here)),
-    )
-
--- AT OPENING nothing waits and nothing is in flight; what `start` gives the guests, its contract says
-
+-- nothing waits
 pub cleared-waiting : (cap : ℕ) (ws : List ℕ) → cap * 5 ≤ length ws → zeros ws (cap * 5) ≡ overRows requestForm cap [] ws
 cleared-waiting cap ws room = rows-cleared requestForm request-exact cap ws room
 
+-- nothing is in flight
 pub cleared-flight : (depth : ℕ) (fs : List ℕ) → depth * 2 ≤ length fs → zeros fs (depth * 2) ≡ overRows flightForm depth [] fs
 cleared-flight depth fs room = rows-cleared flightForm flight-exact depth fs room

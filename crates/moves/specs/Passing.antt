@@ -1,12 +1,12 @@
 -- Refusal 9, by the numbers: "a tag given, or a share tag moved, would pass the ceiling". Assumes nothing.
 use Prim.Native.Nat.{ℕ, _+_, _-_, _≤_, max}
 use mathlib.Core.Path.{_≡_, refl, sym, ap, ap₂, _∙_}
-use mathlib.Core.Bool.{Bool, true, false, not, _&&_, and-true, true≢false}
+use mathlib.Core.Bool.{Bool, true, false, not, _&&_, and-true}
 use mathlib.Core.List.{List, [], _∷_, map}
 use native.Mathlib.Omega.{arith}
 use lib.Dec.{leb}
 use borrow.Author.Tests.{leb-true, leb-false, le-leb, lt-leb}
-use Rattle.lists.specs.Words.{all, empty, lowest}
+use Rattle.lists.specs.Words.{all, lowest}
 use Rattle.lists.specs.WordsLaws.{both}
 use Rattle.rules.specs.Numbers.{ceiling}
 use Rattle.rules.specs.Tables.{Request, Table, reserved, limited, owner}
@@ -15,11 +15,6 @@ use Rattle.rules.specs.Events.{Arriving, smallest, shifted, adjusted, tagIf, sh
 use Rattle.rules.specs.Refusals.{passing}
 use Rattle.walks.specs.Survey.{highest}
 use Rattle.table.specs.Stamp.{lawfulTags, movesFit}
-
--- of a request only the tags are looked at
-pub lawful-tags : (q : Request) → lawful q ≡ lawfulTags (q .rtag) (q .ltag) (q .stag)
-unfolding lawful
-lawful-tags q = refl
 
 -- two numbers fit where the larger does
 both-fit : (a b now m : ℕ) → leb (a + now - m) ceiling && leb (b + now - m) ceiling ≡ leb (max a b + now - m) ceiling
@@ -45,30 +40,6 @@ moved-all now m q [] h =
 moved-all now m q (p ∷ w) h =
     let c = both (lawful q) (all lawful (p ∷ w)) h in
     ap₂ _&&_ (shifted-lawful now m q (c .0)) (moved-all now m p w (c .1)) ∙ both-fit (q .stag) (highest (map Request.stag (p ∷ w))) now m
-
-module _ (now : ℕ) (t : Table) where
-  -- something waits, and the share tags move
-  pub moved-lawful : all lawful (t .waiting) ≡ true → empty (t .waiting) ≡ false → all lawful ((adjusted true now t) .waiting) ≡ leb (highest (map Request.stag (t .waiting)) + now - smallest t) ceiling
-  unfolding adjusted
-  moved-lawful h some = go (t .waiting) h some
-    where
-      go : (w : List Request) → all lawful w ≡ true → empty w ≡ false → all lawful (map (shifted now (smallest t)) w) ≡ leb (highest (map Request.stag w) + now - smallest t) ceiling
-      go [] h e = absurd (true≢false e)
-      go (q ∷ w) h e = moved-all now (smallest t) q w h
-
-  -- nothing waits
-  pub none-moved : empty (t .waiting) ≡ true → all lawful ((adjusted true now t) .waiting) ≡ true
-  unfolding adjusted
-  none-moved none = go (t .waiting) none
-    where
-      go : (w : List Request) → empty w ≡ true → all lawful (map (shifted now (smallest t)) w) ≡ true
-      go [] e = refl
-      go (q ∷ w) e = absurd (true≢false (sym e))
-
-  -- the guest is not idle, and nothing moves
-  pub unmoved-lawful : all lawful ((adjusted false now t) .waiting) ≡ all lawful (t .waiting)
-  unfolding adjusted
-  unmoved-lawful = refl
 
 module _ (now : ℕ) (t : Table) (timely : now ≤ ceiling) (fit : all lawful (t .waiting) ≡ true) where
   -- what waits after the settling; where nothing waits, the ends are 0 and the time is judged alone
@@ -99,12 +70,14 @@ module _ (now : ℕ) (t : Table) (timely : now ≤ ceiling) (fit : all lawful (t
 
 -- THE ENDS of lawful requests: the sums above stay within 64 bits
 
+-- the smallest is at most the largest
 pub lowest-highest : (l : List ℕ) → lowest l ≤ highest l
 unfolding lowest highest
 lowest-highest [] = omega arith
 lowest-highest (x ∷ []) = omega arith
 lowest-highest (x ∷ y ∷ l) = omega arith
 
+-- the largest is at most the ceiling
 pub highest-fits : (w : List Request) → all lawful w ≡ true → highest (map Request.stag w) ≤ ceiling
 unfolding highest lawful
 highest-fits [] h = omega arith

@@ -25,9 +25,11 @@ use Rattle.moves.specs.Shares.{Marked, nextOf, movedTags, movedUnless, m
 -- THE MARKS, a row to a turn
 
 module _ (ws before : List ℕ) where
+  -- before the first row nothing is marked
   pub marked-none : Marked ws 0 before before
   marked-none g h = rw (idle-none ws g)
 
+  -- the guest of row k is marked
   pub marked-next : (k : ℕ) (marks : List ℕ) → 64 ≤ length marks → getD ws (k * 5 + 0) 0 < 64 → Marked ws k before marks → Marked ws (k + 1) before (set marks (getD ws (k * 5 + 0) 0) 1)
   marked-next k marks size low m g h = go (eqb (getD ws (k * 5 + 0) 0) g) refl
     where
@@ -48,13 +50,15 @@ marked-idle ws marks n m g h =
 -- EVERY SHARE TAG, a row to a turn
 
 module _ (time m : ℕ) (ws w : List ℕ) (k : ℕ) (so : w ≡ movedTags time m ws k) where
-  -- the row of the turn is as it was
+  -- the guest of the row is as it was
   pub tags-guest : getD w (k * 5 + 0) 0 ≡ getD ws (k * 5 + 0) 0
   tags-guest = ap (λ (v : List ℕ). getD v (k * 5 + 0) 0) so ∙ stores-other (λ k. k * 5 + 4) (λ k. tagOf ws k + time - m) ws k (k * 5 + 0) (λ i l e. omega arith)
 
+  -- and so is its tag
   pub tags-read : tagOf w k ≡ tagOf ws k
   tags-read = ap (λ (v : List ℕ). tagOf v k) so ∙ stores-other (λ k. k * 5 + 4) (λ k. tagOf ws k + time - m) ws k (k * 5 + 4) (λ i l e. omega arith)
 
+  -- the store of the turn makes one row more
   pub tags-next : (x : ℕ) → x ≡ tagOf w k + time - m → set w (k * 5 + 4) x ≡ movedTags time m ws (k + 1)
   tags-next x e = stores-next (λ k. k * 5 + 4) (λ k. tagOf ws k + time - m) ws w k (k * 5 + 4) x so refl (e ∙ ap (λ (x : ℕ). x + time - m) tags-read)
 
@@ -65,6 +69,7 @@ module _ (time m : ℕ) (idle : ℕ → Bool) (gs w : List ℕ) (k : ℕ) (so : 
   pub nexts-read : nextOf w k ≡ nextOf gs k
   nexts-read = ap (λ (v : List ℕ). nextOf v k) so ∙ stores-other (λ k. k * 6 + 5) (λ k. movedUnless (idle k) time m (nextOf gs k)) gs k (k * 6 + 5) (λ i l e. omega arith)
 
+  -- the store of the turn makes one guest more
   pub nexts-next : (x : ℕ) → x ≡ movedUnless (idle k) time m (nextOf w k) → set w (k * 6 + 5) x ≡ movedNexts time m idle gs (k + 1)
   nexts-next x e = stores-next (λ k. k * 6 + 5) (λ k. movedUnless (idle k) time m (nextOf gs k)) gs w k (k * 6 + 5) x so refl (e ∙ ap (movedUnless (idle k) time m) nexts-read)
 

@@ -14,12 +14,8 @@ use Rattle.lists.specs.Tab.{lt-or-le}
 use Rattle.lists.specs.RowsLaws.{row-at, length-rows}
 use Rattle.rules.specs.Tables.{Flight, name, same, lacks}
 use Rattle.rules.specs.Sound.{distinct}
-use Rattle.table.specs.View.{requestForm, flightForm, waitingOf, flightsOf}
+use Rattle.table.specs.View.{requestForm, flightForm, waitingOf, flightsOf, nameless}
 use Rattle.sound.specs.Names.{namesOf, partAt}
-
--- what stands where there is no name
-abbrev nobody : Flight
-nobody = record { guest = 0; id = 0 }
 
 -- BY PLACES
 
@@ -37,20 +33,20 @@ same-not a b h = go (eqb (a .guest) (b .guest)) refl (eqb (a .id) (b .id)) refl
     go true e true f = absurd (h (eqb-true (a .guest) (b .guest) e) (eqb-true (a .id) (b .id) f))
 
 -- no place has the name a
-lacks-none : (a : Flight) (l : List Flight) → ((i : ℕ) → i < length l → a .guest ≡ (getD l i nobody) .guest → a .id ≡ (getD l i nobody) .id → ⊥) → lacks a l ≡ true
+lacks-none : (a : Flight) (l : List Flight) → ((i : ℕ) → i < length l → a .guest ≡ (getD l i nameless) .guest → a .id ≡ (getD l i nameless) .id → ⊥) → lacks a l ≡ true
 lacks-none a [] h = refl
 lacks-none a (b ∷ l) h = join (same-not a b (h 0 (omega arith))) (lacks-none a l (λ i m. h (suc i) (omega arith)))
 
 -- two places with one name
-distinct-hit : (l : List Flight) (j i : ℕ) → j < i → i < length l → (getD l j nobody) .guest ≡ (getD l i nobody) .guest → (getD l j nobody) .id ≡ (getD l i nobody) .id → distinct l ≡ false
+distinct-hit : (l : List Flight) (j i : ℕ) → j < i → i < length l → (getD l j nameless) .guest ≡ (getD l i nameless) .guest → (getD l j nameless) .id ≡ (getD l i nameless) .id → distinct l ≡ false
 unfolding distinct
 distinct-hit [] j i h m e f = absurd (omega arith)
 distinct-hit (a ∷ l) j zero h m e f = absurd (omega arith)
-distinct-hit (a ∷ l) zero (suc i) h m e f = rw (place-not (λ b. not (same a b)) l nobody i (omega arith) (ap not (same-is a (getD l i nobody) e f)))
+distinct-hit (a ∷ l) zero (suc i) h m e f = rw (place-not (λ b. not (same a b)) l nameless i (omega arith) (ap not (same-is a (getD l i nameless) e f)))
 distinct-hit (a ∷ l) (suc j) (suc i) h m e f = rw (distinct-hit l j i (omega arith) (omega arith) e f) (and-false (lacks a l))
 
 -- and no two
-distinct-none : (l : List Flight) → ((j i : ℕ) → j < i → i < length l → (getD l j nobody) .guest ≡ (getD l i nobody) .guest → (getD l j nobody) .id ≡ (getD l i nobody) .id → ⊥) → distinct l ≡ true
+distinct-none : (l : List Flight) → ((j i : ℕ) → j < i → i < length l → (getD l j nameless) .guest ≡ (getD l i nameless) .guest → (getD l j nameless) .id ≡ (getD l i nameless) .id → ⊥) → distinct l ≡ true
 unfolding distinct
 distinct-none [] h = refl
 distinct-none (a ∷ l) h = join (lacks-none a l (λ i m. h 0 (suc i) (omega arith) (omega arith))) (distinct-none l (λ j i k m. h (suc j) (suc i) (omega arith) (omega arith)))
@@ -66,22 +62,22 @@ module _ (ws : List ℕ) (n : ℕ) (fs : List ℕ) (m : ℕ) where
   length-names = omega (arith, length-append (map name (waitingOf ws n)) (flightsOf fs m), size, length-rows flightForm fs m)
 
   -- the name at place k is what the code reads
-  name-at : (k : ℕ) → k < n + m → getD (namesOf ws n fs m) k nobody ≡ record { guest = partAt ws n fs 0 k; id = partAt ws n fs 1 k }
+  name-at : (k : ℕ) → k < n + m → getD (namesOf ws n fs m) k nameless ≡ record { guest = partAt ws n fs 0 k; id = partAt ws n fs 1 k }
   unfolding partAt
   name-at k h = ⊎-elim low high (lt-or-le k n)
     where
-      low : k < n → getD (namesOf ws n fs m) k nobody ≡ record { guest = partAt ws n fs 0 k; id = partAt ws n fs 1 k }
+      low : k < n → getD (namesOf ws n fs m) k nameless ≡ record { guest = partAt ws n fs 0 k; id = partAt ws n fs 1 k }
       low l =
-          List·getD-append (map name (waitingOf ws n)) (flightsOf fs m) nobody k (omega (arith, size))
+          List·getD-append (map name (waitingOf ws n)) (flightsOf fs m) nameless k (omega (arith, size))
           ∙ List·getD-map name (waitingOf ws n) k (requestForm .read [])
           ∙ ap name (row-at requestForm ws n k l)
           ∙ sym (rw (lt-ltb k n l))
 
-      high : n ≤ k → getD (namesOf ws n fs m) k nobody ≡ record { guest = partAt ws n fs 0 k; id = partAt ws n fs 1 k }
+      high : n ≤ k → getD (namesOf ws n fs m) k nameless ≡ record { guest = partAt ws n fs 0 k; id = partAt ws n fs 1 k }
       high l =
           let e : k ≡ length (map name (waitingOf ws n)) + (k - n) = omega (arith, size) in
-          ap (λ (i : ℕ). getD (namesOf ws n fs m) i nobody) e
-          ∙ getD-append-add (map name (waitingOf ws n)) (flightsOf fs m) (k - n) nobody
+          ap (λ (i : ℕ). getD (namesOf ws n fs m) i nameless) e
+          ∙ getD-append-add (map name (waitingOf ws n)) (flightsOf fs m) (k - n) nameless
           ∙ row-at flightForm fs m (k - n) (omega arith)
           ∙ sym (rw (le-ltb k n l))
 

@@ -7,9 +7,9 @@ use Rattle.lists.specs.Rows.{rowsOf}
 use Rattle.lists.specs.RowsLaws.{row-at}
 use Rattle.rules.specs.Tables.{Request, name}
 use Rattle.rules.specs.Sound.{settled, lawful}
-use Rattle.table.specs.View.{settingsForm, guestForm, requestForm, flightForm, guestsOf, waitingOf, flightsOf}
+use Rattle.table.specs.View.{settingsForm, guestForm, requestForm, flightForm, guestsOf, waitingOf, flightsOf, nameIs}
 use Rattle.table.specs.Stamp.{lawfulTags}
-use Rattle.sound.specs.Tests.{settingsAre, settledGuest, nameIs, named}
+use Rattle.sound.specs.Tests.{settingsAre, settledGuest, named}
 
 -- row k of a list of n rows
 module _ (xs : List ℕ) (n k : ℕ) (here : k < n) where

@@ -13,10 +13,6 @@ settingsAre r l s = record { reservation = r; limit = l; shares = s }
 abbrev pub settledGuest : Guest → Bool
 settledGuest h = settled (h .settings)
 
--- a name from two numbers
-abbrev pub nameIs : ℕ → ℕ → Flight
-nameIs g i = record { guest = g; id = i }
-
 -- of n guests the name's guest exists, and its id has 32 bits
 abbrev pub named : ℕ → Flight → Bool
 named n f = ltb (f .guest) n && ltb (f .id) 4294967296

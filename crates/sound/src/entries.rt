@@ -11,9 +11,9 @@ ghost use lib.ListN.{length};
 ghost use Rattle.lists.specs.Words.{all};
 ghost use Rattle.rules.specs.Tables.{name};
 ghost use Rattle.rules.specs.Sound.{lawful};
-ghost use Rattle.table.specs.View.{waitingOf, flightsOf};
+ghost use Rattle.table.specs.View.{waitingOf, flightsOf, nameIs};
 ghost use Rattle.table.specs.Stamp.{lawfulTags};
-ghost use Rattle.sound.specs.Tests.{named, nameIs};
+ghost use Rattle.sound.specs.Tests.{named};
 
 // One request's name: of `known` guests its guest exists, and its id has 32 bits.
 fn is_named(guest: u64, id: u64, known: u64) -> bool

@@ -29,10 +29,11 @@ written gs ws fs u = (
 abbrev pub does : (Table → Result) → Gate → (gs ws fs : List ℕ) → Handed
 does f g gs ws fs = handed gs ws fs (f (tableOf g gs ws fs))
 
--- the weight phase, and the reservation phase with the weight phase behind it
+-- the weight phase
 abbrev pub weightPhase : Table → Result
 weightPhase t = byWeight t (least (open? t) Request.stag (t .waiting))
 
+-- the reservation phase, with the weight phase behind it
 abbrev pub reservationPhase : Table → Result
 reservationPhase t = byReservation t (least (due t) Request.rtag (t .waiting))
 

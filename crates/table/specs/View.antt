@@ -44,15 +44,25 @@ requestForm =
 abbrev pub flightForm : Form Flight
 flightForm = record { wide = 2; read = λ v. record { guest = getD v 0 0; id = getD v 1 0 }; line = λ f. f .guest ∷ f .id ∷ [] }
 
--- the first n entries of each lent table
+-- the first n guests of the guest table
 abbrev pub guestsOf : List ℕ → ℕ → List Guest
 guestsOf = rowsOf guestForm
 
+-- the first n requests of the waiting table
 abbrev pub waitingOf : List ℕ → ℕ → List Request
 waitingOf = rowsOf requestForm
 
+-- the first n requests of the flight table
 abbrev pub flightsOf : List ℕ → ℕ → List Flight
 flightsOf = rowsOf flightForm
+
+-- the name of guest g and id i
+abbrev pub nameIs : (g i : ℕ) → Flight
+nameIs g i = record { guest = g; id = i }
+
+-- what stands where there is no name
+abbrev pub nameless : Flight
+nameless = nameIs 0 0
 
 -- THE VIEW: the table that a gate and three lent lists show
 abbrev pub tableOf : Gate → (gs ws fs : List ℕ) → Table

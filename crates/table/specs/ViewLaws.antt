@@ -1,17 +1,17 @@
--- The forms of the three tables are exact, and the view and the way back are inverse where the table is whole. Assumes nothing.
+-- The forms of the three tables are exact: an entry read from its line is that entry, and a line made of its entry that line. Assumes nothing.
 use mathlib.Core.Path.{refl}
 use lib.Dec.{lit<}
 use Rattle.lists.specs.Rows.{Exact}
-use Rattle.table.specs.View.{settingsForm, guestForm, requestForm, flightForm}
+use Rattle.table.specs.View.{guestForm, requestForm, flightForm}
 
-pub settings-exact : Exact settingsForm
-settings-exact = record { some = lit< tt; size = λ a. refl; back = λ a. refl; forth = λ v. refl }
-
+-- the six numbers of a guest
 pub guest-exact : Exact guestForm
 guest-exact = record { some = lit< tt; size = λ a. refl; back = λ a. refl; forth = λ v. refl }
 
+-- the five numbers of a waiting request
 pub request-exact : Exact requestForm
 request-exact = record { some = lit< tt; size = λ a. refl; back = λ a. refl; forth = λ v. refl }
 
+-- the two numbers of a request in flight
 pub flight-exact : Exact flightForm
 flight-exact = record { some = lit< tt; size = λ a. refl; back = λ a. refl; forth = λ v. refl }

@@ -32,6 +32,7 @@ fn is_known_version(bytes: &[u8]) -> bool
     two(bytes[3], bytes[4]) == 1
 }
 
+// The depth.
 fn depth_in(bytes: &[u8]) -> u64
     requires { ⌜ 9 ≤ length (now bytes) ⌝ }
     ensures { λ r. ⌜ r ≡ depthOf (now (bytes .entry)) ⌝ }
@@ -39,6 +40,7 @@ fn depth_in(bytes: &[u8]) -> u64
     wide(bytes[5])
 }
 
+// How many guests there are.
 fn guests_in(bytes: &[u8]) -> usize
     requires { ⌜ 9 ≤ length (now bytes) ⌝ }
     ensures { λ r. ⌜ (r ≡ guestsOf (now (bytes .entry))) × (r < 256) ⌝ }
@@ -46,6 +48,7 @@ fn guests_in(bytes: &[u8]) -> usize
     bytes[6] as usize
 }
 
+// The capacity.
 fn capacity_in(bytes: &[u8]) -> u64
     requires { ⌜ 9 ≤ length (now bytes) ⌝ }
     ensures { λ r. ⌜ r ≡ capacityOf (now (bytes .entry)) ⌝ }

@@ -71,6 +71,7 @@ module _ (gs ws : List ℕ) (known count time : ℕ) where
   line-start = record { row = 0; begins = refl; inside = omega arith; marks = marks-start ws; byTag = told-start; byShare = told-start }
 
   module _ {seen : List ℕ} {first soonest spare smallest from : ℕ} (l : InLine gs ws known count time seen first soonest spare smallest from) (more : from < count * 5) where
+    -- the row is one of those that are used
     pub here : l .row < count
     here = omega (arith, l .begins)
 
@@ -156,11 +157,14 @@ module _ (gs ws : List ℕ) (known count time : ℕ) where
 
   -- behind the last row
   module _ {seen : List ℕ} {first soonest spare smallest from : ℕ} (l : InLine gs ws known count time seen first soonest spare smallest from) (done : count * 5 ≤ from) where
+    -- every row is passed
     all-rows : l .row ≡ count
     all-rows = omega (arith, l .begins, l .inside)
 
+    -- the walk answers what the reservation phase picks
     pub line-due : Owned ws count known → Picks (dueIn gs known time) Request.rtag (waitingOf ws count) (placeIn first (count * 5))
     line-due owned = told-picks (length-rows requestForm ws count) (rw all-rows at (l .byTag)) (λ j h. due-tag ws count j h gs known time owned)
 
+    -- and what the weight phase picks
     pub line-open : SharesFit ws count → Picks (openIn time) Request.stag (waitingOf ws count) (placeIn spare (count * 5))
     line-open fit = told-picks (length-rows requestForm ws count) (rw all-rows at (l .byShare)) (λ j h _. omega (arith, stag-at ws count j h, fit j h))

@@ -16,7 +16,7 @@ use Rattle.lists.specs.Lines.{lineAt, linesOf}
 use Rattle.lists.specs.Rows.{rowsOf}
 use Rattle.lists.specs.RowsLaws.{length-rows, row-at, rows-snoc, map-snoc}
 use Rattle.rules.specs.Tables.{Request, of, name, same, lacks}
-use Rattle.table.specs.View.{requestForm, waitingOf}
+use Rattle.table.specs.View.{requestForm, waitingOf, nameIs}
 use Rattle.walks.specs.Survey.{idleIn, tagOf, highest}
 
 -- THE GUEST'S OWN ROWS
@@ -30,10 +30,12 @@ all-next : (f : Request → Bool) (ws : List ℕ) (k : ℕ) → all f (waitingOf
 all-next f ws k = rw (add-one k) (ap (all f) (rows-snoc requestForm ws k) ∙ all-snoc f (waitingOf ws k) (rowAt ws k))
 
 module _ (ws : List ℕ) (g : ℕ) where
+  -- before the first row
   pub idle-none : idleIn ws 0 g ≡ true
   unfolding rowsOf linesOf
   idle-none = refl
 
+  -- one row more
   idle-next : (k : ℕ) → idleIn ws (k + 1) g ≡ idleIn ws k g && not (of g (rowAt ws k))
   idle-next k =
       none-left (of g) (waitingOf ws (k + 1)) ∙ all-next (λ q. not (of g q)) ws k
@@ -49,27 +51,31 @@ module _ (ws : List ℕ) (g : ℕ) where
 
 -- no request of this guest and this id stands in the first n rows
 abbrev pub lacksIn : List ℕ → (n g id : ℕ) → Bool
-lacksIn ws n g id = lacks (record { guest = g; id = id }) (map name (waitingOf ws n))
+lacksIn ws n g id = lacks (nameIs g id) (map name (waitingOf ws n))
 
 module _ (ws : List ℕ) (g id : ℕ) where
   -- the test that the walk makes of a request
   abbrev another : Request → Bool
   another q = not (eqb g (q .guest) && eqb id (q .id))
 
+  -- no row has the name where every row passes the test
   lacks-all : (n : ℕ) → lacksIn ws n g id ≡ all another (waitingOf ws n)
-  lacks-all n = all-of-map (λ f. not (same (record { guest = g; id = id }) f)) name (waitingOf ws n)
+  lacks-all n = all-of-map (λ f. not (same (nameIs g id) f)) name (waitingOf ws n)
 
+  -- before the first row
   lacks-none : lacksIn ws 0 g id ≡ true
   unfolding rowsOf linesOf
   lacks-none = refl
 
+  -- one row more
   lacks-next : (k : ℕ) → lacksIn ws k g id ≡ true → another (rowAt ws k) ≡ true → lacksIn ws (k + 1) g id ≡ true
   lacks-next k e h = lacks-all (k + 1) ∙ all-next another ws k ∙ join (sym (lacks-all k) ∙ e) h
 
-  -- a row of another guest, and one with another id
+  -- a row of another guest
   lacks-guest : (k : ℕ) → lacksIn ws k g id ≡ true → (getD ws (k * 5 + 0) 0 ≡ g → ⊥) → lacksIn ws (k + 1) g id ≡ true
   lacks-guest k e h = lacks-next k e (rw (ne-eqb g (getD ws (k * 5 + 0) 0) (λ q. h (sym q))))
 
+  -- a row with another id
   lacks-id : (k : ℕ) → lacksIn ws k g id ≡ true → (getD ws (k * 5 + 1) 0 ≡ id → ⊥) → lacksIn ws (k + 1) g id ≡ true
   lacks-id k e h = lacks-next k e (rw (ne-eqb id (getD ws (k * 5 + 1) 0) (λ q. h (sym q)), and-false (eqb g (getD ws (k * 5 + 0) 0))))
 
@@ -89,6 +95,7 @@ pub record Searched (ws : List ℕ) (count g id : ℕ) (waits : Bool) (from : �
   pub idling : idleIn ws row g ≡ not waits
 
 module _ (ws : List ℕ) (count g id : ℕ) where
+  -- before the first row
   pub search-start : Searched ws count g id false 0
   search-start = record { row = 0; begins = refl; inside = omega arith; lacking = lacks-none ws g id; idling = idle-none ws g }
 
@@ -132,6 +139,7 @@ module _ (ws : List ℕ) (count g id : ℕ) where
 
 -- THE ENDS
 
+-- the largest of a list with one number more
 highest-snoc : (l : List ℕ) (x : ℕ) → highest (l ++ (x ∷ [])) ≡ max (highest l) x
 unfolding highest
 highest-snoc [] x = omega arith
@@ -142,34 +150,41 @@ abbrev pub tags : List ℕ → ℕ → List ℕ
 tags ws n = map Request.stag (waitingOf ws n)
 
 module _ (ws : List ℕ) where
+  -- there is one for each row
   length-tags : (n : ℕ) → length (tags ws n) ≡ n
   length-tags n = length-map (waitingOf ws n) Request.stag ∙ length-rows requestForm ws n
 
+  -- those of one row more
   tags-snoc : (n : ℕ) → tags ws (suc n) ≡ tags ws n ++ (tagOf ws n ∷ [])
   tags-snoc n = ap (map Request.stag) (rows-snoc requestForm ws n) ∙ map-snoc Request.stag (waitingOf ws n) (rowAt ws n)
 
+  -- before the first row the ends are 0
   pub ends-none : (0 ≡ lowest (tags ws 0)) × (0 ≡ highest (tags ws 0))
   unfolding rowsOf linesOf lowest highest
   ends-none = (refl, refl)
 
+  -- of one row both ends are its tag
   pub ends-first : (tagOf ws 0 ≡ lowest (tags ws 1)) × (tagOf ws 0 ≡ highest (tags ws 1))
   unfolding rowsOf linesOf lowest highest
   ends-first = (refl, omega arith)
 
+  -- the smallest of one row more
   low-suc : (n : ℕ) → 0 < n → lowest (tags ws (suc n)) ≡ min (lowest (tags ws n)) (tagOf ws n)
   low-suc n h = ap lowest (tags-snoc n) ∙ lowest-snoc (tags ws n) (tagOf ws n) (omega (arith, length-tags n))
 
+  -- the largest of one row more
   high-suc : (n : ℕ) → highest (tags ws (suc n)) ≡ max (highest (tags ws n)) (tagOf ws n)
   high-suc n = ap highest (tags-snoc n) ∙ highest-snoc (tags ws n) (tagOf ws n)
 
-  -- one row more
+  -- the smallest so far, with the tag of the next row
   pub low-next : (n m : ℕ) → 0 < n → m ≡ lowest (tags ws n) → min m (tagOf ws n) ≡ lowest (tags ws (n + 1))
   low-next n m h e = rw (add-one n, e) (sym (low-suc n h))
 
+  -- the largest so far, with the tag of the next row
   pub high-next : (n m : ℕ) → m ≡ highest (tags ws n) → max m (tagOf ws n) ≡ highest (tags ws (n + 1))
   high-next n m e = rw (add-one n, e) (sym (high-suc n))
 
-  -- rows that lie inside the ends change neither
+  -- rows that are not below the smallest do not change it
   low-skip : (n d m : ℕ) → 0 < n → m ≡ lowest (tags ws n) → ((k : ℕ) → n ≤ k → k < n + d → m ≤ tagOf ws k) → m ≡ lowest (tags ws (n + d))
   low-skip n zero m s e h = let q : n ≡ n + 0 = omega arith in e ∙ ap (λ i. lowest (tags ws i)) q
   low-skip n (suc d) m s e h =
@@ -179,6 +194,7 @@ module _ (ws : List ℕ) where
       let next : m ≡ lowest (tags ws (suc (n + d))) = omega (arith, low-suc (n + d) (omega arith)) in
       next ∙ ap (λ i. lowest (tags ws i)) q
 
+  -- rows that are not above the largest do not change it
   high-skip : (n d m : ℕ) → m ≡ highest (tags ws n) → ((k : ℕ) → n ≤ k → k < n + d → tagOf ws k ≤ m) → m ≡ highest (tags ws (n + d))
   high-skip n zero m e h = let q : n ≡ n + 0 = omega arith in e ∙ ap (λ i. highest (tags ws i)) q
   high-skip n (suc d) m e h =

@@ -92,6 +92,7 @@ pub record Told (ok : Request → Bool) (tag : Request → ℕ) (rows : List Req
   pub walk : Walk ok tag rows top none i place bound
 
 module _ {ok : Request → Bool} {tag : Request → ℕ} {rows : List Request} {top none : ℕ} where
+  -- before the first row
   pub told-start : Told ok tag rows top none 0 (none * 5) top
   told-start = record { place = none; begins = refl; walk = walk-start }
 

@@ -7,13 +7,13 @@ use mathlib.Core.List.{List}
 use native.Mathlib.Omega.{arith}
 use lib.Dec.{ltb, leb, eqb}
 use lib.ListN.{length, getD}
-use borrow.Author.Tests.{lt-ltb, le-leb, lt-leb, leb-true, eq-eqb, ne-eqb}
+use borrow.Author.Tests.{le-leb, leb-true, eq-eqb, ne-eqb}
 use Rattle.lists.specs.RowsLaws.{row-at, length-rows}
 use Rattle.lists.specs.WordsLaws.{both, join, places-all, place-not, without-at}
-use Rattle.rules.specs.Tables.{Guest, Request, Flight, settingsOf, same}
+use Rattle.rules.specs.Tables.{Guest, Request, settingsOf, same}
 use Rattle.rules.specs.Choice.{dueAt}
 use Rattle.rules.specs.Chosen.{at}
-use Rattle.table.specs.View.{guestForm, requestForm, flightForm, guestsOf, waitingOf, flightsOf}
+use Rattle.table.specs.View.{guestForm, requestForm, flightForm, guestsOf, waitingOf, flightsOf, nameIs, nameless}
 use Rattle.walks.specs.Walks.{Owned, Rising, Finds}
 use Rattle.walks.specs.declared.Found.the-variants.{At, Nothing}
 
@@ -28,10 +28,11 @@ openIn time q = leb (q .ltag) time
 -- THE WAITING ROWS
 
 module _ (ws : List ℕ) (count k : ℕ) (here : k < count) where
-  -- a request's tags are numbers of its row
+  -- a request's reservation tag is a number of its row
   pub rtag-at : (at (waitingOf ws count) k) .rtag ≡ getD ws (k * 5 + 2) 0
   rtag-at = ap Request.rtag (row-at requestForm ws count k here)
 
+  -- and its share tag
   pub stag-at : (at (waitingOf ws count) k) .stag ≡ getD ws (k * 5 + 4) 0
   stag-at = ap Request.stag (row-at requestForm ws count k here)
 
@@ -43,10 +44,6 @@ module _ (ws : List ℕ) (count k : ℕ) (here : k < count) where
   pub open-is : (time : ℕ) → getD ws (k * 5 + 3) 0 ≤ time → leb ((at (waitingOf ws count) k) .ltag) time ≡ true
   open-is time l = open-at time ∙ le-leb (getD ws (k * 5 + 3) 0) time l
 
-  -- a limit tag after the time
-  pub open-not : (time : ℕ) → time < getD ws (k * 5 + 3) 0 → leb ((at (waitingOf ws count) k) .ltag) time ≡ false
-  open-not time l = open-at time ∙ lt-leb (getD ws (k * 5 + 3) 0) time l
-
   module _ (gs : List ℕ) (known time : ℕ) (owned : Owned ws count known) where
     -- the row's guest and tag, and the guest's reservation, say whether the request is due
     pub due-at : dueIn gs known time (at (waitingOf ws count) k) ≡ (ltb 0 (getD gs (getD ws (k * 5 + 0) 0 * 6 + 0) 0) && leb (getD ws (k * 5 + 2) 0) time)
@@ -54,14 +51,6 @@ module _ (ws : List ℕ) (count k : ℕ) (here : k < count) where
     due-at =
         ap (dueIn gs known time) (row-at requestForm ws count k here)
         ∙ ap (λ (h : Guest). ltb 0 (h .settings .reservation) && leb (getD ws (k * 5 + 2) 0) time) (row-at guestForm gs known (getD ws (k * 5 + 0) 0) (owned k here))
-
-    -- a guest with a reservation, and a tag at or before the time
-    pub due-is : (getD gs (getD ws (k * 5 + 0) 0 * 6 + 0) 0 ≡ 0 → ⊥) → getD ws (k * 5 + 2) 0 ≤ time → dueIn gs known time (at (waitingOf ws count) k) ≡ true
-    due-is some l = rw (due-at, lt-ltb 0 (getD gs (getD ws (k * 5 + 0) 0 * 6 + 0) 0) (omega (arith, some)), le-leb (getD ws (k * 5 + 2) 0) time l)
-
-    -- a guest without a reservation
-    pub due-not : getD gs (getD ws (k * 5 + 0) 0 * 6 + 0) 0 ≡ 0 → dueIn gs known time (at (waitingOf ws count) k) ≡ false
-    due-not none = rw (due-at, none)
 
     -- what is due has a tag below the walk's first bound
     pub due-tag : dueIn gs known time (at (waitingOf ws count) k) ≡ true → (at (waitingOf ws count) k) .rtag < time + 1
@@ -95,43 +84,35 @@ module _ (ws : List ℕ) (count : ℕ) where
 
 -- THE ROWS IN FLIGHT
 
--- the entry that stands where there is none
-abbrev none : Flight
-none = record { guest = 0; id = 0 }
-
--- the name of guest g and id i
-abbrev named : (g i : ℕ) → Flight
-named g i = record { guest = g; id = i }
-
 -- no row before k has this name
 abbrev pub NoneBefore : List ℕ → (count g i k : ℕ) → Type 0
-NoneBefore fs count g i k = (j : ℕ) → j < k → same (named g i) (getD (flightsOf fs count) j none) ≡ false
+NoneBefore fs count g i k = (j : ℕ) → j < k → same (nameIs g i) (getD (flightsOf fs count) j nameless) ≡ false
 
 module _ (fs : List ℕ) (count g i : ℕ) where
   module _ (k : ℕ) (here : k < count) where
     -- the row's two numbers say whether it has this name
-    same-at : same (named g i) (getD (flightsOf fs count) k none) ≡ (eqb g (getD fs (k * 2 + 0) 0) && eqb i (getD fs (k * 2 + 1) 0))
-    same-at = ap (same (named g i)) (row-at flightForm fs count k here)
+    same-at : same (nameIs g i) (getD (flightsOf fs count) k nameless) ≡ (eqb g (getD fs (k * 2 + 0) 0) && eqb i (getD fs (k * 2 + 1) 0))
+    same-at = ap (same (nameIs g i)) (row-at flightForm fs count k here)
 
     -- another guest's
-    pub not-guest : (getD fs (k * 2 + 0) 0 ≡ g → ⊥) → same (named g i) (getD (flightsOf fs count) k none) ≡ false
+    pub not-guest : (getD fs (k * 2 + 0) 0 ≡ g → ⊥) → same (nameIs g i) (getD (flightsOf fs count) k nameless) ≡ false
     not-guest d = rw (same-at, ne-eqb g (getD fs (k * 2 + 0) 0) (λ e. d (sym e)))
 
     -- another id
-    pub not-id : (getD fs (k * 2 + 1) 0 ≡ i → ⊥) → same (named g i) (getD (flightsOf fs count) k none) ≡ false
+    pub not-id : (getD fs (k * 2 + 1) 0 ≡ i → ⊥) → same (nameIs g i) (getD (flightsOf fs count) k nameless) ≡ false
     not-id d = rw (same-at, ne-eqb i (getD fs (k * 2 + 1) 0) (λ e. d (sym e))) (and-false (eqb g (getD fs (k * 2 + 0) 0)))
 
     -- the first row of this name is found
-    pub finds-at : getD fs (k * 2 + 0) 0 ≡ g → getD fs (k * 2 + 1) 0 ≡ i → NoneBefore fs count g i k → Finds (named g i) (flightsOf fs count) (At k)
-    finds-at e f before = (inside, place-not (λ b. not (same (named g i) b)) (flightsOf fs count) none k inside (rw has), without-at (same (named g i)) (flightsOf fs count) none k inside has before)
+    pub finds-at : getD fs (k * 2 + 0) 0 ≡ g → getD fs (k * 2 + 1) 0 ≡ i → NoneBefore fs count g i k → Finds (nameIs g i) (flightsOf fs count) (At k)
+    finds-at e f before = (inside, place-not (λ b. not (same (nameIs g i) b)) (flightsOf fs count) nameless k inside (rw has), without-at (same (nameIs g i)) (flightsOf fs count) nameless k inside has before)
       where
         inside : k < length (flightsOf fs count)
         inside = omega (arith, length-rows flightForm fs count)
 
-        has : same (named g i) (getD (flightsOf fs count) k none) ≡ true
+        has : same (nameIs g i) (getD (flightsOf fs count) k nameless) ≡ true
         has = rw (same-at, eq-eqb g (getD fs (k * 2 + 0) 0) (sym e), eq-eqb i (getD fs (k * 2 + 1) 0) (sym f))
 
   -- no row has this name
-  pub finds-nothing : NoneBefore fs count g i count → Finds (named g i) (flightsOf fs count) Nothing
+  pub finds-nothing : NoneBefore fs count g i count → Finds (nameIs g i) (flightsOf fs count) Nothing
   finds-nothing before =
-      places-all (λ b. not (same (named g i) b)) (flightsOf fs count) none (λ j h. rw (before j (omega (arith, length-rows flightForm fs count))))
+      places-all (λ b. not (same (nameIs g i) b)) (flightsOf fs count) nameless (λ j h. rw (before j (omega (arith, length-rows flightForm fs count))))
