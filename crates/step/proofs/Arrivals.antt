@@ -5,7 +5,8 @@ use mathlib.Core.Bool.{Bool, true, false}
 use mathlib.Core.List.{List, [], _∷_, _++_}
 use native.Mathlib.Omega.{arith}
 use lib.ListN.{length, set, length-append, length-set}
-use borrow.Author.Tests.{lt-ltb, le-ltb, le-leb, lt-leb, eq-eqb, ne-eqb}
+use borrow.Author.Tests.{lt-ltb, eq-eqb, ne-eqb}
+use Rattle.lists.specs.Words.{if_then_else_}
 use Rattle.lists.specs.Rows.{overRows, Unused}
 use Rattle.lists.specs.RowsLaws.{length-rows, length-over-rows, rows-over, over-twice, over-unused, over-same}
 use Rattle.rules.specs.Numbers.{ceiling}
@@ -13,13 +14,13 @@ use Rattle.rules.specs.Tables.{Setup, Guest, Request, Flight, Table, owner, idl
 use Rattle.rules.specs.Sound.{sound}
 use Rattle.rules.specs.Choice.{choice}
 use Rattle.rules.specs.Events.{Arriving, Event, arrival, calledBy, adjusted, stamped, stampedFor, following, placed, arriveAs, arrive, enter}
-use Rattle.rules.specs.Refusals.{eventTests, passing, refuse, verdict, accepted}
+use Rattle.rules.specs.Refusals.{eventTests, passing, accept, refuse, judged, verdict, isAccept, accepted}
 use Rattle.rules.specs.Run.{step}
 use Rattle.rules.proofs.Facts.{is-sound}
 use Rattle.rules.proofs.EnterSound.{enter-sound}
 use Rattle.rules.proofs.Settings.{adjusted-settings, same-count}
 use Rattle.rules.specs.declared.Gate.{Gate}
-use Rattle.rules.specs.declared.Refusal.the-variants.{UnknownGuest, TimeAboveCeiling, TimeBeforeLast, IdInUse, NoRoom, TagAboveCeiling}
+use Rattle.rules.specs.declared.Refusal.the-variants.{IdInUse, NoRoom, TagAboveCeiling}
 use Rattle.table.specs.View.{guestForm, requestForm, flightForm, guestsOf, waitingOf, tableOf, Known}
 use Rattle.table.specs.ViewLaws.{guest-exact, request-exact, flight-exact}
 use Rattle.moves.specs.Moves.{appended, followed}
@@ -28,6 +29,7 @@ use Rattle.moves.specs.FollowLaws.{followed-is}
 use Rattle.step.specs.Does.{written, does, placedGate}
 use Rattle.step.proofs.Enter.{entered-known, entered-moves}
 use Rattle.step.proofs.Facts.{facts}
+use Rattle.step.proofs.Judges.{others, arrival-names, others-judged}
 
 -- the settling leaves as many requests waiting
 adjusted-count : (b : Bool) (now : ℕ) (t : Table) → length ((adjusted b now t) .waiting) ≡ length (t .waiting)
@@ -48,136 +50,127 @@ module _ (g : Gate) (gs ws fs : List ℕ) (k : Known g gs ws fs) (a : Arriving) 
   abbrev ev : Event
   ev = arrival a now
 
-  pub arrival-unknown : g .guests ≤ a .guest → verdict t ev ≡ refuse UnknownGuest
-  unfolding eventTests
-  arrival-unknown h = rw (k .isSound, length-rows guestForm gs (g .guests), le-leb (g .guests) (a .guest) h)
+  module _ (known : a .guest < g .guests) (l : now ≤ ceiling) (h : g .time ≤ now) where
+    -- the guest and the time are good: the other tests decide
+    arrival-judged : verdict t ev ≡ judged (others t ev)
+    arrival-judged = others-judged g gs ws fs k ev (a .guest) now (arrival-names t a now) known l h
 
-  module _ (known : a .guest < g .guests) where
-    pub arrival-late : ceiling < now → verdict t ev ≡ refuse TimeAboveCeiling
+    -- its name is in use
+    pub arrival-used : lacks (calledBy a) (names t) ≡ false → verdict t ev ≡ refuse IdInUse
     unfolding eventTests
-    arrival-late h = rw (k .isSound, length-rows guestForm gs (g .guests), lt-leb (g .guests) (a .guest) known, lt-ltb ceiling now h)
+    arrival-used u = arrival-judged ∙ rw u
 
-    module _ (l : now ≤ ceiling) where
-      pub arrival-early : now < g .time → verdict t ev ≡ refuse TimeBeforeLast
+    module _ (new : lacks (calledBy a) (names t) ≡ true) where
+      -- no place is free to wait in
+      pub arrival-full : g .waiting ≡ g .capacity → verdict t ev ≡ refuse NoRoom
       unfolding eventTests
-      arrival-early h =
-          rw (k .isSound, length-rows guestForm gs (g .guests), lt-leb (g .guests) (a .guest) known, le-ltb ceiling now l, lt-ltb now (g .time) h)
+      arrival-full f = arrival-judged ∙ rw (new, length-rows requestForm ws (g .waiting), eq-eqb (g .waiting) (g .capacity) f)
 
-      module _ (h : g .time ≤ now) where
-        pub arrival-used : lacks (calledBy a) (names t) ≡ false → verdict t ev ≡ refuse IdInUse
+      module _ (free : g .waiting ≡ g .capacity → ⊥) (i : Bool) (e : idle t (a .guest) ≡ i) where
+        -- only refusal 9 is left
+        arrival-left : verdict t ev ≡ (if passing i now a t then refuse TagAboveCeiling else accept)
         unfolding eventTests
-        arrival-used u =
-            rw (k .isSound, length-rows guestForm gs (g .guests), lt-leb (g .guests) (a .guest) known, le-ltb ceiling now l, le-ltb now (g .time) h, u)
+        arrival-left =
+            arrival-judged ∙ rw (new, length-rows requestForm ws (g .waiting), ne-eqb (g .waiting) (g .capacity) free)
+            (ap (λ (b : Bool). if passing b now a t then refuse TagAboveCeiling else accept) e)
 
-        module _ (new : lacks (calledBy a) (names t) ≡ true) where
-          pub arrival-full : g .waiting ≡ g .capacity → verdict t ev ≡ refuse NoRoom
-          unfolding eventTests
-          arrival-full f =
-              rw (k .isSound, length-rows guestForm gs (g .guests), lt-leb (g .guests) (a .guest) known, le-ltb ceiling now l, le-ltb now (g .time) h, new, length-rows requestForm ws (g .waiting), eq-eqb (g .waiting) (g .capacity) f)
+        -- a tag would pass the ceiling
+        pub arrival-passing : passing i now a t ≡ true → verdict t ev ≡ refuse TagAboveCeiling
+        arrival-passing p = arrival-left ∙ rw p
 
-          module _ (free : g .waiting ≡ g .capacity → ⊥) (i : Bool) (e : idle t (a .guest) ≡ i) where
-            pub arrival-passing : passing i now a t ≡ true → verdict t ev ≡ refuse TagAboveCeiling
-            unfolding eventTests
-            arrival-passing p =
-                let p′ : passing (idle t (a .guest)) now a t ≡ true = ap (λ (b : Bool). passing b now a t) e ∙ p in
-                rw (k .isSound, length-rows guestForm gs (g .guests), lt-leb (g .guests) (a .guest) known, le-ltb ceiling now l, le-ltb now (g .time) h, new, length-rows requestForm ws (g .waiting), ne-eqb (g .waiting) (g .capacity) free, p′)
+        module _ (p : passing i now a t ≡ false) where
+          taken : accepted t ev ≡ true
+          taken = ap isAccept arrival-left ∙ rw p
 
-            module _ (p : passing i now a t ≡ false) where
-              taken : accepted t ev ≡ true
-              unfolding eventTests
-              taken =
-                  let p′ : passing (idle t (a .guest)) now a t ≡ false = ap (λ (b : Bool). passing b now a t) e ∙ p in
-                  rw (k .isSound, length-rows guestForm gs (g .guests), lt-leb (g .guests) (a .guest) known, le-ltb ceiling now l, le-ltb now (g .time) h, new, length-rows requestForm ws (g .waiting), ne-eqb (g .waiting) (g .capacity) free, p′)
+          firm : sound (enter t ev) ≡ true
+          firm = is-sound (enter t ev) (enter-sound t ev taken)
 
-              firm : sound (enter t ev) ≡ true
-              firm = is-sound (enter t ev) (enter-sound t ev taken)
+          -- the table as it is settled, and the request with its tags
+          abbrev s : Table
+          s = adjusted i now t
 
-              -- the table as it is settled, and the request with its tags
-              abbrev s : Table
-              s = adjusted i now t
+          abbrev q : Request
+          q = stampedFor i now a t
 
-              abbrev q : Request
-              q = stampedFor i now a t
+          -- numbers that show the settled table
+          module _ (hs vs : List ℕ) (ph : hs ≡ overRows guestForm (g .guests) (s .guests) gs) (pv : vs ≡ overRows requestForm (g .capacity) (s .waiting) ws) where
+            count : length (s .waiting) ≡ g .waiting
+            count = adjusted-count i now t ∙ length-rows requestForm ws (g .waiting)
 
-              -- numbers that show the settled table
-              module _ (hs vs : List ℕ) (ph : hs ≡ overRows guestForm (g .guests) (s .guests) gs) (pv : vs ≡ overRows requestForm (g .capacity) (s .waiting) ws) where
-                count : length (s .waiting) ≡ g .waiting
-                count = adjusted-count i now t ∙ length-rows requestForm ws (g .waiting)
+            guests : length (s .guests) ≡ g .guests
+            guests = same-count s t (adjusted-settings i now t) ∙ length-rows guestForm gs (g .guests)
 
-                guests : length (s .guests) ≡ g .guests
-                guests = same-count s t (adjusted-settings i now t) ∙ length-rows guestForm gs (g .guests)
+            fit : g .waiting < g .capacity
+            fit = let w = facts g gs ws fs k .waits in omega arith
 
-                fit : g .waiting < g .capacity
-                fit = let w = facts g gs ws fs k .waits in omega arith
+            rows : waitingOf vs (g .waiting) ≡ s .waiting
+            rows =
+                ap (λ (m : ℕ). waitingOf vs m) (sym count) ∙ ap (λ (x : List ℕ). waitingOf x (length (s .waiting))) pv
+                ∙ rows-over requestForm request-exact (g .capacity) (s .waiting) ws (k .waitingRoom) (omega (arith, count, fit))
 
-                rows : waitingOf vs (g .waiting) ≡ s .waiting
-                rows =
-                    ap (λ (m : ℕ). waitingOf vs m) (sym count) ∙ ap (λ (x : List ℕ). waitingOf x (length (s .waiting))) pv
-                    ∙ rows-over requestForm request-exact (g .capacity) (s .waiting) ws (k .waitingRoom) (omega (arith, count, fit))
+            owners : guestsOf hs (g .guests) ≡ s .guests
+            owners =
+                ap (λ (m : ℕ). guestsOf hs m) (sym guests) ∙ ap (λ (x : List ℕ). guestsOf x (length (s .guests))) ph
+                ∙ rows-over guestForm guest-exact (g .guests) (s .guests) gs (k .guestRoom) (omega (arith, guests))
 
-                owners : guestsOf hs (g .guests) ≡ s .guests
-                owners =
-                    ap (λ (m : ℕ). guestsOf hs m) (sym guests) ∙ ap (λ (x : List ℕ). guestsOf x (length (s .guests))) ph
-                    ∙ rows-over guestForm guest-exact (g .guests) (s .guests) gs (k .guestRoom) (omega (arith, guests))
+            unused : Unused requestForm (g .capacity) (g .waiting) vs
+            unused =
+                subst (λ (m : ℕ). Unused requestForm (g .capacity) m vs) count
+                (subst (λ (x : List ℕ). Unused requestForm (g .capacity) (length (s .waiting)) x) (sym pv) (over-unused requestForm request-exact (g .capacity) (s .waiting) ws (k .waitingRoom) (omega (arith, count, fit))))
 
-                unused : Unused requestForm (g .capacity) (g .waiting) vs
-                unused =
-                    subst (λ (m : ℕ). Unused requestForm (g .capacity) m vs) count
-                    (subst (λ (x : List ℕ). Unused requestForm (g .capacity) (length (s .waiting)) x) (sym pv) (over-unused requestForm request-exact (g .capacity) (s .waiting) ws (k .waitingRoom) (omega (arith, count, fit))))
+            room-v : g .capacity * 5 ≤ length vs
+            room-v = omega (arith, k .waitingRoom, ap length pv, length-over-rows requestForm request-exact (g .capacity) (s .waiting) ws)
 
-                room-v : g .capacity * 5 ≤ length vs
-                room-v = omega (arith, k .waitingRoom, ap length pv, length-over-rows requestForm request-exact (g .capacity) (s .waiting) ws)
+            room-h : g .guests * 6 ≤ length hs
+            room-h = omega (arith, k .guestRoom, ap length ph, length-over-rows guestForm guest-exact (g .guests) (s .guests) gs)
 
-                room-h : g .guests * 6 ≤ length hs
-                room-h = omega (arith, k .guestRoom, ap length ph, length-over-rows guestForm guest-exact (g .guests) (s .guests) gs)
+            -- the request placed last
+            pub placed-waiting : appended (g .waiting) q vs ≡ overRows requestForm (g .capacity) (s .waiting ++ (q ∷ [])) ws
+            placed-waiting =
+                appended-is (g .capacity) (g .waiting) vs room-v unused fit q
+                ∙ ap (λ (x : List Request). overRows requestForm (g .capacity) (x ++ (q ∷ [])) vs) rows
+                ∙ ap (overRows requestForm (g .capacity) (s .waiting ++ (q ∷ []))) pv
+                ∙ over-twice requestForm request-exact (g .capacity) (s .waiting ++ (q ∷ [])) (s .waiting) ws (k .waitingRoom)
 
-                -- the request placed last
-                pub placed-waiting : appended (g .waiting) q vs ≡ overRows requestForm (g .capacity) (s .waiting ++ (q ∷ [])) ws
-                placed-waiting =
-                    appended-is (g .capacity) (g .waiting) vs room-v unused fit q
-                    ∙ ap (λ (x : List Request). overRows requestForm (g .capacity) (x ++ (q ∷ [])) vs) rows
-                    ∙ ap (overRows requestForm (g .capacity) (s .waiting ++ (q ∷ []))) pv
-                    ∙ over-twice requestForm request-exact (g .capacity) (s .waiting ++ (q ∷ [])) (s .waiting) ws (k .waitingRoom)
+            -- and its guest's next numbers
+            pub placed-guests : followed (a .guest) (q .rtag) (q .ltag) (q .stag) hs ≡ overRows guestForm (g .guests) (set (s .guests) (a .guest) (following q (owner (s .guests) (a .guest)))) gs
+            unfolding stamped
+            placed-guests =
+                let after : List Guest → List Guest = λ x. set x (a .guest) (following q (owner x (a .guest))) in
+                followed-is (g .guests) hs q room-h known
+                ∙ ap (λ (x : List Guest). overRows guestForm (g .guests) (after x) hs) owners
+                ∙ ap (overRows guestForm (g .guests) (after (s .guests))) ph
+                ∙ over-twice guestForm guest-exact (g .guests) (after (s .guests)) (s .guests) gs (k .guestRoom)
 
-                -- and its guest's next numbers
-                pub placed-guests : followed (a .guest) (q .rtag) (q .ltag) (q .stag) hs ≡ overRows guestForm (g .guests) (set (s .guests) (a .guest) (following q (owner (s .guests) (a .guest)))) gs
-                unfolding stamped
-                placed-guests =
-                    let after : List Guest → List Guest = λ x. set x (a .guest) (following q (owner x (a .guest))) in
-                    followed-is (g .guests) hs q room-h known
-                    ∙ ap (λ (x : List Guest). overRows guestForm (g .guests) (after x) hs) owners
-                    ∙ ap (overRows guestForm (g .guests) (after (s .guests))) ph
-                    ∙ over-twice guestForm guest-exact (g .guests) (after (s .guests)) (s .guests) gs (k .guestRoom)
+            -- the numbers then show the request placed
+            base : (placedGate now g, followed (a .guest) (q .rtag) (q .ltag) (q .stag) hs, appended (g .waiting) q vs, fs) ≡ written gs ws fs (placed now q s)
+            unfolding placed stamped
+            base =
+                let es : t .setup ≡ s .setup = sym (adjusted-settings i now t .setup) in
+                let after : List Guest = set (s .guests) (a .guest) (following q (owner (s .guests) (a .guest))) in
+                let eg : g .guests ≡ length after = sym (length-set (s .guests) (a .guest) (following q (owner (s .guests) (a .guest))) ∙ guests) in
+                let ew : g .waiting + 1 ≡ length (s .waiting ++ (q ∷ [])) = sym (length-append (s .waiting) (q ∷ []) ∙ ap (λ (m : ℕ). m + 1) count) in
+                let el : t .flight ≡ s .flight = sym (adjusted-flight i now t) in
+                let ef : g .flight ≡ length (s .flight) = sym (length-rows flightForm fs (g .flight)) ∙ ap length el in
+                let pg : followed (a .guest) (q .rtag) (q .ltag) (q .stag) hs ≡ overRows guestForm (length after) after gs = placed-guests ∙ ap (λ (m : ℕ). overRows guestForm m after gs) eg in
+                let pw : appended (g .waiting) q vs ≡ overRows requestForm (s .setup .capacity) (s .waiting ++ (q ∷ [])) ws = placed-waiting ∙ ap (λ (c : Setup). overRows requestForm (c .capacity) (s .waiting ++ (q ∷ [])) ws) es in
+                let pf : fs ≡ overRows flightForm (s .setup .depth) (s .flight) fs =
+                sym (over-same flightForm flight-exact (g .depth) (g .flight) fs (k .whole .flightUnused))
+                ∙ ap (λ (c : Setup). overRows flightForm (c .depth) (t .flight) fs) es
+                ∙ ap (λ (x : List Flight). overRows flightForm (s .setup .depth) x fs) el in
+                λ j. (record { depth = es j .depth; guests = eg j; capacity = es j .capacity; time = now; waiting = ew j; flight = ef j }, pg j, pw j, pf j)
 
-                -- the numbers then show the request placed
-                base : (placedGate now g, followed (a .guest) (q .rtag) (q .ltag) (q .stag) hs, appended (g .waiting) q vs, fs) ≡ written gs ws fs (placed now q s)
-                unfolding placed stamped
-                base =
-                    let es : t .setup ≡ s .setup = sym (adjusted-settings i now t .setup) in
-                    let after : List Guest = set (s .guests) (a .guest) (following q (owner (s .guests) (a .guest))) in
-                    let eg : g .guests ≡ length after = sym (length-set (s .guests) (a .guest) (following q (owner (s .guests) (a .guest))) ∙ guests) in
-                    let ew : g .waiting + 1 ≡ length (s .waiting ++ (q ∷ [])) = sym (length-append (s .waiting) (q ∷ []) ∙ ap (λ (m : ℕ). m + 1) count) in
-                    let el : t .flight ≡ s .flight = sym (adjusted-flight i now t) in
-                    let ef : g .flight ≡ length (s .flight) = sym (length-rows flightForm fs (g .flight)) ∙ ap length el in
-                    let pg : followed (a .guest) (q .rtag) (q .ltag) (q .stag) hs ≡ overRows guestForm (length after) after gs = placed-guests ∙ ap (λ (m : ℕ). overRows guestForm m after gs) eg in
-                    let pw : appended (g .waiting) q vs ≡ overRows requestForm (s .setup .capacity) (s .waiting ++ (q ∷ [])) ws = placed-waiting ∙ ap (λ (c : Setup). overRows requestForm (c .capacity) (s .waiting ++ (q ∷ [])) ws) es in
-                    let pf : fs ≡ overRows flightForm (s .setup .depth) (s .flight) fs =
-                    sym (over-same flightForm flight-exact (g .depth) (g .flight) fs (k .whole .flightUnused))
-                    ∙ ap (λ (c : Setup). overRows flightForm (c .depth) (t .flight) fs) es
-                    ∙ ap (λ (x : List Flight). overRows flightForm (s .setup .depth) x fs) el in
-                    λ j. (record { depth = es j .depth; guests = eg j; capacity = es j .capacity; time = now; waiting = ew j; flight = ef j }, pg j, pw j, pf j)
+            -- and that is what the arrival enters
+            entered : enter t ev ≡ placed now q s
+            unfolding enter arrive arriveAs
+            entered = ap (λ (b : Bool). placed now (stampedFor b now a t) (adjusted b now t)) e
 
-                -- and that is what the arrival enters
-                entered : enter t ev ≡ placed now q s
-                unfolding enter arrive arriveAs
-                entered = ap (λ (b : Bool). placed now (stampedFor b now a t) (adjusted b now t)) e
+            arrival-written : (placedGate now g, followed (a .guest) (q .rtag) (q .ltag) (q .stag) hs, appended (g .waiting) q vs, fs) ≡ written gs ws fs (enter t ev)
+            arrival-written = base ∙ ap (written gs ws fs) (sym entered)
 
-                arrival-written : (placedGate now g, followed (a .guest) (q .rtag) (q .ltag) (q .stag) hs, appended (g .waiting) q vs, fs) ≡ written gs ws fs (enter t ev)
-                arrival-written = base ∙ ap (written gs ws fs) (sym entered)
+            module _ (bits : a .id < 4294967296) where
+              pub arrival-known : Known (placedGate now g) (followed (a .guest) (q .rtag) (q .ltag) (q .stag) hs) (appended (g .waiting) q vs) fs
+              arrival-known = entered-known g gs ws fs k ev taken firm (lt-ltb (a .id) 4294967296 bits) (placedGate now g) (followed (a .guest) (q .rtag) (q .ltag) (q .stag) hs) (appended (g .waiting) q vs) fs arrival-written
 
-                module _ (bits : a .id < 4294967296) where
-                  pub arrival-known : Known (placedGate now g) (followed (a .guest) (q .rtag) (q .ltag) (q .stag) hs) (appended (g .waiting) q vs) fs
-                  arrival-known = entered-known g gs ws fs k ev taken firm (lt-ltb (a .id) 4294967296 bits) (placedGate now g) (followed (a .guest) (q .rtag) (q .ltag) (q .stag) hs) (appended (g .waiting) q vs) fs arrival-written
-
-                  pub arrival-moves : does choice (placedGate now g) (followed (a .guest) (q .rtag) (q .ltag) (q .stag) hs) (appended (g .waiting) q vs) fs ≡ does (λ t. step t ev) g gs ws fs
-                  arrival-moves = entered-moves g gs ws fs k ev taken firm (lt-ltb (a .id) 4294967296 bits) (placedGate now g) (followed (a .guest) (q .rtag) (q .ltag) (q .stag) hs) (appended (g .waiting) q vs) fs arrival-written
+              pub arrival-moves : does choice (placedGate now g) (followed (a .guest) (q .rtag) (q .ltag) (q .stag) hs) (appended (g .waiting) q vs) fs ≡ does (λ t. step t ev) g gs ws fs
+              arrival-moves = entered-moves g gs ws fs k ev taken firm (lt-ltb (a .id) 4294967296 bits) (placedGate now g) (followed (a .guest) (q .rtag) (q .ltag) (q .stag) hs) (appended (g .waiting) q vs) fs arrival-written

@@ -133,10 +133,10 @@ module _ (g : Gate) (gs ws fs : List ℕ) (k : Known g gs ws fs) (f : Flight) (n
             let free : g .waiting ≡ g .capacity → ⊥ = ready .free in
             let fit : g .waiting < g .capacity = let w = z .waits in omega arith in
             record {
-              waits = omega (arith, fit, z .counts .capacity .1);
+              waits = omega (arith, fit, z .counts .capacities .1);
               row = omega (arith, fit, k .waitingRoom, ap length pv, length-over-rows requestForm request-exact (g .capacity) ((adjusted i now t) .waiting) ws);
               owner = omega (arith, row-asks, ap length ph, length-over-rows guestForm guest-exact (g .guests) ((adjusted i now t) .guests) gs);
-              limit = omega (arith, limits, z .settles (f .guest) known .limit);
+              limit = omega (arith, limits, z .settles (f .guest) known .limits);
               rtag = c .reservation;
               ltag = c .limit;
               stag = c .share;

@@ -61,4 +61,4 @@ module _ (g : Gate) (gs ws fs : List ℕ) (k : Known g gs ws fs) where
 
 -- what the search in flight asks
 pub flight-asks : (g : Gate) (gs ws fs : List ℕ) → Known g gs ws fs → (g .flight ≤ 64) × (g .flight * 2 ≤ length fs)
-flight-asks g gs ws fs k = let f = facts g gs ws fs k in (omega (arith, f .flies, f .counts .depth .1), omega (arith, f .flies, k .flightRoom))
+flight-asks g gs ws fs k = let f = facts g gs ws fs k in (omega (arith, f .flies, f .counts .depths .1), omega (arith, f .flies, k .flightRoom))

@@ -2,6 +2,7 @@ pub mod Lens
 pub mod Ids
 pub mod Enter
 pub mod Facts
+pub mod Judges
 pub mod Rising
 pub mod Sends
 pub mod WeightSend

@@ -39,13 +39,13 @@ module _ (g : Gate) (gs ws fs : List ℕ) (k : Known g gs ws fs) where
 
   -- the waiting rows are there
   pub rows-ask : (g .waiting ≤ 1024) × (g .waiting * 5 ≤ length ws)
-  rows-ask = (omega (arith, f .waits, f .counts .capacity .1), omega (arith, f .waits, k .waitingRoom))
+  rows-ask = (omega (arith, f .waits, f .counts .capacities .1), omega (arith, f .waits, k .waitingRoom))
 
   -- what the walk asks
   pub line-asks : ((g .waiting ≤ 1024) × (g .waiting * 5 ≤ length ws) × (g .guests ≤ 64) × (g .guests * 6 ≤ length gs))
       × ((Owned ws (g .waiting) (g .guests) × Rising ws (g .waiting) × SharesFit ws (g .waiting)) × (g .time ≤ ceiling))
   line-asks = (
-    (rows-ask .0, rows-ask .1, f .counts .guests .1, k .guestRoom),
+    (rows-ask .0, rows-ask .1, f .counts .guest-count .1, k .guestRoom),
     ((f .owners, rising-rows g gs ws fs k, λ j h. omega (arith, f .lawfuls j h .share, ap Request.stag (row-is g gs ws fs k j h))), f .timed),
   )
 
@@ -84,7 +84,7 @@ module _ (g : Gate) (gs ws fs : List ℕ) (k : Known g gs ws fs) where
     send-asks = (here, rows-ask .1, omega (arith, k .flightRoom))
 
     pub sent-asks : (0 < g .waiting) × (g .flight < g .depth) × (g .depth ≤ 64)
-    sent-asks = (omega arith, free, f .counts .depth .1)
+    sent-asks = (omega arith, free, f .counts .depths .1)
 
     abbrev n : ℕ
     n = goesGuest g gs ws fs k free place here

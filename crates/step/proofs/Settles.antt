@@ -89,7 +89,7 @@ module _ (g : Gate) (gs ws fs : List ℕ) (k : Known g gs ws fs) (now : ℕ) (la
   settle-asks m em =
       let f = facts g gs ws fs k in
       let fit = f .firm .tags-fit in (
-        (f .counts .guests .1, k .guestRoom, omega (arith, f .waits, f .counts .capacity .1), omega (arith, f .waits, k .waitingRoom)),
+        (f .counts .guest-count .1, k .guestRoom, omega (arith, f .waits, f .counts .capacities .1), omega (arith, f .waits, k .waitingRoom)),
         (
           f .owners,
           (

@@ -5,7 +5,7 @@ use mathlib.Core.Bool.{true}
 use mathlib.Core.List.{List}
 use native.Mathlib.Omega.{arith}
 use lib.ListN.{length}
-use borrow.Author.Tests.{lt-ltb, le-ltb, le-leb, lt-leb}
+use borrow.Author.Tests.{lt-ltb, le-ltb}
 use Rattle.lists.specs.Words.{without}
 use Rattle.lists.specs.Tab.{length-removeAt}
 use Rattle.lists.specs.Rows.{overRows}
@@ -15,13 +15,13 @@ use Rattle.rules.specs.Tables.{Flight, Table, same}
 use Rattle.rules.specs.Sound.{sound}
 use Rattle.rules.specs.Choice.{choice}
 use Rattle.rules.specs.Events.{Event, completion, tick, complete, wait, enter}
-use Rattle.rules.specs.Refusals.{eventTests, refuse, verdict, accepted}
+use Rattle.rules.specs.Refusals.{eventTests, refuse, judged, verdict, isAccept, accepted}
 use Rattle.rules.specs.Run.{step}
 use Rattle.rules.proofs.Facts.{is-sound}
 use Rattle.rules.proofs.EnterSound.{enter-sound}
 use Rattle.rules.specs.declared.Gate.{Gate}
-use Rattle.rules.specs.declared.Refusal.the-variants.{UnknownGuest, TimeAboveCeiling, TimeBeforeLast, NotInFlight}
-use Rattle.table.specs.View.{guestForm, flightForm, tableOf, Known}
+use Rattle.rules.specs.declared.Refusal.the-variants.{TimeAboveCeiling, TimeBeforeLast, NotInFlight}
+use Rattle.table.specs.View.{flightForm, tableOf, Known}
 use Rattle.walks.specs.Walks.{Finds}
 use Rattle.moves.specs.Moves.{freed}
 use Rattle.moves.specs.MovesLaws.{freed-is}
@@ -30,6 +30,7 @@ use Rattle.step.specs.Does.{written, does, timedGate, freedGate}
 use Rattle.step.proofs.Lens.{known-written}
 use Rattle.step.proofs.Enter.{entered-known, entered-moves}
 use Rattle.step.proofs.Facts.{facts}
+use Rattle.step.proofs.Judges.{others, completion-names, others-judged}
 
 module _ (g : Gate) (gs ws fs : List ℕ) (k : Known g gs ws fs) (now : ℕ) where
   abbrev t : Table
@@ -37,10 +38,12 @@ module _ (g : Gate) (gs ws fs : List ℕ) (k : Known g gs ws fs) (now : ℕ) whe
 
   -- A TICK
 
+  -- the time is above the ceiling
   pub tick-late : ceiling < now → verdict t (tick now) ≡ refuse TimeAboveCeiling
   unfolding eventTests
   tick-late h = rw (k .isSound, lt-ltb ceiling now h)
 
+  -- the time is before the last
   pub tick-early : now ≤ ceiling → now < g .time → verdict t (tick now) ≡ refuse TimeBeforeLast
   unfolding eventTests
   tick-early l h = rw (k .isSound, le-ltb ceiling now l, lt-ltb now (g .time) h)
@@ -70,51 +73,39 @@ module _ (g : Gate) (gs ws fs : List ℕ) (k : Known g gs ws fs) (now : ℕ) whe
     abbrev ev : Event
     ev = completion a now
 
-    pub completion-unknown : g .guests ≤ a .guest → verdict t ev ≡ refuse UnknownGuest
-    unfolding eventTests
-    completion-unknown h = rw (k .isSound, length-rows guestForm gs (g .guests), le-leb (g .guests) (a .guest) h)
+    module _ (known : a .guest < g .guests) (l : now ≤ ceiling) (h : g .time ≤ now) where
+      -- the guest and the time are good: the other test decides
+      completion-judged : verdict t ev ≡ judged (others t ev)
+      completion-judged = others-judged g gs ws fs k ev (a .guest) now (completion-names t a now) known l h
 
-    module _ (known : a .guest < g .guests) where
-      pub completion-late : ceiling < now → verdict t ev ≡ refuse TimeAboveCeiling
+      -- nothing of this name is in flight
+      pub completion-absent : Finds a (t .flight) NoPlace → verdict t ev ≡ refuse NotInFlight
       unfolding eventTests
-      completion-late h = rw (k .isSound, length-rows guestForm gs (g .guests), lt-leb (g .guests) (a .guest) known, lt-ltb ceiling now h)
+      completion-absent f = completion-judged ∙ rw f
 
-      module _ (l : now ≤ ceiling) where
-        pub completion-early : now < g .time → verdict t ev ≡ refuse TimeBeforeLast
+      module _ (place : ℕ) (f : Finds a (t .flight) (At place)) where
+        pub out-here : place < g .flight
+        out-here = omega (arith, f .0, length-rows flightForm fs (g .flight))
+
+        taken : accepted t ev ≡ true
         unfolding eventTests
-        completion-early h =
-            rw (k .isSound, length-rows guestForm gs (g .guests), lt-leb (g .guests) (a .guest) known, le-ltb ceiling now l, lt-ltb now (g .time) h)
+        taken = ap isAccept completion-judged ∙ rw (f .1)
 
-        module _ (h : g .time ≤ now) where
-          pub completion-absent : Finds a (t .flight) NoPlace → verdict t ev ≡ refuse NotInFlight
-          unfolding eventTests
-          completion-absent f =
-              rw (k .isSound, length-rows guestForm gs (g .guests), lt-leb (g .guests) (a .guest) known, le-ltb ceiling now l, le-ltb now (g .time) h, f)
+        firm : sound (enter t ev) ≡ true
+        firm = is-sound (enter t ev) (enter-sound t ev taken)
 
-          module _ (place : ℕ) (f : Finds a (t .flight) (At place)) where
-            pub out-here : place < g .flight
-            out-here = omega (arith, f .0, length-rows flightForm fs (g .flight))
+        -- the numbers once it has left show what the completion enters
+        out-written : (freedGate now g, gs, ws, freed place (g .flight) fs) ≡ written gs ws fs (enter t ev)
+        unfolding enter complete
+        out-written =
+            let p = known-written g gs ws fs k in
+            let n : g .flight - 1 ≡ length (without (same a) (t .flight)) = sym (ap length (f .2) ∙ length-removeAt place (t .flight) (f .0) ∙ ap (λ (m : ℕ). m - 1) (length-rows flightForm fs (g .flight))) in
+            let pf : freed place (g .flight) fs ≡ overRows flightForm (g .depth) (without (same a) (t .flight)) fs =
+            freed-is (g .depth) (g .flight) fs (k .flightRoom) (k .whole .flightUnused) (facts g gs ws fs k .flies) place out-here ∙ ap (λ (q : List Flight). overRows flightForm (g .depth) q fs) (sym (f .2)) in
+            λ i. (record { depth = g .depth; guests = p i .0 .guests; capacity = g .capacity; time = now; waiting = p i .0 .waiting; flight = n i }, p i .1, p i .2, pf i)
 
-            taken : accepted t ev ≡ true
-            unfolding eventTests
-            taken =
-                rw (k .isSound, length-rows guestForm gs (g .guests), lt-leb (g .guests) (a .guest) known, le-ltb ceiling now l, le-ltb now (g .time) h, f .1)
+        pub completion-known : {es : List ℕ} → es ≡ freed place (g .flight) fs → Known (freedGate now g) gs ws es
+        completion-known e = rw e (entered-known g gs ws fs k ev taken firm tt (freedGate now g) gs ws (freed place (g .flight) fs) out-written)
 
-            firm : sound (enter t ev) ≡ true
-            firm = is-sound (enter t ev) (enter-sound t ev taken)
-
-            -- the numbers once it has left show what the completion enters
-            out-written : (freedGate now g, gs, ws, freed place (g .flight) fs) ≡ written gs ws fs (enter t ev)
-            unfolding enter complete
-            out-written =
-                let p = known-written g gs ws fs k in
-                let n : g .flight - 1 ≡ length (without (same a) (t .flight)) = sym (ap length (f .2) ∙ length-removeAt place (t .flight) (f .0) ∙ ap (λ (m : ℕ). m - 1) (length-rows flightForm fs (g .flight))) in
-                let pf : freed place (g .flight) fs ≡ overRows flightForm (g .depth) (without (same a) (t .flight)) fs =
-                freed-is (g .depth) (g .flight) fs (k .flightRoom) (k .whole .flightUnused) (facts g gs ws fs k .flies) place out-here ∙ ap (λ (q : List Flight). overRows flightForm (g .depth) q fs) (sym (f .2)) in
-                λ i. (record { depth = g .depth; guests = p i .0 .guests; capacity = g .capacity; time = now; waiting = p i .0 .waiting; flight = n i }, p i .1, p i .2, pf i)
-
-            pub completion-known : {es : List ℕ} → es ≡ freed place (g .flight) fs → Known (freedGate now g) gs ws es
-            completion-known e = rw e (entered-known g gs ws fs k ev taken firm tt (freedGate now g) gs ws (freed place (g .flight) fs) out-written)
-
-            pub completion-moves : {es : List ℕ} → es ≡ freed place (g .flight) fs → does choice (freedGate now g) gs ws es ≡ does (λ t. step t ev) g gs ws fs
-            completion-moves e = rw e (entered-moves g gs ws fs k ev taken firm tt (freedGate now g) gs ws (freed place (g .flight) fs) out-written)
+        pub completion-moves : {es : List ℕ} → es ≡ freed place (g .flight) fs → does choice (freedGate now g) gs ws es ≡ does (λ t. step t ev) g gs ws fs
+        completion-moves e = rw e (entered-moves g gs ws fs k ev taken firm tt (freedGate now g) gs ws (freed place (g .flight) fs) out-written)

@@ -2,7 +2,7 @@ use mathlib.Core.Path.{_∙_}
 use native.Mathlib.Omega.{arith}
 use Rattle.rules.specs.Events.{Event}
 use Rattle.rules.specs.declared.Refusal.the-variants.{UnknownGuest, TimeAboveCeiling, TimeBeforeLast, NotInFlight}
-use Rattle.step.proofs.Ticks.{completion-unknown, completion-late, completion-early}
+use Rattle.step.proofs.Judges.{completion-names, unknown-guest, above-ceiling, before-last}
 use Rattle.step.proofs.EventReturns.{refused-returns, flight-asks, absent-is, out-asks, out-known, out-returns}
 use borrow.Author.Needs.{needs}
 use Rattle.step.proofs.events.complete.Statement.{statement}
@@ -14,7 +14,7 @@ refused-requires c κs = search needs
 returns : tie.Need-returns
 returns c =
     let s = c .before .before .before .before .before .before in
-    refused-returns (s .args .gate) (s .args .guests .now) (s .args .waiting .now) (s .args .flight .now) (s .pre) (Event.completion (record { guest = s .args .guest; id = s .args .id }) (s .args .time)) UnknownGuest (completion-unknown (s .args .gate) (s .args .guests .now) (s .args .waiting .now) (s .args .flight .now) (s .pre) (s .args .time) (record { guest = s .args .guest; id = s .args .id }) (c .before .if1 .taken)) _ (c .refused .ensures)
+    refused-returns (s .args .gate) (s .args .guests .now) (s .args .waiting .now) (s .args .flight .now) (s .pre) (Event.completion (record { guest = s .args .guest; id = s .args .id }) (s .args .time)) UnknownGuest (unknown-guest (s .args .gate) (s .args .guests .now) (s .args .waiting .now) (s .args .flight .now) (s .pre) (Event.completion (record { guest = s .args .guest; id = s .args .id }) (s .args .time)) (s .args .guest) (s .args .time) (completion-names _ (record { guest = s .args .guest; id = s .args .id }) (s .args .time)) (c .before .if1 .taken)) _ (c .refused .ensures)
 
 refused-requires-2 : tie.Need-refused-requires-2
 refused-requires-2 c κs = search needs
@@ -22,7 +22,7 @@ refused-requires-2 c κs = search needs
 returns-2 : tie.Need-returns-2
 returns-2 c =
     let s = c .before .before .before .before .before .before .before in
-    refused-returns (s .args .gate) (s .args .guests .now) (s .args .waiting .now) (s .args .flight .now) (s .pre) (Event.completion (record { guest = s .args .guest; id = s .args .id }) (s .args .time)) TimeAboveCeiling (completion-late (s .args .gate) (s .args .guests .now) (s .args .waiting .now) (s .args .flight .now) (s .pre) (s .args .time) (record { guest = s .args .guest; id = s .args .id }) (c .before .before .if1 .left) (c .before .if2 .taken)) _ (c .refused2 .ensures)
+    refused-returns (s .args .gate) (s .args .guests .now) (s .args .waiting .now) (s .args .flight .now) (s .pre) (Event.completion (record { guest = s .args .guest; id = s .args .id }) (s .args .time)) TimeAboveCeiling (above-ceiling (s .args .gate) (s .args .guests .now) (s .args .waiting .now) (s .args .flight .now) (s .pre) (Event.completion (record { guest = s .args .guest; id = s .args .id }) (s .args .time)) (s .args .guest) (s .args .time) (completion-names _ (record { guest = s .args .guest; id = s .args .id }) (s .args .time)) (c .before .before .if1 .left) (c .before .if2 .taken)) _ (c .refused2 .ensures)
 
 refused-requires-3 : tie.Need-refused-requires-3
 refused-requires-3 c κs = search needs
@@ -30,7 +30,7 @@ refused-requires-3 c κs = search needs
 returns-3 : tie.Need-returns-3
 returns-3 c =
     let s = c .before .before .before .before .before .before .before .before .before in
-    refused-returns (s .args .gate) (s .args .guests .now) (s .args .waiting .now) (s .args .flight .now) (s .pre) (Event.completion (record { guest = s .args .guest; id = s .args .id }) (s .args .time)) TimeBeforeLast (completion-early (s .args .gate) (s .args .guests .now) (s .args .waiting .now) (s .args .flight .now) (s .pre) (s .args .time) (record { guest = s .args .guest; id = s .args .id }) (c .before .before .before .before .if1 .left) (c .before .before .before .if2 .left) (c .before .if3 .taken)) _ (c .refused3 .ensures)
+    refused-returns (s .args .gate) (s .args .guests .now) (s .args .waiting .now) (s .args .flight .now) (s .pre) (Event.completion (record { guest = s .args .guest; id = s .args .id }) (s .args .time)) TimeBeforeLast (before-last (s .args .gate) (s .args .guests .now) (s .args .waiting .now) (s .args .flight .now) (s .pre) (Event.completion (record { guest = s .args .guest; id = s .args .id }) (s .args .time)) (s .args .guest) (s .args .time) (completion-names _ (record { guest = s .args .guest; id = s .args .id }) (s .args .time)) (c .before .before .before .before .if1 .left) (c .before .before .before .if2 .left) (c .before .if3 .taken)) _ (c .refused3 .ensures)
 
 find-flight-requires : tie.Need-find-flight-requires
 find-flight-requires c κs =
