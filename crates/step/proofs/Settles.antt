@@ -1,13 +1,13 @@
 -- What an arrival finds and leaves around its placing: the shares settled or not, and whether its name is new. Assumes nothing.
 use Prim.Native.Nat.{ℕ, _+_, _-_, _*_, _≤_, _<_}
 use mathlib.Core.Path.{_≡_, refl, sym, ap, _∙_, subst}
-use mathlib.Core.Bool.{Bool, true, false, not, true≢false}
-use mathlib.Core.List.{List, map, _++_}
+use mathlib.Core.Bool.{Bool, true, false, not, _&&_, and-assoc}
+use mathlib.Core.List.{List, [], _∷_, map, _++_}
 use native.Mathlib.Omega.{arith}
 use lib.ListN.{length, getD}
 use borrow.Author.Tests.{le-leb, lt-leb}
 use Rattle.lists.specs.Words.{all, lowest}
-use Rattle.lists.specs.WordsLaws.{all-append, all-parts}
+use Rattle.lists.specs.WordsLaws.{join, left-fails, right-fails}
 use Rattle.lists.specs.Rows.{overRows}
 use Rattle.lists.specs.RowsLaws.{over-same, all-used}
 use Rattle.rules.specs.Numbers.{ceiling}
@@ -36,20 +36,10 @@ use Rattle.walks.specs.declared.survey.Own.{Own}
 use Rattle.walks.specs.declared.survey.Own.the-variants.{Repeated, Waits, Idle}
 use Rattle.step.proofs.Arrivals.{arrival-used, arrival-full}
 
--- one part of a list has an entry that does not pass
-all-left : {A : Type 0} (p : A → Bool) (a b : List A) → all p a ≡ false → all p (a ++ b) ≡ false
-all-left p a b e = go (all p (a ++ b)) refl
-  where
-    go : (c : Bool) → all p (a ++ b) ≡ c → all p (a ++ b) ≡ false
-    go true h = absurd (true≢false (sym (all-parts p a b h .0) ∙ e))
-    go false h = h
-
-all-right : {A : Type 0} (p : A → Bool) (a b : List A) → all p b ≡ false → all p (a ++ b) ≡ false
-all-right p a b e = go (all p (a ++ b)) refl
-  where
-    go : (c : Bool) → all p (a ++ b) ≡ c → all p (a ++ b) ≡ false
-    go true h = absurd (true≢false (sym (all-parts p a b h .1) ∙ e))
-    go false h = h
+-- two lists, one behind the other, pass where both do
+all-both : {A : Type 0} (p : A → Bool) (a b : List A) → all p (a ++ b) ≡ all p a && all p b
+all-both p [] b = refl
+all-both p (x ∷ a) b = ap (p x &&_) (all-both p a b) ∙ sym (and-assoc (p x) (all p a) (all p b))
 
 -- A BUSY GUEST: nothing is settled
 module _ (g : Gate) (gs ws fs : List ℕ) (k : Known g gs ws fs) (now : ℕ) where
@@ -112,14 +102,20 @@ module _ (g : Gate) (gs ws fs : List ℕ) (k : Known g gs ws fs) (now : ℕ) (la
 
 -- THE NAME: new where neither the waiting nor those in flight have it
 module _ (t : Table) (f : Flight) where
+  lacks-names : lacks f (names t) ≡ lacks f (map name (t .waiting)) && lacks f (t .flight)
+  lacks-names = all-both (λ x. not (same f x)) (map name (t .waiting)) (t .flight)
+
+  -- the name is new
   pub names-new : lacks f (map name (t .waiting)) ≡ true → lacks f (t .flight) ≡ true → lacks f (names t) ≡ true
-  names-new a b = all-append (λ x. not (same f x)) (map name (t .waiting)) (t .flight) a b
+  names-new a b = lacks-names ∙ join a b
 
+  -- it waits
   pub waits-used : lacks f (map name (t .waiting)) ≡ false → lacks f (names t) ≡ false
-  waits-used e = all-left (λ x. not (same f x)) (map name (t .waiting)) (t .flight) e
+  waits-used e = lacks-names ∙ left-fails (lacks f (t .flight)) e
 
+  -- it is in flight
   pub flies-used : lacks f (t .flight) ≡ false → lacks f (names t) ≡ false
-  flies-used e = all-right (λ x. not (same f x)) (map name (t .waiting)) (t .flight) e
+  flies-used e = lacks-names ∙ right-fails (lacks f (map name (t .waiting))) e
 
 -- THE REFUSALS of a name in use and of a full table, and what an arrival that is ready knows
 module _ (g : Gate) (gs ws fs : List ℕ) (k : Known g gs ws fs) (f : Flight) (now : ℕ) (timely : Timely g (f .guest) now) where
@@ -150,13 +146,16 @@ module _ (g : Gate) (gs ws fs : List ℕ) (k : Known g gs ws fs) (f : Flight) (n
 
   -- what the survey of the guest's own rows says
   module _ (o : Own) (eo : o ≡ ownOf f (at .waiting)) where
+    own-told : (y : Own) → o ≡ y → Says y f (at .waiting)
+    own-told y e = subst (λ (y : Own). Says y f (at .waiting)) (sym eo ∙ e) (own-says f (at .waiting))
+
     pub own-repeated : o ≡ Repeated → lacks f (map name (at .waiting)) ≡ false
-    own-repeated e = subst (λ (y : Own). Says y f (at .waiting)) (sym eo ∙ e) (own-says f (at .waiting))
+    own-repeated e = own-told Repeated e
 
     pub own-waits : o ≡ Waits → (lacks f (map name (at .waiting)) ≡ true) × (idle at (f .guest) ≡ false)
     unfolding idle
-    own-waits e = subst (λ (y : Own). Says y f (at .waiting)) (sym eo ∙ e) (own-says f (at .waiting))
+    own-waits e = own-told Waits e
 
     pub own-idle : o ≡ Idle → (lacks f (map name (at .waiting)) ≡ true) × (idle at (f .guest) ≡ true)
     unfolding idle
-    own-idle e = subst (λ (y : Own). Says y f (at .waiting)) (sym eo ∙ e) (own-says f (at .waiting))
+    own-idle e = own-told Idle e
