@@ -12,7 +12,7 @@ use Rattle.rules.specs.Refusals.{eventTests}
 use Rattle.rules.specs.Run.{decided, step, fresh}
 use Rattle.trace.specs.Header.{same, headerTests}
 use Rattle.trace.specs.Event.{eventFrom, eventOf, eventsOf}
-use Rattle.lines.specs.Line.{decimalIn, lineOf, refusalLine}
+use Rattle.lines.specs.Line.{decimalIn, lineOf, traceRefused, refusalLine, titleLine}
 use Rattle.trace.specs.Printed.{answered, answersTo, tableAfter, linesFrom, lines, left, cut, finished, printed}
 
 -- "depth 4, one guest (reservation 100, limit 250, shares 1), capacity 8"; "arrivals of ids 1, 2, 3, 4 at 0; ticks at 4, 8, 10, 9; completion
@@ -56,11 +56,7 @@ example-printed = refl
 
 -- a line `trace refused` with these digits
 abbrev refused : List ℕ → List ℕ
-refused ds = 116 ∷ 114 ∷ 97 ∷ 99 ∷ 101 ∷ 32 ∷ 114 ∷ 101 ∷ 102 ∷ 117 ∷ 115 ∷ 101 ∷ 100 ∷ 32 ∷ (ds ++ (10 ∷ []))
-
--- the line `event answer`
-abbrev title : List ℕ
-title = 101 ∷ 118 ∷ 101 ∷ 110 ∷ 116 ∷ 32 ∷ 97 ∷ 110 ∷ 115 ∷ 119 ∷ 101 ∷ 114 ∷ 10 ∷ []
+refused ds = traceRefused ++ (32 ∷ (ds ++ (10 ∷ [])))
 
 -- a record of one guest: reservation, limit and shares in one byte each
 abbrev guest : (reservation limit shares : ℕ) → List ℕ
@@ -79,7 +75,7 @@ pub record Refusals : Type 0 where
   pub then-counts : printed (83 ∷ 71 ∷ 81 ∷ 1 ∷ 0 ∷ 65 ∷ 1 ∷ 8 ∷ 0 ∷ []) ≡ refused (49 ∷ [])
   pub then-records : printed (opening ++ (9 ∷ 0 ∷ 0 ∷ 0 ∷ 8 ∷ 0 ∷ 0 ∷ 0 ∷ 1 ∷ 0 ∷ 0 ∷ [])) ≡ refused (49 ∷ 51 ∷ [])
   pub then-settings : printed (opening ++ (guest 9 8 1 ++ (3 ∷ []))) ≡ refused (49 ∷ [])
-  pub equal-is-good : printed (opening ++ guest 8 8 1) ≡ title
+  pub equal-is-good : printed (opening ++ guest 8 8 1) ≡ titleLine
   -- a kind above 2 of an unknown guest, a tick with an id, a tick with a guest, and an event that is cut short
   pub bad-events : printed
       (opening ++ (guest 0 0 1
@@ -87,8 +83,9 @@ pub record Refusals : Type 0 where
       ∷ 2 ∷ 0 ∷ 1 ∷ 0 ∷ 0 ∷ 0 ∷ 0 ∷ 0 ∷ 0 ∷ 0 ∷ 0 ∷ 0 ∷ 0 ∷ 0
       ∷ 2 ∷ 1 ∷ 0 ∷ 0 ∷ 0 ∷ 0 ∷ 0 ∷ 0 ∷ 0 ∷ 0 ∷ 0 ∷ 0 ∷ 0 ∷ 0
       ∷ 2 ∷ [])))
-      ≡ title ++ (49 ∷ 32 ∷ 88 ∷ 32 ∷ 49 ∷ 52 ∷ 10 ∷ 50 ∷ 32 ∷ 88 ∷ 32 ∷ 49 ∷ 52 ∷ 10 ∷ 51 ∷ 32 ∷ 88 ∷ 32 ∷ 49 ∷ 52 ∷ 10 ∷ 52 ∷ 32 ∷ 88 ∷ 32 ∷ 49 ∷ 53 ∷ 10 ∷ [])
+      ≡ titleLine ++ (49 ∷ 32 ∷ 88 ∷ 32 ∷ 49 ∷ 52 ∷ 10 ∷ 50 ∷ 32 ∷ 88 ∷ 32 ∷ 49 ∷ 52 ∷ 10 ∷ 51 ∷ 32 ∷ 88 ∷ 32 ∷ 49 ∷ 52 ∷ 10 ∷ 52 ∷ 32 ∷ 88 ∷ 32 ∷ 49 ∷ 53 ∷ 10 ∷ [])
 
+-- and they are so printed
 pub refusals : Refusals
 unfolding counted settled same headerTests eventFrom eventOf eventsOf decimalIn lineOf refusalLine answered answersTo tableAfter linesFrom lines left cut finished printed
 refusals =

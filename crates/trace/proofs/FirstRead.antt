@@ -14,7 +14,7 @@ use Rattle.rules.specs.Sound.{counted, settled}
 use Rattle.rules.specs.Refusals.{Verdict, accept, refuse, judged}
 use Rattle.trace.specs.Little.{byteAt}
 use Rattle.trace.specs.Header.{mark, same, versionOf, depthOf, guestsOf, capacityOf, body, numberAt, settingsAt, settingsIn, headerTests, headerBy, headerOf}
-use Rattle.trace.proofs.HeaderLaws.{few-guests}
+use Rattle.rules.proofs.Conditions.{counted-means}
 
 -- the most bytes of a header
 abbrev pub longest : ℕ
@@ -60,7 +60,7 @@ module _ (xs ys : List ℕ) (long : longest ≤ length xs) where
       go : (b : Bool) → counted (depthOf xs) (guestsOf xs) (capacityOf xs) ≡ b → judged (headerTests (xs ++ ys)) ≡ judged (headerTests xs)
       go false e = simp (le-ltb (length (xs ++ ys)) 9 (omega (arith, l)), le-ltb (length xs) 9 (omega arith), m, v, counts-same, e)
       go true e =
-          let few : guestsOf xs ≤ 64 = few-guests _ _ _ e in
+          let few : guestsOf xs ≤ 64 = counted-means _ _ _ .holds .0 e .guest-count .1 in
           let s : all settled (settingsIn (xs ++ ys)) ≡ all settled (settingsIn xs) = ap (all settled) (settings-same few) in
           simp (le-ltb (length (xs ++ ys)) 9 (omega (arith, l)), le-ltb (length xs) 9 (omega arith), m, v, counts-same, e, le-ltb (length (xs ++ ys)) (body (guestsOf (xs ++ ys))) (omega (arith, guests-same, l)), le-ltb (length xs) (body (guestsOf xs)) (omega arith), s)
 

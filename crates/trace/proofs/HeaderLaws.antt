@@ -1,26 +1,27 @@
 -- What the header's functions cite, and what a header that opens says of its bytes. Assumes nothing.
 use Prim.Native.Nat.{ℕ, zero, suc, _+_, _≤_, _<_}
 use mathlib.Core.Path.{_≡_, refl, sym, ap, _∙_, subst}
-use mathlib.Core.Bool.{Bool, true, false, _&&_, and-false}
+use mathlib.Core.Bool.{Bool, true, false, and-false}
 use mathlib.Core.List.{List, [], _∷_, map}
 use native.Mathlib.Omega.{arith}
 use native.Mathlib.Nat.{not-suc-le-zero, le-of-suc-le-suc}
 use native.Mathlib.Numerals.{add-one}
-use lib.Dec.{eqb, leb}
+use lib.Dec.{eqb}
 use lib.ListN.{length}
-use borrow.Author.Tests.{eqb-true, eq-eqb, leb-true, ltb-false, not-false}
+use borrow.Author.Tests.{eqb-true, eq-eqb, ltb-false, not-false}
 use Rattle.lists.specs.Words.{all}
 use Rattle.lists.specs.WordsLaws.{both, join, all-append}
 use Rattle.lists.specs.Tab.{tab, tab-snoc}
-use Rattle.rules.specs.Numbers.{within}
 use Rattle.rules.specs.Answers.{numberOf}
 use Rattle.rules.specs.Sound.{counted, settled}
-use Rattle.rules.specs.Refusals.{Test, Verdict, accept, refuse, judged}
+use Rattle.rules.specs.Refusals.{Verdict, accept, refuse, judged}
+use Rattle.rules.proofs.Judged.{accepted-exactly}
 use Rattle.trace.specs.Header.{same, depthOf, guestsOf, capacityOf, body, settingsIn, headerTests, headerOf}
 use Rattle.trace.specs.declared.Header.the-variants.{Opened, Refused}
 
 -- THE MARK
 
+-- lists that are the same are equal
 same-eq : (xs ys : List ℕ) → same xs ys ≡ true → xs ≡ ys
 unfolding same
 same-eq [] [] e = refl
@@ -32,6 +33,7 @@ same-eq (x ∷ xs) (y ∷ ys) e =
     let q : xs ≡ ys = same-eq xs ys (h .1) in
     cc
 
+-- and a list is the same as itself
 same-refl : (xs : List ℕ) → same xs xs ≡ true
 unfolding same
 same-refl [] = refl
@@ -65,19 +67,6 @@ header-order bs = refl
 
 -- A HEADER THAT OPENS
 
--- no condition of the list holds
-abbrev Fail : List Test → Type 0
-Fail [] = Unit {0}
-Fail (c ∷ cs) = (c .holds ≡ false) × Fail cs
-
-fail : (cs : List Test) → judged cs ≡ accept → Fail cs
-fail [] e = tt
-fail (c ∷ cs) e = go (c .holds) refl (fail cs)
-  where
-    go : (b : Bool) → c .holds ≡ b → (judged cs ≡ accept → Fail cs) → (c .holds ≡ false) × Fail cs
-    go true q f = let z : refuse (c .refusal) ≡ accept = rw q at e in let y : _≡_ {A = ℕ} 0 1 = cc in absurd (omega arith)
-    go false q f = (q, f (rw q at e))
-
 -- what the bytes of a header that opens are
 pub record Opens (bs : List ℕ) (depth guests capacity : ℕ) : Type 0 where
   pub depthIs : depth ≡ depthOf bs
@@ -87,10 +76,11 @@ pub record Opens (bs : List ℕ) (depth guests capacity : ℕ) : Type 0 where
   pub whole : body guests ≤ length bs
   pub settings : all settled (settingsIn bs) ≡ true
 
+-- the bytes of a header that no test refuses
 opens : (bs : List ℕ) → judged (headerTests bs) ≡ accept → Opens bs (depthOf bs) (guestsOf bs) (capacityOf bs)
 unfolding headerTests
 opens bs e =
-    let n = fail (headerTests bs) e .1 .1 .1 in
+    let n = accepted-exactly (headerTests bs) .0 e .1 .1 .1 in
     record {
       depthIs = refl;
       guestsIs = refl;
@@ -100,6 +90,7 @@ opens bs e =
       settings = not-false _ (n .1 .1 .0);
     }
 
+-- a header that opens
 pub opened : (bs : List ℕ) (d n c : ℕ) → headerOf bs ≡ Opened d n c → Opens bs d n c
 opened bs d n c h = go (judged (headerTests bs)) refl
   where
@@ -111,10 +102,3 @@ opened bs d n c h = go (judged (headerTests bs)) refl
         let z : c ≡ capacityOf bs = cc in
         rw (x, y, z) (opens bs e)
     go (refuse r) e = let q : Refused r ≡ Opened d n c = rw e at h in let z : _≡_ {A = ℕ} 0 1 = cc in absurd (omega arith)
-
--- "1 to 64 guests"
-pub few-guests : (d n c : ℕ) → counted d n c ≡ true → n ≤ 64
-unfolding counted
-few-guests d n c e =
-    let two = both (within 1 64 d && within 1 64 n) (within 1 1024 c) e .0 in
-    leb-true n 64 (both (leb 1 n) (leb n 64) (both (within 1 64 d) (within 1 64 n) two .1) .1)

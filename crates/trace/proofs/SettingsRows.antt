@@ -14,14 +14,17 @@ use Rattle.table.specs.View.{settingsForm}
 use Rattle.trace.specs.Header.{numberAt, settingsAt}
 
 module _ (bs old : List ℕ) (n : ℕ) (room : n * 3 ≤ length old) where
+  -- what `read_settings` leaves
   abbrev written : List ℕ
   written = sets old 0 (tab (n * 3) (numberAt bs))
 
+  -- number j of it
   at : (j : ℕ) → j < n * 3 → getD written j 0 ≡ numberAt bs j
   at j h =
       getD-sets old (tab (n * 3) (numberAt bs)) j 0 (omega (arith, length-tab (n * 3) (numberAt bs))) (omega (arith, length-tab (n * 3) (numberAt bs)))
       ∙ getD-tab (n * 3) (numberAt bs) j 0 h
 
+  -- row k of it
   row : (k : ℕ) → k < n → settingsForm .read (lineAt 3 written k) ≡ settingsAt bs k
   row k h =
       let z : k * 3 + 0 ≡ k * 3 = omega arith in
@@ -30,5 +33,6 @@ module _ (bs old : List ℕ) (n : ℕ) (room : n * 3 ≤ length old) where
       ∙ ap (λ (v : ℕ). record { reservation = numberAt bs (k * 3); limit = v; shares = getD written (k * 3 + 2) 0 }) (at (k * 3 + 1) (omega arith))
       ∙ ap (λ (v : ℕ). record { reservation = numberAt bs (k * 3); limit = numberAt bs (k * 3 + 1); shares = v }) (at (k * 3 + 2) (omega arith))
 
+  -- all rows of it
   pub settings-rows : rowsOf settingsForm written n ≡ tab n (settingsAt bs)
   settings-rows = rows-tab settingsForm written n ∙ tab-ext n (λ k. settingsForm .read (lineAt 3 written k)) (settingsAt bs) row
