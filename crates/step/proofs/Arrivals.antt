@@ -11,13 +11,10 @@ use Rattle.lists.specs.Rows.{overRows, Unused}
 use Rattle.lists.specs.RowsLaws.{length-rows, length-over-rows, rows-over, over-twice, over-unused, over-same}
 use Rattle.rules.specs.Numbers.{ceiling}
 use Rattle.rules.specs.Tables.{Setup, Guest, Request, Flight, Table, owner, idle, lacks, names}
-use Rattle.rules.specs.Sound.{sound}
 use Rattle.rules.specs.Choice.{choice}
 use Rattle.rules.specs.Events.{Arriving, Event, arrival, calledBy, adjusted, stamped, stampedFor, following, placed, arriveAs, arrive, enter}
 use Rattle.rules.specs.Refusals.{eventTests, passing, accept, refuse, judged, verdict, isAccept, accepted}
 use Rattle.rules.specs.Run.{step}
-use Rattle.rules.proofs.Facts.{is-sound}
-use Rattle.rules.proofs.EnterSound.{enter-sound}
 use Rattle.rules.proofs.Settings.{adjusted-settings, same-count}
 use Rattle.rules.specs.declared.Gate.{Gate}
 use Rattle.rules.specs.declared.Refusal.the-variants.{IdInUse, NoRoom, TagAboveCeiling}
@@ -81,9 +78,6 @@ module _ (g : Gate) (gs ws fs : List ℕ) (k : Known g gs ws fs) (a : Arriving) 
         module _ (p : passing i now a t ≡ false) where
           taken : accepted t ev ≡ true
           taken = ap isAccept arrival-left ∙ rw p
-
-          firm : sound (enter t ev) ≡ true
-          firm = is-sound (enter t ev) (enter-sound t ev taken)
 
           -- the table as it is settled, and the request with its tags
           abbrev s : Table
@@ -170,7 +164,7 @@ module _ (g : Gate) (gs ws fs : List ℕ) (k : Known g gs ws fs) (a : Arriving) 
 
             module _ (bits : a .id < 4294967296) where
               pub arrival-known : Known (placedGate now g) (followed (a .guest) (q .rtag) (q .ltag) (q .stag) hs) (appended (g .waiting) q vs) fs
-              arrival-known = entered-known g gs ws fs k ev taken firm (lt-ltb (a .id) 4294967296 bits) (placedGate now g) (followed (a .guest) (q .rtag) (q .ltag) (q .stag) hs) (appended (g .waiting) q vs) fs arrival-written
+              arrival-known = entered-known g gs ws fs k ev taken (lt-ltb (a .id) 4294967296 bits) (placedGate now g) (followed (a .guest) (q .rtag) (q .ltag) (q .stag) hs) (appended (g .waiting) q vs) fs arrival-written
 
               pub arrival-moves : does choice (placedGate now g) (followed (a .guest) (q .rtag) (q .ltag) (q .stag) hs) (appended (g .waiting) q vs) fs ≡ does (λ t. step t ev) g gs ws fs
-              arrival-moves = entered-moves g gs ws fs k ev taken firm (lt-ltb (a .id) 4294967296 bits) (placedGate now g) (followed (a .guest) (q .rtag) (q .ltag) (q .stag) hs) (appended (g .waiting) q vs) fs arrival-written
+              arrival-moves = entered-moves g gs ws fs k ev taken (lt-ltb (a .id) 4294967296 bits) (placedGate now g) (followed (a .guest) (q .rtag) (q .ltag) (q .stag) hs) (appended (g .waiting) q vs) fs arrival-written

@@ -1,15 +1,15 @@
 -- A test that every name in a table passes, passes after a step too: a step brings only the name that arrives. Assumes nothing.
 use Prim.Native.Nat.{ℕ}
-use mathlib.Core.Path.{_≡_, refl, ap, _∙_}
-use mathlib.Core.Bool.{Bool, true, false}
+use mathlib.Core.Path.{_≡_, refl, ap, _∙_, subst}
+use mathlib.Core.Bool.{Bool, true}
 use mathlib.Core.List.{List, [], _∷_, _++_, map}
-use Rattle.lists.specs.Words.{if_then_else_, all, without}
+use Rattle.lists.specs.Words.{all, without}
 use Rattle.lists.specs.WordsLaws.{join, all-append, all-parts, all-mid, all-without, map-append}
 use Rattle.rules.specs.Tables.{Request, Flight, Table, idle, name, same, names}
-use Rattle.rules.specs.Choice.{Pick, nobody, picked, least, due, open?, sending, byWeight, byReservation, room, choice}
+use Rattle.rules.specs.Choice.{Pick, due, open?, sending, choice}
 use Rattle.rules.specs.Events.{Event, arrival, completion, tick, calledBy, adjusted, stamped, stampedFor, placed, arriveAs, arrive, complete, wait, enter}
-use Rattle.rules.specs.declared.Answer.the-variants.{Nothing}
 use Rattle.rules.proofs.Picks.{Between, Split, splits}
+use Rattle.rules.proofs.Cases.{choice-by}
 use Rattle.rules.proofs.Drops.{dropped-names}
 use Rattle.rules.proofs.ArriveSound.{adjusted-names}
 
@@ -24,22 +24,14 @@ module _ (f : Flight → Bool) where
       let stay : all f (map name v) ≡ true = rw (b .stay, map-append name (b .before) (b .after)) (m .1) in
       all-append f (map name v) (t .flight ++ (name p ∷ [])) stay (all-append f (t .flight) (name p ∷ []) (c .1) (join (m .0) refl))
 
-  weight-all : (t : Table) (k : Pick) → Split k (t .waiting) → all f (names t) ≡ true → all f (names ((byWeight t k) .table)) ≡ true
-  unfolding byWeight
-  weight-all t nobody s h = h
-  weight-all t (picked q w) s h = ap (all f) (dropped-names q (sending t q w)) ∙ sending-all t q w s h
-
-  reservation-all : (t : Table) (k : Pick) → Split k (t .waiting) → all f (names t) ≡ true → all f (names ((byReservation t k) .table)) ≡ true
-  unfolding byReservation
-  reservation-all t nobody s h = weight-all t (least (open? t) Request.stag (t .waiting)) (splits (open? t) Request.stag (t .waiting)) h
-  reservation-all t (picked q w) s h = sending-all t q w s h
-
+  -- the choice moves names only from the waiting to flight
   pub choice-all : (t : Table) → all f (names t) ≡ true → all f (names ((choice t) .table)) ≡ true
-  unfolding choice
   choice-all t h =
-      elim (room t) as (λ b. all f (names ((if b then byReservation t (least (due t) Request.rtag (t .waiting)) else record { table = t; answer = Nothing }) .table)) ≡ true)
-      [ true ↦ reservation-all t (least (due t) Request.rtag (t .waiting)) (splits (due t) Request.rtag (t .waiting)) h | false ↦ h ]
+      choice-by (λ r. all f (names (r .table)) ≡ true) t h
+      (λ p v m e. sending-all t p v (subst (λ (k : Pick). Split k (t .waiting)) e (splits (due t) Request.rtag (t .waiting))) h)
+      (λ p v m n e. ap (all f) (dropped-names p (sending t p v)) ∙ sending-all t p v (subst (λ (k : Pick). Split k (t .waiting)) e (splits (open? t) Request.stag (t .waiting))) h)
 
+  -- a request with a name that passes is placed
   placed-all : (now : ℕ) (q : Request) (t : Table) → f (name q) ≡ true → all f (names t) ≡ true → all f (names (placed now q t)) ≡ true
   unfolding placed
   placed-all now q t e h =
@@ -53,6 +45,7 @@ module _ (f : Flight → Bool) where
   Brings (completion g now) = Unit {0}
   Brings (tick now) = Unit {0}
 
+  -- what enters with an event
   pub enter-all : (t : Table) (e : Event) → Brings e → all f (names t) ≡ true → all f (names (enter t e)) ≡ true
   unfolding enter arrive arriveAs stamped complete wait
   enter-all t (arrival a now) b h =

@@ -12,13 +12,10 @@ use Rattle.lists.specs.Rows.{overRows}
 use Rattle.lists.specs.RowsLaws.{length-rows}
 use Rattle.rules.specs.Numbers.{ceiling}
 use Rattle.rules.specs.Tables.{Flight, Table, same}
-use Rattle.rules.specs.Sound.{sound}
 use Rattle.rules.specs.Choice.{choice}
 use Rattle.rules.specs.Events.{Event, completion, tick, complete, wait, enter}
 use Rattle.rules.specs.Refusals.{eventTests, refuse, judged, verdict, isAccept, accepted}
 use Rattle.rules.specs.Run.{step}
-use Rattle.rules.proofs.Facts.{is-sound}
-use Rattle.rules.proofs.EnterSound.{enter-sound}
 use Rattle.rules.specs.declared.Gate.{Gate}
 use Rattle.rules.specs.declared.Refusal.the-variants.{TimeAboveCeiling, TimeBeforeLast, NotInFlight}
 use Rattle.table.specs.View.{flightForm, tableOf, Known}
@@ -58,14 +55,11 @@ module _ (g : Gate) (gs ws fs : List ℕ) (k : Known g gs ws fs) (now : ℕ) whe
     unfolding enter wait
     tick-written = let p = known-written g gs ws fs k in λ i. (timedGate now (p i .0), p i .1, p i .2, p i .3)
 
-    tick-firm : sound (enter t (tick now)) ≡ true
-    tick-firm = is-sound (enter t (tick now)) (enter-sound t (tick now) tick-taken)
-
     pub tick-known : Known (timedGate now g) gs ws fs
-    tick-known = entered-known g gs ws fs k (tick now) tick-taken tick-firm tt (timedGate now g) gs ws fs tick-written
+    tick-known = entered-known g gs ws fs k (tick now) tick-taken tt (timedGate now g) gs ws fs tick-written
 
     pub tick-moves : does choice (timedGate now g) gs ws fs ≡ does (λ t. step t (tick now)) g gs ws fs
-    tick-moves = entered-moves g gs ws fs k (tick now) tick-taken tick-firm tt (timedGate now g) gs ws fs tick-written
+    tick-moves = entered-moves g gs ws fs k (tick now) tick-taken tt (timedGate now g) gs ws fs tick-written
 
   -- A COMPLETION
 
@@ -91,9 +85,6 @@ module _ (g : Gate) (gs ws fs : List ℕ) (k : Known g gs ws fs) (now : ℕ) whe
         unfolding eventTests
         taken = ap isAccept completion-judged ∙ rw (f .1)
 
-        firm : sound (enter t ev) ≡ true
-        firm = is-sound (enter t ev) (enter-sound t ev taken)
-
         -- the numbers once it has left show what the completion enters
         out-written : (freedGate now g, gs, ws, freed place (g .flight) fs) ≡ written gs ws fs (enter t ev)
         unfolding enter complete
@@ -105,7 +96,7 @@ module _ (g : Gate) (gs ws fs : List ℕ) (k : Known g gs ws fs) (now : ℕ) whe
             λ i. (record { depth = g .depth; guests = p i .0 .guests; capacity = g .capacity; time = now; waiting = p i .0 .waiting; flight = n i }, p i .1, p i .2, pf i)
 
         pub completion-known : {es : List ℕ} → es ≡ freed place (g .flight) fs → Known (freedGate now g) gs ws es
-        completion-known e = rw e (entered-known g gs ws fs k ev taken firm tt (freedGate now g) gs ws (freed place (g .flight) fs) out-written)
+        completion-known e = rw e (entered-known g gs ws fs k ev taken tt (freedGate now g) gs ws (freed place (g .flight) fs) out-written)
 
         pub completion-moves : {es : List ℕ} → es ≡ freed place (g .flight) fs → does choice (freedGate now g) gs ws es ≡ does (λ t. step t ev) g gs ws fs
-        completion-moves e = rw e (entered-moves g gs ws fs k ev taken firm tt (freedGate now g) gs ws (freed place (g .flight) fs) out-written)
+        completion-moves e = rw e (entered-moves g gs ws fs k ev taken tt (freedGate now g) gs ws (freed place (g .flight) fs) out-written)
