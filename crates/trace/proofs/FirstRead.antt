@@ -21,29 +21,37 @@ abbrev pub longest : ℕ
 longest = body 64
 
 module _ (xs ys : List ℕ) (long : longest ≤ length xs) where
+  -- a byte of the first read
   at : (i : ℕ) → i < length xs → byteAt (xs ++ ys) i ≡ byteAt xs i
   at i h = List·getD-append xs ys 0 i h
 
+  -- a number of its records
   number : (j : ℕ) → 12 + 4 * j < length xs → numberAt (xs ++ ys) j ≡ numberAt xs j
   number j h = rw (at (9 + 4 * j) (omega arith), at (9 + 4 * j + 1) (omega arith), at (9 + 4 * j + 2) (omega arith), at (9 + 4 * j + 3) (omega arith))
 
+  -- a record
   one-guest : (k : ℕ) → k < 64 → settingsAt (xs ++ ys) k ≡ settingsAt xs k
   one-guest k h =
-      ap (λ (r : ℕ). record { reservation = r; limit = numberAt (xs ++ ys) (k * 3 + 1); shares = numberAt (xs ++ ys) (k * 3 + 2) }) (number (k * 3) (omega arith))
-      ∙ ap (λ (l : ℕ). record { reservation = numberAt xs (k * 3); limit = l; shares = numberAt (xs ++ ys) (k * 3 + 2) }) (number (k * 3 + 1) (omega arith))
-      ∙ ap (λ (s : ℕ). record { reservation = numberAt xs (k * 3); limit = numberAt xs (k * 3 + 1); shares = s }) (number (k * 3 + 2) (omega arith))
+      let r = number (k * 3) (omega arith) in
+      let l = number (k * 3 + 1) (omega arith) in
+      let s = number (k * 3 + 2) (omega arith) in
+      λ i. record { reservation = r i; limit = l i; shares = s i }
 
+  -- how many guests there are
   guests-same : guestsOf (xs ++ ys) ≡ guestsOf xs
   guests-same = at 6 (omega arith)
 
+  -- all records
   pub settings-same : guestsOf xs ≤ 64 → settingsIn (xs ++ ys) ≡ settingsIn xs
   settings-same few =
       ap (λ (n : ℕ). tab n (settingsAt (xs ++ ys))) guests-same
       ∙ tab-ext (guestsOf xs) (settingsAt (xs ++ ys)) (settingsAt xs) (λ k h. one-guest k (omega arith))
 
+  -- whether the counts are in range
   counts-same : counted (depthOf (xs ++ ys)) (guestsOf (xs ++ ys)) (capacityOf (xs ++ ys)) ≡ counted (depthOf xs) (guestsOf xs) (capacityOf xs)
   counts-same = rw (at 5 (omega arith), at 6 (omega arith), at 7 (omega arith), at 8 (omega arith))
 
+  -- the verdict on the header
   judged-same : judged (headerTests (xs ++ ys)) ≡ judged (headerTests xs)
   unfolding headerTests
   judged-same = go (counted (depthOf xs) (guestsOf xs) (capacityOf xs)) refl
@@ -64,9 +72,11 @@ module _ (xs ys : List ℕ) (long : longest ≤ length xs) where
           let s : all settled (settingsIn (xs ++ ys)) ≡ all settled (settingsIn xs) = ap (all settled) (settings-same few) in
           simp (le-ltb (length (xs ++ ys)) 9 (omega (arith, l)), le-ltb (length xs) 9 (omega arith), m, v, counts-same, e, le-ltb (length (xs ++ ys)) (body (guestsOf (xs ++ ys))) (omega (arith, guests-same, l)), le-ltb (length xs) (body (guestsOf xs)) (omega arith), s)
 
+  -- what it makes of the bytes
   by-same : (v : Verdict) → headerBy v (xs ++ ys) ≡ headerBy v xs
   by-same accept = rw (at 5 (omega arith), at 6 (omega arith), at 7 (omega arith), at 8 (omega arith))
   by-same (refuse r) = refl
 
+  -- so the header
   pub header-same : headerOf (xs ++ ys) ≡ headerOf xs
   header-same = ap (λ (v : Verdict). headerBy v (xs ++ ys)) judged-same ∙ by-same (judged (headerTests xs))

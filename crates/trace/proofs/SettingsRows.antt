@@ -29,9 +29,9 @@ module _ (bs old : List ℕ) (n : ℕ) (room : n * 3 ≤ length old) where
   row k h =
       let z : k * 3 + 0 ≡ k * 3 = omega arith in
       let r : getD written (k * 3 + 0) 0 ≡ numberAt bs (k * 3) = ap (λ (i : ℕ). getD written i 0) z ∙ at (k * 3) (omega arith) in
-      ap (λ (v : ℕ). record { reservation = v; limit = getD written (k * 3 + 1) 0; shares = getD written (k * 3 + 2) 0 }) r
-      ∙ ap (λ (v : ℕ). record { reservation = numberAt bs (k * 3); limit = v; shares = getD written (k * 3 + 2) 0 }) (at (k * 3 + 1) (omega arith))
-      ∙ ap (λ (v : ℕ). record { reservation = numberAt bs (k * 3); limit = numberAt bs (k * 3 + 1); shares = v }) (at (k * 3 + 2) (omega arith))
+      let l = at (k * 3 + 1) (omega arith) in
+      let s = at (k * 3 + 2) (omega arith) in
+      λ i. record { reservation = r i; limit = l i; shares = s i }
 
   -- all rows of it
   pub settings-rows : rowsOf settingsForm written n ≡ tab n (settingsAt bs)
