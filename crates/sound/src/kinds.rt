@@ -1,5 +1,6 @@
 // One kind of tag at a time: the spacing within each guest, and the next numbers. Kinds are 0 reservation, 1 limit, 2 shares.
 use table::columns::GUEST;
+use table::numbers::CEILING;
 use table::numbers::spacing_down;
 use table::numbers::spacing_up;
 ghost use mathlib.Core.Path.{_≡_};
@@ -24,7 +25,7 @@ const TAGS: usize = 2;
 const NEXTS: usize = 3;
 
 // The most that an idle guest's next number may be: the ceiling plus 1,000,000,000.
-const IDLE: u64 = 4611686019427387903;
+const IDLE: u64 = CEILING + 1000000000;
 
 // How far apart the tags of a kind stand, by the guest's setting of that kind; 0 where the guest lacks it.
 fn gap_of(kind: usize, n: u64) -> u64

@@ -7,6 +7,7 @@ use table::columns::LTAG;
 use table::columns::RESERVATION;
 use table::columns::RTAG;
 use table::columns::STAG;
+use table::numbers::CEILING;
 ghost use mathlib.Core.Path.{_≡_};
 ghost use mathlib.Core.Bool.{_&&_};
 ghost use Prim.Native.Nat.{_+_, _*_, _≤_};
@@ -19,7 +20,7 @@ ghost use Rattle.table.specs.View.{guestsOf, waitingOf, flightsOf};
 ghost use Rattle.walks.specs.Walks.{Picks, Finds, Owned, Rising, SharesFit, placeIn};
 
 // One past the ceiling: no share tag is as large.
-const PAST: u64 = 4611686018427387904;
+const PAST: u64 = CEILING + 1;
 
 // What the walk of the choice finds: the request that each phase would send.
 pub struct Firsts {
