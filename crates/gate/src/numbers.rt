@@ -1,5 +1,6 @@
 // The public calls over lent numbers: six a guest, five a waiting request, two a request in flight. Any value of any number, any length of any
 // slice. What each promises is in specs/Promise.antt.
+use entries::settings::all_settled_list;
 use rules::Answer;
 use rules::Gate;
 use rules::Outcome;
@@ -7,7 +8,6 @@ use rules::Refusal;
 use sound::is_sound;
 use sound::lengths::is_countable;
 use sound::lengths::is_short;
-use sound::settings::all_settled_list;
 ghost use mathlib.Core.Path.{_≡_};
 ghost use Rattle.rules.specs.Events.{Event};
 ghost use Rattle.gate.specs.Promise.{seen, called, opened};

@@ -4,7 +4,3 @@ pub mod DropLaws
 pub mod FollowLaws
 pub mod Lower
 pub mod Start
-pub mod Shares
-pub mod SharesLaws
-pub mod MovableLaws
-pub mod Passing

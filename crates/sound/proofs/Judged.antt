@@ -15,7 +15,7 @@ use Rattle.rules.specs.Sound.{counted, ranges, lawful, distinct, orderly, sound
 use Rattle.rules.specs.declared.Gate.{Gate}
 use Rattle.rules.proofs.Facts.{sound-is, is-sound}
 use Rattle.table.specs.View.{guestForm, requestForm, flightForm, guestsOf, waitingOf, flightsOf, tableOf, countable, identified, zeroed, soundNumbers}
-use Rattle.sound.specs.Tests.{settledGuest, named}
+use Rattle.entries.specs.Tests.{settledGuest, named}
 use Rattle.sound.specs.Names.{namesOf}
 
 -- the order of guest g

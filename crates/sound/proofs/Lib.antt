@@ -1,12 +1,6 @@
 pub mod Fitted
-pub mod Records
 pub mod Places
 pub mod Buckets
-pub mod Chains
-pub mod Floors
-pub mod GapLaws
-pub mod RowFacts
-pub mod OneKind
 pub mod Judged
 pub mod Zeros
 pub mod SoundKnown

@@ -1,4 +1,2 @@
 pub mod Fitting
-pub mod Tests
 pub mod Names
-pub mod Kinds

@@ -1,18 +1,15 @@
 // Whether lent tables are sound, by the numbers in them. Functions for this repository's own crates.
 pub mod lengths; // counts in range, and tables long enough for them
-pub mod settings; // the settings of all guests
-pub mod entries; // each request by itself
 pub mod pairs; // no request twice
-pub mod kinds; // the spacing within each guest, and the next numbers
 pub mod unused; // the places past the counts
 
-use entries::all_flown;
-use entries::all_lawful;
-use entries::all_named;
-use kinds::all_orderly;
+use entries::kinds::all_orderly;
+use entries::requests::all_flown;
+use entries::requests::all_lawful;
+use entries::requests::all_named;
+use entries::settings::all_settled;
 use pairs::all_once;
 use rules::Gate;
-use settings::all_settled;
 use table::numbers::CEILING;
 use unused::is_clear;
 ghost use mathlib.Core.Path.{_≡_};

@@ -23,7 +23,7 @@ use Rattle.table.specs.ViewLaws.{guest-exact, request-exact}
 use Rattle.moves.specs.Moves.{appended, followed}
 use Rattle.table.specs.Stamp.{lawfulTags, movesFit}
 use Rattle.walks.specs.Survey.{highest}
-use Rattle.moves.specs.Passing.{passing-is}
+use Rattle.shares.specs.Passing.{passing-is}
 use Rattle.step.specs.declared.arrive.Stamp.{Stamp}
 use Rattle.step.specs.Does.{does, placedGate}
 use Rattle.step.specs.Arrive.{stampOf, requestOf, Ready, PlacedKnown, Placeable}

@@ -21,10 +21,10 @@ use Rattle.table.specs.View.{guestForm, requestForm, tableOf, Known}
 use Rattle.table.specs.ViewLaws.{guest-exact, request-exact}
 use Rattle.table.specs.Stamp.{movesFit}
 use Rattle.walks.specs.Survey.{idleIn, highest}
-use Rattle.moves.specs.Shares.{TagsMove, NextsMove, movedTags, movedNexts}
-use Rattle.moves.specs.SharesLaws.{adjusted-is}
-use Rattle.moves.specs.MovableLaws.{tags-movable, nexts-movable}
-use Rattle.moves.specs.Passing.{lowest-highest, highest-fits}
+use Rattle.shares.specs.Shares.{TagsMove, NextsMove, movedTags, movedNexts}
+use Rattle.shares.specs.SharesLaws.{adjusted-is}
+use Rattle.shares.specs.MovableLaws.{tags-movable, nexts-movable}
+use Rattle.shares.specs.Passing.{lowest-highest, highest-fits}
 use Rattle.step.specs.Arrive.{Timely, Ready}
 use Rattle.step.proofs.Facts.{facts}
 use Rattle.walks.specs.Walks.{Finds}

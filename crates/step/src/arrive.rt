@@ -136,7 +136,7 @@ fn arrive_idle(
     if CEILING < most + time - least {
         return gates::refused(gate, Refusal::TagAboveCeiling);
     }
-    moves::shares::adjust(guests, known, waiting, count, time, least);
+    shares::adjust(guests, known, waiting, count, time, least);
     place(gate, guests, waiting, flight, guest, id, time, tags)
 }
 

@@ -1,0 +1,6 @@
+pub mod Chains
+pub mod Floors
+pub mod GapLaws
+pub mod OneKind
+pub mod Records
+pub mod RowFacts

@@ -1,0 +1,98 @@
+-- The next numbers of the guests passed are right.
+use Prim.Native.Nat.{_≤_, _-_}
+use mathlib.Core.Path.{_≡_, refl, sym, _∙_}
+use mathlib.Core.Bool.{true}
+use native.Mathlib.Omega.{arith}
+use borrow.Author.Tests.{not-true, not-false}
+use Rattle.lists.specs.Words.{below}
+use Rattle.lists.specs.Walks.{below-next, below-fails}
+use Rattle.entries.specs.Kinds.{endsAt}
+use Rattle.entries.proofs.kinds.all_end.Statement.{statement}
+use Rattle.entries.proofs.kinds.all_end.Tie as tie
+
+abbrev Inv-loop : tie.InvT-loop
+Inv-loop guests known kind gaps floors g₀ g = (g ≤ known) × (below g (endsAt guests kind gaps floors) ≡ true)
+
+abbrev μ-loop : tie.MeasureT-loop
+μ-loop guests known kind gaps floors g₀ g = known - g
+
+loop-holds : tie.Need-loop-holds Inv-loop μ-loop
+loop-holds c = (omega arith, refl)
+
+mul-next : tie.Need-mul-next Inv-loop μ-loop
+mul-next c = omega arith
+
+add-next : tie.Need-add-next Inv-loop μ-loop
+add-next c = omega arith
+
+add-next-2 : tie.Need-add-next-2 Inv-loop μ-loop
+add-next-2 c = omega arith
+
+mul-next-2 : tie.Need-mul-next-2 Inv-loop μ-loop
+mul-next-2 c = omega arith
+
+shared-slice-read-next : tie.Need-shared-slice-read-next Inv-loop μ-loop
+shared-slice-read-next c = omega arith
+
+mul-is-end : tie.Need-mul-is-end Inv-loop μ-loop
+mul-is-end c = omega arith
+
+array-read-is-end : tie.Need-array-read-is-end Inv-loop μ-loop
+array-read-is-end c = omega arith
+
+mul-is-end-2 : tie.Need-mul-is-end-2 Inv-loop μ-loop
+mul-is-end-2 c = omega arith
+
+array-read-is-end-2 : tie.Need-array-read-is-end-2 Inv-loop μ-loop
+array-read-is-end-2 c = omega arith
+
+is-end-requires : tie.Need-is-end-requires Inv-loop μ-loop
+is-end-requires c κs = tt
+
+returns : tie.Need-returns Inv-loop μ-loop
+returns c =
+    let a = c .before .before .before .before .before .before .args in
+    let s = c .before .before .before .before .loop in
+    sym (below-fails (endsAt (a .guests .now) (a .kind) (a .t4) (a .t5)) (a .known) (s .g) (c .before .before .before .loop-test .taken) (sym (c .before .is-end .ensures) ∙ not-true _ (c .if1 .taken)))
+
+add-g : tie.Need-add-g Inv-loop μ-loop
+add-g c = omega arith
+
+loop-less : tie.Need-loop-less Inv-loop μ-loop
+loop-less c = omega arith
+
+loop-again : tie.Need-loop-again Inv-loop μ-loop
+loop-again c =
+    let a = c .before .before .before .before .before .before .args in
+    let s = c .before .before .before .before .loop in
+    (omega arith, below-next (endsAt (a .guests .now) (a .kind) (a .t4) (a .t5)) (s .g) (sym (c .before .is-end .ensures) ∙ not-false _ (c .if1 .left)) (s .inv .1))
+
+returns-2 : tie.Need-returns-2 Inv-loop μ-loop
+returns-2 c =
+    let a = c .before .before .before .args in
+    let s = c .before .loop in
+    let e : s .g ≡ a .known = omega arith in
+    sym (rw e at (s .inv .1))
+
+pub all-end-spec : {M : Type 1} → statement M
+all-end-spec =
+    tie.close
+    (tie.spec
+    Inv-loop
+    μ-loop
+    loop-holds
+    mul-next
+    add-next
+    add-next-2
+    mul-next-2
+    shared-slice-read-next
+    mul-is-end
+    array-read-is-end
+    mul-is-end-2
+    array-read-is-end-2
+    is-end-requires
+    returns
+    add-g
+    loop-less
+    loop-again
+    returns-2)

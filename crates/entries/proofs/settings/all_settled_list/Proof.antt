@@ -1,0 +1,118 @@
+-- The walk goes from the last row to the first: every row behind it has passed.
+use Prim.Native.Nat.{_≤_, _-_}
+use mathlib.Core.Path.{_≡_, sym, _∙_}
+use mathlib.Core.Bool.{true}
+use mathlib.Core.List.{[]}
+use native.Mathlib.Omega.{arith}
+use lib.ListN.{drop}
+use borrow.Author.Tests.{not-true, not-false}
+use Rattle.lists.specs.Words.{all}
+use Rattle.lists.specs.Walks.{all-start, all-next, all-end}
+use Rattle.lists.specs.WordsLaws.{place-not}
+use Rattle.lists.specs.RowsLaws.{length-rows}
+use Rattle.lists.specs.Rows.{rowsOf}
+use Rattle.rules.specs.Sound.{settled}
+use Rattle.table.specs.View.{settingsForm}
+use Rattle.entries.proofs.Records.{settings-is}
+use Rattle.entries.proofs.settings.all_settled_list.Statement.{statement}
+use Rattle.entries.proofs.settings.all_settled_list.Tie as tie
+
+abbrev Inv-loop : tie.InvT-loop
+Inv-loop settings known i₀ i = (i ≤ known) × (all settled (drop i (rowsOf settingsForm settings known)) ≡ true)
+
+abbrev μ-loop : tie.MeasureT-loop
+μ-loop settings known i₀ i = i
+
+loop-holds : tie.Need-loop-holds Inv-loop μ-loop
+loop-holds c =
+    let a = c .before .args in
+    (omega arith, all-start settled (rowsOf settingsForm (a .settings .now) (a .known)) (settingsForm .read []) (a .known) (omega (arith, length-rows settingsForm (a .settings .now) (a .known))))
+
+sub-i : tie.Need-sub-i Inv-loop μ-loop
+sub-i c = omega arith
+
+mul-r : tie.Need-mul-r Inv-loop μ-loop
+mul-r c = omega arith
+
+add-r : tie.Need-add-r Inv-loop μ-loop
+add-r c = omega arith
+
+mul-r-2 : tie.Need-mul-r-2 Inv-loop μ-loop
+mul-r-2 c = omega arith
+
+shared-slice-read-r : tie.Need-shared-slice-read-r Inv-loop μ-loop
+shared-slice-read-r c = omega arith
+
+mul-l : tie.Need-mul-l Inv-loop μ-loop
+mul-l c = omega arith
+
+add-l : tie.Need-add-l Inv-loop μ-loop
+add-l c = omega arith
+
+mul-l-2 : tie.Need-mul-l-2 Inv-loop μ-loop
+mul-l-2 c = omega arith
+
+shared-slice-read-l : tie.Need-shared-slice-read-l Inv-loop μ-loop
+shared-slice-read-l c = omega arith
+
+mul-s : tie.Need-mul-s Inv-loop μ-loop
+mul-s c = omega arith
+
+add-s : tie.Need-add-s Inv-loop μ-loop
+add-s c = omega arith
+
+mul-s-2 : tie.Need-mul-s-2 Inv-loop μ-loop
+mul-s-2 c = omega arith
+
+shared-slice-read-s : tie.Need-shared-slice-read-s Inv-loop μ-loop
+shared-slice-read-s c = omega arith
+
+is-settled-requires : tie.Need-is-settled-requires Inv-loop μ-loop
+is-settled-requires c κs = tt
+
+returns : tie.Need-returns Inv-loop μ-loop
+returns c =
+    let a = c .before .before .before .before .before .before .before .before .args in
+    let s = c .before .before .before .before .before .before .loop in
+    sym (place-not settled (rowsOf settingsForm (a .settings .now) (a .known)) (settingsForm .read []) (s .i - 1) (omega (arith, length-rows settingsForm (a .settings .now) (a .known))) (settings-is (a .settings .now) (a .known) (s .i - 1) (omega arith) ∙ sym (c .before .is-settled .ensures) ∙ not-true _ (c .if1 .taken)))
+
+loop-less : tie.Need-loop-less Inv-loop μ-loop
+loop-less c = omega arith
+
+loop-again : tie.Need-loop-again Inv-loop μ-loop
+loop-again c =
+    let a = c .before .before .before .before .before .before .before .before .args in
+    let s = c .before .before .before .before .before .before .loop in
+    (omega arith, all-next settled (rowsOf settingsForm (a .settings .now) (a .known)) (settingsForm .read []) (s .i) (c .before .before .before .before .before .loop-test .taken) (omega (arith, length-rows settingsForm (a .settings .now) (a .known))) (settings-is (a .settings .now) (a .known) (s .i - 1) (omega arith) ∙ sym (c .before .is-settled .ensures) ∙ not-false _ (c .if1 .left)) (s .inv .1))
+
+returns-2 : tie.Need-returns-2 Inv-loop μ-loop
+returns-2 c =
+    let a = c .before .before .before .args in
+    let s = c .before .loop in
+    all-end settled (rowsOf settingsForm (a .settings .now) (a .known)) (settingsForm .read []) (s .i) (c .loop-test .left) (s .inv .1)
+
+pub all-settled-list-spec : {M : Type 1} → statement M
+all-settled-list-spec =
+    tie.close
+    (tie.spec
+    Inv-loop
+    μ-loop
+    loop-holds
+    sub-i
+    mul-r
+    add-r
+    mul-r-2
+    shared-slice-read-r
+    mul-l
+    add-l
+    mul-l-2
+    shared-slice-read-l
+    mul-s
+    add-s
+    mul-s-2
+    shared-slice-read-s
+    is-settled-requires
+    returns
+    loop-less
+    loop-again
+    returns-2)

@@ -1,0 +1,4 @@
+pub mod MovableLaws
+pub mod Passing
+pub mod Shares
+pub mod SharesLaws
