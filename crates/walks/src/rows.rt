@@ -28,7 +28,8 @@ pub struct Firsts {
     pub open: Found,
 }
 
-// Whether the row at `at` has a reservation tag below the bound. The guest is read only where it is so: an unreserved guest's tags are 0.
+// Whether the row at `at` is of a guest with a reservation, and its reservation tag below the bound. The tag is tested first: where it is not
+// below, no guest is read.
 fn due_before(waiting: &[u64], at: usize, guests: &[u64], guest: usize, bound: u64) -> bool
     requires { ⌜ (at + 5 ≤ length (now waiting)) × (guest * 6 + 6 ≤ length (now guests)) × (guest ≤ 64) ⌝ }
     ensures { λ b. ⌜ b ≡ (ltb (getD (now (waiting .entry)) (at + 2) 0) bound && ltb 0 (getD (now (guests .entry)) (guest * 6 + 0) 0)) ⌝ }
