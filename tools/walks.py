@@ -106,25 +106,23 @@ class Param:
         self.token = f'flft κ{j} q{j}'
         self.own = f'{self.row} .own {self.name} (sv {self.name} ∷ [])'
 
+    # For each kind of slice, what the function still has of the parameter at exit, and the law of that.
+    EXITS = {
+        'records': ('stay-slice ({j} ∷ []) tt (plain (λ _. Rec))', 'goes-slice 𝓤 H A W {count} {j} tt (plain (λ _. Rec))'),
+        'mut': ('gave-slice ({j} ∷ []) tt (plain (λ _. u64))', 'goes-gave-slice 𝓤 H A W {count} {j} tt (plain (λ _. u64))'),
+        'shared': ('stay-none-slice ({j} ∷ []) tt (plain (λ _. u64)) yes',
+                   'goes-none-slice 𝓤 H A W {count} ({j} ∷ []) tt (plain (λ _. u64)) yes'),
+    }
+    # The same for a parameter that is no slice.
+    EXIT = ('stay-none (λ _. {row}) yes', 'goes-none 𝓤 H A W {count} (λ _. {row}) yes (λ κs x f. refl)')
+
     def stay(self):
         """What the function still has of the parameter at exit."""
-        if self.kind == 'records':
-            return f'stay-slice ({self.j} ∷ []) tt (plain (λ _. Rec))'
-        if self.kind == 'mut':
-            return f'gave-slice ({self.j} ∷ []) tt (plain (λ _. u64))'
-        if self.kind == 'shared':
-            return f'stay-none-slice ({self.j} ∷ []) tt (plain (λ _. u64)) yes'
-        return f'stay-none (λ _. {self.row}) yes'
+        return self.EXITS.get(self.kind, self.EXIT)[0].format(**vars(self))
 
     def goes(self, count):
         """The law of that, in a signature of so many lifetimes."""
-        if self.kind == 'records':
-            return f'goes-slice 𝓤 H A W {count} {self.j} tt (plain (λ _. Rec))'
-        if self.kind == 'mut':
-            return f'goes-gave-slice 𝓤 H A W {count} {self.j} tt (plain (λ _. u64))'
-        if self.kind == 'shared':
-            return f'goes-none-slice 𝓤 H A W {count} ({self.j} ∷ []) tt (plain (λ _. u64)) yes'
-        return f'goes-none 𝓤 H A W {count} (λ _. {self.row}) yes (λ κs x f. refl)'
+        return self.EXITS.get(self.kind, self.EXIT)[1].format(count=count, **vars(self))
 
 
 class Walk:
@@ -132,6 +130,14 @@ class Walk:
 
     def __init__(self, items, step='!'):
         self.items, self.steps, self.step = list(items), [], step
+
+    def gather(self, slices):
+        """The tokens of the slices' lifetimes become one and go; what is owned is gathered next."""
+        self.items.insert(0, 'tokens')
+        for p in reversed(slices):
+            self.join('join', p.life, 'tokens', 'tokens')
+        self.say('frame ! $ nothing ! $')
+        self.items[0] = 'owned'
 
     def at(self, name):
         return self.items.index(name)
@@ -287,11 +293,7 @@ def exit_walk(call):
     names = [p.name for p in call.slices] + [p.life for p in call.slices] + ['outcome']
     walk = Walk(names)
     walk.say('nothing ! $')
-    walk.items.insert(0, 'tokens')
-    for p in reversed(call.slices):
-        walk.join('join', p.life, 'tokens', 'tokens')
-    walk.say('frame ! $ nothing ! $')
-    walk.items[0] = 'owned'
+    walk.gather(call.slices)
     for p in reversed(call.params):
         if p.is_slice:
             walk.join('fjoin', p.name, 'owned', 'owned')
@@ -310,11 +312,7 @@ def asked_walk(call):
     items += ['Lent-rows l ν δ' if p is call.records else p.own for p in call.slices]
     walk = Walk([p.life for p in call.slices] + [p.name for p in call.slices])
     walk.say('says ! (subst (λ (m : ℕ). k * 6 ≤ m) (sym (length-rows-384 wanted gs)) (count-room wanted gs)) $ nothing ! $')
-    walk.items.insert(0, 'tokens')
-    for p in reversed(call.slices):
-        walk.join('join', p.life, 'tokens', 'tokens')
-    walk.say('frame ! $ nothing ! $')
-    walk.items[0] = 'owned'
+    walk.gather(call.slices)
     for p in reversed(call.params):
         if p is call.records:
             walk.say('gives ! w64 k k-ok $')

@@ -1,26 +1,21 @@
 -- What the program hands on to be written is what is printed of all the bytes that it read. Assumes nothing.
-use Prim.Native.Nat.{ℕ, _+_, _≤_}
+use Prim.Native.Nat.{ℕ, _≤_}
 use mathlib.Core.Path.{_≡_, refl, sym, ap, ap₂, _∙_}
-use mathlib.Core.Bool.{Bool, true, false}
 use mathlib.Core.List.{List, [], _∷_, _++_}
 use mathlib.Core.Logic.{_⊎_, inl, inr}
 use native.Mathlib.Omega.{arith}
-use lib.Dec.{leb}
 use lib.ListN.{length, take}
 use lib.Seq.{sets-eq, take-append-seam}
 use borrow.Author.Tests.{le-leb}
-use Rattle.lists.specs.Words.{if_then_else_}
 use Rattle.rules.specs.declared.Gate.{Gate}
-use Rattle.lines.specs.Line.{titleLine}
 use Rattle.lines.specs.Put.{Put}
 use Rattle.trace.specs.Header.{headerOf}
-use Rattle.trace.specs.Printed.{Place, lines, left, cut, finished, begun, printed}
+use Rattle.trace.specs.Printed.{Place, lines, cut, finished, printed}
 use Rattle.trace.specs.Reads.{joined, more, asRead, printedFirst, printedReads}
 use Rattle.trace.specs.declared.Header.{Header}
 use Rattle.trace.proofs.FirstRead.{longest}
 use Rattle.trace.proofs.AnySplit.{any-split}
-use Rattle.feed.specs.Promise.{placeOf, Turned}
-use Rattle.decide.specs.Begin.{Begins}
+use Rattle.feed.specs.Promise.{placeOf}
 use Rattle.decide.specs.Whole.{Pumped, stops, goes, Ran, refused, opened}
 
 -- what was put at the front of a buffer is read there again

@@ -15,7 +15,7 @@ use Rattle.rules.specs.Tables.{Settings, Guest, Request, Flight, Table, 
 use Rattle.rules.specs.Sound.{counted, settled, ranges, distinct, lawful, apart, follows, kept, sound}
 use Rattle.rules.specs.Refused.{Countable, Good}
 use Rattle.rules.specs.Chosen.{blank, at}
-use Rattle.rules.proofs.Facts.{Sound, sound-is, is-sound, Orderly, orderly-is, is-orderly, Lawful, lawful-is, is-lawful}
+use Rattle.rules.proofs.Facts.{Sound, sound-is, is-sound, Orderly, orderly-is, is-orderly, lawful-is, is-lawful}
 use Rattle.rules.proofs.Conditions.{counted-means, settled-means, lacking}
 
 -- one kind of tag of what waits of a guest, l, and its next number: the guest has this kind, or lacks it
