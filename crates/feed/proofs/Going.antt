@@ -8,7 +8,7 @@ use Rattle.rules.specs.Tables.{Table}
 use Rattle.rules.specs.Sound.{sound}
 use Rattle.rules.specs.declared.Gate.{Gate}
 use Rattle.rules.specs.declared.Answer.the-variants.{Nothing}
-use Rattle.rules.proofs.Settings.{SameSettings, run-settings}
+use Rattle.rules.proofs.SameSettings.{SameSettings, run-settings}
 use Rattle.rules.proofs.StepSound.{run-sound}
 use Rattle.table.specs.View.{tableOf, Handed, handed, Known}
 use Rattle.step.specs.Does.{Lent, written}

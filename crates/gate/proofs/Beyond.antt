@@ -11,7 +11,7 @@ use Rattle.rules.specs.Choice.{Result, choice}
 use Rattle.rules.specs.Events.{Event, enter}
 use Rattle.rules.specs.Refusals.{Verdict, accept, refuse}
 use Rattle.rules.specs.Run.{newcomer, fresh}
-use Rattle.rules.proofs.Settings.{same-count, choice-settings, enter-settings}
+use Rattle.rules.proofs.SameSettings.{same-count, choice-settings, enter-settings}
 use Rattle.rules.specs.declared.Gate.{Gate}
 use Rattle.table.specs.View.{settingsForm, guestForm, requestForm, flightForm, tableOf, Handed, handed}
 use Rattle.table.specs.ViewLaws.{guest-exact, request-exact, flight-exact}

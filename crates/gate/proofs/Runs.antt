@@ -11,7 +11,7 @@ use Rattle.rules.specs.Choice.{Result, choice}
 use Rattle.rules.specs.Events.{Event, arrival, completion, tick, enter}
 use Rattle.rules.specs.Refusals.{Verdict, accept, refuse, verdict, isAccept, accepted}
 use Rattle.rules.specs.Run.{decided, step, after, answers}
-use Rattle.rules.proofs.Settings.{step-settings}
+use Rattle.rules.proofs.SameSettings.{step-settings}
 use Rattle.rules.proofs.StepSound.{step-sound}
 use Rattle.rules.proofs.Answered.{unrefused}
 use Rattle.table.specs.View.{handed, identified, short, soundNumbers, Known}

@@ -15,7 +15,7 @@ use Rattle.rules.specs.Choice.{Result, choice}
 use Rattle.rules.specs.Events.{Event, enter}
 use Rattle.rules.specs.Refusals.{Verdict, accept, refuse, judged, tests, openTests, isAccept}
 use Rattle.rules.specs.Run.{fresh}
-use Rattle.rules.proofs.Settings.{same-count, choice-settings, enter-settings}
+use Rattle.rules.proofs.SameSettings.{same-count, choice-settings, enter-settings}
 use Rattle.rules.specs.declared.Guest.{Guest}
 use Rattle.rules.specs.declared.Gate.{Gate}
 use Rattle.rules.specs.declared.Outcome.{Outcome}

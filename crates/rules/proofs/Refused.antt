@@ -11,7 +11,7 @@ use Rattle.lists.specs.WordsLaws.{both}
 use Rattle.rules.specs.Numbers.{ceiling}
 use Rattle.rules.specs.Tables.{Settings, Flight, Table, idle, names}
 use Rattle.rules.specs.Sound.{counted, settled, ranges, roomy, timely, known, distinct, lawful, ordered, sound}
-use Rattle.rules.specs.Events.{Arriving, arrival, completion, tick, calledBy}
+use Rattle.rules.specs.Events.{Arriving, Arrival, Completion, Tick, calledBy}
 use Rattle.rules.specs.Refusals.{Test, Verdict, accept, judged, passing, eventTests, tests, openTests}
 use Rattle.rules.specs.Refused.{Passing, ArrivalRefused, CompletionRefused, TickRefused, OpeningRefused}
 use Rattle.rules.specs.declared.Refusal.the-variants.{BadSetting, ShortTable}
@@ -40,7 +40,7 @@ module _ (gives : ℕ → Type 0) (accepts : Type 0) (cs : List Test) (tells : T
   passes = Iff·trans (tells .accepting) (accepted-exactly cs)
 
 module _ (short unsound : Bool) (t : Table) (now : ℕ) (gives : ℕ → Type 0) (accepts : Type 0) where
-  pub arrival-refused : (a : Arriving) → (unsound ≡ false → sound t ≡ true) → Tells (judged (tests short unsound t (arrival a now))) gives accepts → ArrivalRefused short unsound t a now gives accepts
+  pub arrival-refused : (a : Arriving) → (unsound ≡ false → sound t ≡ true) → Tells (judged (tests short unsound t (Arrival a now))) gives accepts → ArrivalRefused short unsound t a now gives accepts
   unfolding eventTests
   arrival-refused a honest tells =
       let g = at-most (length (t .guests)) (a .guest) in
@@ -50,7 +50,7 @@ module _ (short unsound : Bool) (t : Table) (now : ℕ) (gives : ℕ → Type 0)
       let r = equal (length (t .waiting)) (t .setup .capacity) in
       let p : unsound ≡ false → Means (passing (idle t (a .guest)) now a t) (Passing (idle t (a .guest)) now a t) (Passing (idle t (a .guest)) now a t → ⊥)
       = λ u. passing-means (idle t (a .guest)) now a t (lawful-waiting t (honest u)) in
-      let cs = tests short unsound t (arrival a now) in
+      let cs = tests short unsound t (Arrival a now) in
       let given = exactly gives accepts cs tells refl in
       let clear = passes gives accepts cs tells in
       record {
@@ -94,14 +94,14 @@ module _ (short unsound : Bool) (t : Table) (now : ℕ) (gives : ℕ → Type 0)
         );
       }
 
-  pub completion-refused : (f : Flight) → Tells (judged (tests short unsound t (completion f now))) gives accepts → CompletionRefused short unsound t f now gives accepts
+  pub completion-refused : (f : Flight) → Tells (judged (tests short unsound t (Completion f now))) gives accepts → CompletionRefused short unsound t f now gives accepts
   unfolding eventTests
   completion-refused f tells =
       let g = at-most (length (t .guests)) (f .guest) in
       let c = less ceiling now in
       let l = less now (t .time) in
       let i = lacking f (t .flight) in
-      let cs = tests short unsound t (completion f now) in
+      let cs = tests short unsound t (Completion f now) in
       let given = exactly gives accepts cs tells refl in
       let clear = passes gives accepts cs tells in
       record {
@@ -131,12 +131,12 @@ module _ (short unsound : Bool) (t : Table) (now : ℕ) (gives : ℕ → Type 0)
         );
       }
 
-  pub tick-refused : Tells (judged (tests short unsound t (tick now))) gives accepts → TickRefused short unsound t now gives accepts
+  pub tick-refused : Tells (judged (tests short unsound t (Tick now))) gives accepts → TickRefused short unsound t now gives accepts
   unfolding eventTests
   tick-refused tells =
       let c = less ceiling now in
       let l = less now (t .time) in
-      let cs = tests short unsound t (tick now) in
+      let cs = tests short unsound t (Tick now) in
       let given = exactly gives accepts cs tells refl in
       let clear = passes gives accepts cs tells in
       record {
@@ -198,15 +198,15 @@ module _ (short : Bool) (d n c : ℕ) (ss : List Settings) (gives : ℕ → Type
 
 -- the numbers of each call's list, in the order in which they are judged
 module _ (short unsound : Bool) (t : Table) (now : ℕ) where
-  pub arrival-numbers : (a : Arriving) → numbers (tests short unsound t (arrival a now)) ≡ 2 ∷ 3 ∷ 4 ∷ 5 ∷ 6 ∷ 7 ∷ 8 ∷ 9 ∷ []
+  pub arrival-numbers : (a : Arriving) → numbers (tests short unsound t (Arrival a now)) ≡ 2 ∷ 3 ∷ 4 ∷ 5 ∷ 6 ∷ 7 ∷ 8 ∷ 9 ∷ []
   unfolding eventTests
   arrival-numbers a = refl
 
-  pub completion-numbers : (f : Flight) → numbers (tests short unsound t (completion f now)) ≡ 2 ∷ 3 ∷ 4 ∷ 5 ∷ 6 ∷ 10 ∷ []
+  pub completion-numbers : (f : Flight) → numbers (tests short unsound t (Completion f now)) ≡ 2 ∷ 3 ∷ 4 ∷ 5 ∷ 6 ∷ 10 ∷ []
   unfolding eventTests
   completion-numbers f = refl
 
-  pub tick-numbers : numbers (tests short unsound t (tick now)) ≡ 2 ∷ 3 ∷ 5 ∷ 6 ∷ []
+  pub tick-numbers : numbers (tests short unsound t (Tick now)) ≡ 2 ∷ 3 ∷ 5 ∷ 6 ∷ []
   unfolding eventTests
   tick-numbers = refl
 

@@ -10,7 +10,7 @@ use Rattle.rules.specs.Choice.{Result}
 use Rattle.rules.specs.Events.{Event, enter}
 use Rattle.rules.specs.Refusals.{accepted}
 use Rattle.rules.specs.Run.{step}
-use Rattle.rules.proofs.Settings.{SameSettings, step-settings}
+use Rattle.rules.proofs.SameSettings.{SameSettings, step-settings}
 use Rattle.rules.proofs.StepSound.{accepted-step, refused-keeps, step-sound}
 use Rattle.rules.specs.declared.Gate.{Gate}
 use Rattle.table.specs.View.{tableOf, Handed, handed, identified, Known}

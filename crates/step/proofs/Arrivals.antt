@@ -15,7 +15,7 @@ use Rattle.rules.specs.Choice.{choice}
 use Rattle.rules.specs.Events.{Arriving, Event, arrival, calledBy, adjusted, stamped, stampedFor, following, placed, arriveAs, arrive, enter}
 use Rattle.rules.specs.Refusals.{eventTests, passing, accept, refuse, judged, verdict, isAccept, accepted}
 use Rattle.rules.specs.Run.{step}
-use Rattle.rules.proofs.Settings.{adjusted-settings, same-count}
+use Rattle.rules.proofs.SameSettings.{adjusted-settings, same-count}
 use Rattle.rules.specs.declared.Gate.{Gate}
 use Rattle.rules.specs.declared.Refusal.the-variants.{IdInUse, NoRoom, TagAboveCeiling}
 use Rattle.table.specs.View.{guestForm, requestForm, flightForm, guestsOf, waitingOf, tableOf, Known}

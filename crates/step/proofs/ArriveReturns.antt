@@ -15,7 +15,7 @@ use Rattle.rules.specs.Events.{Arriving, Event, arrival, adjusted, stamped, sta
 use Rattle.rules.specs.Refusals.{passing, refuse, verdict}
 use Rattle.rules.specs.Run.{step}
 use Rattle.rules.proofs.Facts.{lawful-is}
-use Rattle.rules.proofs.Settings.{adjusted-settings, same-count, same-owner}
+use Rattle.rules.proofs.SameSettings.{adjusted-settings, same-count, same-owner}
 use Rattle.rules.specs.declared.Gate.{Gate}
 use Rattle.rules.specs.declared.Refusal.the-variants.{TagAboveCeiling}
 use Rattle.table.specs.View.{guestForm, requestForm, guestsOf, tableOf, Known}

@@ -13,7 +13,7 @@ use Rattle.rules.specs.Run.{decided, step}
 use Rattle.rules.proofs.Facts.{is-sound}
 use Rattle.rules.proofs.EnterSound.{enter-sound}
 use Rattle.rules.proofs.StepSound.{accepted-step}
-use Rattle.rules.proofs.Settings.{enter-settings, choice-settings}
+use Rattle.rules.proofs.SameSettings.{enter-settings, choice-settings}
 use Rattle.rules.specs.declared.Gate.{Gate}
 use Rattle.rules.specs.declared.Refusal.{Refusal}
 use Rattle.rules.specs.declared.Answer.the-variants.{Refused}

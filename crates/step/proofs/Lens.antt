@@ -11,7 +11,7 @@ use Rattle.rules.specs.Tables.{Table}
 use Rattle.rules.specs.Sound.{sound}
 use Rattle.rules.specs.Choice.{Result}
 use Rattle.rules.proofs.Facts.{sound-is}
-use Rattle.rules.proofs.Settings.{SameSettings, same-count}
+use Rattle.rules.proofs.SameSettings.{SameSettings, same-count}
 use Rattle.rules.specs.declared.Gate.{Gate}
 use Rattle.rules.specs.declared.Answer.{Answer}
 use Rattle.table.specs.View.{guestForm, requestForm, flightForm, guestsOf, tableOf, gateOf, handed, identified, Known}

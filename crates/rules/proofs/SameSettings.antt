@@ -10,7 +10,7 @@ use Rattle.lists.specs.WordsLaws.{all-of-map, map-each}
 use Rattle.rules.specs.Tables.{Settings, Guest, Request, Table, nobodys, owner, idle}
 use Rattle.rules.specs.Sound.{settled, ranges}
 use Rattle.rules.specs.Choice.{sending, sooner, dropOf, dropped, choice}
-use Rattle.rules.specs.Events.{Event, arrival, completion, tick, smallest, shiftedNext, adjusted, following, placed, stampedFor, arriveAs, arrive, complete, wait, enter}
+use Rattle.rules.specs.Events.{Event, Arrival, Completion, Tick, smallest, shiftedNext, adjusted, following, placed, stampedFor, arriveAs, arrive, complete, wait, enter}
 use Rattle.rules.specs.Refusals.{Verdict, accept, refuse, verdict}
 use Rattle.rules.specs.Run.{decided, step, after}
 use Rattle.rules.proofs.Cases.{choice-by}
@@ -90,12 +90,12 @@ choice-settings t =
 -- what an event does before the choice
 pub enter-settings : (t : Table) (e : Event) → SameSettings (enter t e) t
 unfolding enter arrive arriveAs complete wait
-enter-settings t (arrival a now) =
+enter-settings t (Arrival a now) =
     let b = idle t (a .guest) in
     let q = stampedFor b now a t in
     through (placed-settings now q (adjusted b now t)) (adjusted-settings b now t)
-enter-settings t (completion f now) = record { setup = refl; settings = refl }
-enter-settings t (tick now) = record { setup = refl; settings = refl }
+enter-settings t (Completion f now) = record { setup = refl; settings = refl }
+enter-settings t (Tick now) = record { setup = refl; settings = refl }
 
 -- what follows from a verdict
 decided-settings : (v : Verdict) (t : Table) (e : Event) → SameSettings ((decided v t e) .table) t
