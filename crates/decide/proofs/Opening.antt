@@ -12,7 +12,7 @@ use Rattle.lists.specs.Words.{all}
 use Rattle.lists.specs.WordsLaws.{both}
 use Rattle.lists.specs.Tab.{tab}
 use Rattle.lists.specs.Rows.{rowsOf}
-use Rattle.rules.specs.Tables.{Settings}
+use Rattle.rules.specs.declared.Settings.{Settings}
 use Rattle.rules.specs.Sound.{settled}
 use Rattle.rules.specs.Refusals.{Verdict, accept, openTests}
 use Rattle.rules.specs.Run.{fresh}

@@ -11,7 +11,8 @@ use Rattle.lists.specs.Words.{below}
 use Rattle.lists.specs.Walks.{below-ext, below-fails, below-three}
 use Rattle.lists.specs.RowsLaws.{row-at, length-rows}
 use Rattle.rules.specs.Numbers.{second, down, up}
-use Rattle.rules.specs.Tables.{Guest, Request, owner, mine}
+use Rattle.rules.specs.Tables.{Request, owner, mine}
+use Rattle.rules.specs.declared.Guest.{Guest}
 use Rattle.rules.specs.Sound.{kept, orderly}
 use Rattle.rules.proofs.Spacings.{no-down, no-up}
 use Rattle.table.specs.View.{guestForm, requestForm, guestsOf, waitingOf}

@@ -7,7 +7,8 @@ use lib.Dec.{leb, eqb}
 use lib.ListN.{length, getD}
 use Rattle.lists.specs.Words.{if_then_else_, all}
 use Rattle.rules.specs.Numbers.{down, up, idleBound}
-use Rattle.rules.specs.Tables.{Guest, Request, reserved, limited, rspacing, lspacing, sspacing, owner, mine, name}
+use Rattle.rules.specs.Tables.{Request, reserved, limited, rspacing, lspacing, sspacing, owner, mine, name}
+use Rattle.rules.specs.declared.Guest.{Guest}
 use Rattle.rules.specs.Sound.{lawful, kept}
 use Rattle.table.specs.View.{guestsOf, waitingOf}
 use Rattle.entries.specs.Tests.{settledGuest, named}

@@ -3,7 +3,7 @@ use Prim.Native.Nat.{ℕ, _+_, _≤_, _<_}
 use mathlib.Core.Path.{_≡_, refl, sym, ap, _∙_, subst}
 use mathlib.Core.List.{List}
 use borrow.Author.Tests.{lt-ltb}
-use Rattle.rules.specs.Events.{arrival, completion, tick}
+use Rattle.rules.specs.declared.Event.the-variants.{Arrival, Completion, Tick}
 use Rattle.rules.specs.Run.{step}
 use Rattle.rules.specs.declared.Gate.{Gate}
 use Rattle.rules.specs.declared.Refusal.the-variants.{BadEvent}
@@ -26,29 +26,29 @@ module _ (g : Gate) (gs ws fs : List ℕ) (k : Known g gs ws fs) (e : Read) (h :
   abbrev Answers : Type 0
   Answers = (h ≡ does (λ t. answered t e) g gs ws fs) × KnownAfter h
 
-  pub arrival-answers : (n i now : ℕ) → e ≡ Arrival n i now → i < 4294967296 → h ≡ does (λ t. step t (arrival (record { guest = n; id = i }) now)) g gs ws fs → Answers
+  pub arrival-answers : (n i now : ℕ) → e ≡ Arrival n i now → i < 4294967296 → h ≡ does (λ t. step t (Arrival (record { guest = n; id = i }) now)) g gs ws fs → Answers
   unfolding answered
   arrival-answers n i now p bits q = (
     q ∙ ap (λ (x : Read). does (λ t. answered t x) g gs ws fs) (sym p),
-    subst KnownAfter (sym q) (step-known g gs ws fs k (arrival (record { guest = n; id = i }) now) (lt-ltb i 4294967296 bits)),
+    subst KnownAfter (sym q) (step-known g gs ws fs k (Arrival (record { guest = n; id = i }) now) (lt-ltb i 4294967296 bits)),
   )
 
-  pub completion-answers : (n i now : ℕ) → e ≡ Completion n i now → h ≡ does (λ t. step t (completion (record { guest = n; id = i }) now)) g gs ws fs → Answers
+  pub completion-answers : (n i now : ℕ) → e ≡ Completion n i now → h ≡ does (λ t. step t (Completion (record { guest = n; id = i }) now)) g gs ws fs → Answers
   unfolding answered
   completion-answers n i now p q = (
     q ∙ ap (λ (x : Read). does (λ t. answered t x) g gs ws fs) (sym p),
-    subst KnownAfter (sym q) (step-known g gs ws fs k (completion (record { guest = n; id = i }) now) tt),
+    subst KnownAfter (sym q) (step-known g gs ws fs k (Completion (record { guest = n; id = i }) now) tt),
   )
 
-  pub tick-answers : (now : ℕ) → e ≡ Tick now → h ≡ does (λ t. step t (tick now)) g gs ws fs → Answers
+  pub tick-answers : (now : ℕ) → e ≡ Tick now → h ≡ does (λ t. step t (Tick now)) g gs ws fs → Answers
   unfolding answered
   tick-answers now p q = (
     q ∙ ap (λ (x : Read). does (λ t. answered t x) g gs ws fs) (sym p),
-    subst KnownAfter (sym q) (step-known g gs ws fs k (tick now) tt),
+    subst KnownAfter (sym q) (step-known g gs ws fs k (Tick now) tt),
   )
 
 -- a bad event leaves all as it stood
-pub bad-answers : (g : Gate) (gs ws fs : List ℕ) → Known g gs ws fs → (e : Read) → e ≡ Bad → (record { gate = g; answer = Refused BadEvent }, gs, ws, fs) ≡ does (λ t. answered t e) g gs ws fs
+pub bad-answers : (g : Gate) (gs ws fs : List ℕ) → Known g gs ws fs → (e : Read) → e ≡ Bad → (outcomeOf g (Refused BadEvent), gs, ws, fs) ≡ does (λ t. answered t e) g gs ws fs
 unfolding answered
 bad-answers g gs ws fs k e p =
     handed-written gs ws fs g gs ws fs (record { table = tableOf g gs ws fs; answer = Refused BadEvent }) (Refused BadEvent) (known-written g gs ws fs k) refl

@@ -13,7 +13,9 @@ use Rattle.lists.specs.WordsLaws.{both, length-without-one}
 use Rattle.lists.specs.RowsLaws.{length-rows, row-at}
 use Rattle.rules.specs.Tables.{Request, Table, idle, same}
 use Rattle.rules.specs.Choice.{room}
-use Rattle.rules.specs.Events.{Event, arrival, completion, tick, enter, arrive, arriveAs, placed, adjusted, complete, wait}
+use Rattle.rules.specs.Events.{enter, arrive, arriveAs, placed, adjusted, complete, wait}
+use Rattle.rules.specs.declared.Event.{Event}
+use Rattle.rules.specs.declared.Event.the-variants.{Arrival, Completion, Tick}
 use Rattle.rules.specs.Refusals.{accepted}
 use Rattle.rules.specs.Run.{step}
 use Rattle.rules.specs.Turn.{sorted, findsRoom, atFree, sentByReservation, InTurn}
@@ -43,14 +45,14 @@ module _ (h : Host) where
   -- an accepted event finds a place free where the gate says so
   finds-room : (e : Event) → accepted t e ≡ true → finds e (h .gate) ≡ room (enter t e)
   unfolding room enter arrive arriveAs placed complete wait
-  finds-room (arrival a now) c =
+  finds-room (Arrival a now) c =
       let d = adjusted-flight (idle t (a .guest)) now t in
-      λ i. ltb (sym (ap length (d .0) ∙ flying) i) (sym (ap (λ s. s .depth) (d .1)) i)
-  finds-room (completion f now) c =
-      let m = refused-exactly t (completion f now) .no-number .0 c .5 in
+      λ i. ltb (sym (ap length (d .0) ∙ flying) i) (sym (ap (λ s. s .setup .depth) (d .1)) i)
+  finds-room (Completion f now) c =
+      let m = refused-exactly t (Completion f now) .no-number .0 c .5 in
       let l = length-without-one (same f) (t .flight) (lacking f (t .flight) .fails .1 m) in
-      ap (λ (n : ℕ). ltb n (h .gate .depth)) (omega (arith, l, flying))
-  finds-room (tick now) c = ap (λ (n : ℕ). ltb n (h .gate .depth)) (sym flying)
+      ap (λ (n : ℕ). ltb n (h .gate .setup .depth)) (omega (arith, l, flying))
+  finds-room (Tick now) c = ap (λ (n : ℕ). ltb n (h .gate .setup .depth)) (sym flying)
 
   module _ (k : Holds h) where
     -- a call is accepted and finds a place free exactly where the step does

@@ -6,8 +6,9 @@ use mathlib.Core.List.{List}
 use native.Mathlib.Omega.{arith}
 use lib.ListN.{getD}
 use Rattle.rules.specs.Answers.{letterOf, Printed, shown}
-use Rattle.rules.specs.Tables.{Flight}
-use Rattle.rules.specs.Events.{Arriving, arrival, completion, tick}
+use Rattle.rules.specs.declared.Flight.{Flight}
+use Rattle.rules.specs.declared.Arriving.{Arriving}
+use Rattle.rules.specs.declared.Event.the-variants.{Arrival, Completion, Tick}
 use Rattle.rules.proofs.Judged.{numberOf-once}
 use Rattle.rules.specs.declared.Gate.{Gate}
 use Rattle.rules.specs.declared.Phase.{Phase}
@@ -55,7 +56,7 @@ shown-once (Refused r) (Refused s) h = ap Refused (numberOf-once r s (ap (value 
 pub seen-once : (h k : Handed) → seen h ≡ seen k → h ≡ k
 seen-once h k e =
     let a = shown-once (h .0 .answer) (k .0 .answer) (ap (λ (s : Seen). s .1) e) in
-    λ i. (record { gate = e i .0; answer = a i }, e i .2, e i .3, e i .4)
+    λ i. (outcomeOf (e i .0) (a i), e i .2, e i .3, e i .4)
 
 -- what an equation of a promise admits, once
 admits : (s : Seen) (h k : Handed) → seen h ≡ s → seen k ≡ s → h ≡ k
@@ -63,14 +64,14 @@ admits s h k p q = seen-once h k (p ∙ sym q)
 
 module _ (h k : Handed) where
   -- of an arrival, a completion, a tick and an opening
-  pub arrive-once : (a : Arriving) (now : ℕ) (g : Gate) (gs ws fs : List ℕ) → seen h ≡ seen (called (arrival a now) g gs ws fs) → seen k ≡ seen (called (arrival a now) g gs ws fs) → h ≡ k
-  arrive-once a now g gs ws fs = admits (seen (called (arrival a now) g gs ws fs)) h k
+  pub arrive-once : (a : Arriving) (now : ℕ) (g : Gate) (gs ws fs : List ℕ) → seen h ≡ seen (called (Arrival a now) g gs ws fs) → seen k ≡ seen (called (Arrival a now) g gs ws fs) → h ≡ k
+  arrive-once a now g gs ws fs = admits (seen (called (Arrival a now) g gs ws fs)) h k
 
-  pub complete-once : (f : Flight) (now : ℕ) (g : Gate) (gs ws fs : List ℕ) → seen h ≡ seen (called (completion f now) g gs ws fs) → seen k ≡ seen (called (completion f now) g gs ws fs) → h ≡ k
-  complete-once f now g gs ws fs = admits (seen (called (completion f now) g gs ws fs)) h k
+  pub complete-once : (f : Flight) (now : ℕ) (g : Gate) (gs ws fs : List ℕ) → seen h ≡ seen (called (Completion f now) g gs ws fs) → seen k ≡ seen (called (Completion f now) g gs ws fs) → h ≡ k
+  complete-once f now g gs ws fs = admits (seen (called (Completion f now) g gs ws fs)) h k
 
-  pub tick-once : (now : ℕ) (g : Gate) (gs ws fs : List ℕ) → seen h ≡ seen (called (tick now) g gs ws fs) → seen k ≡ seen (called (tick now) g gs ws fs) → h ≡ k
-  tick-once now g gs ws fs = admits (seen (called (tick now) g gs ws fs)) h k
+  pub tick-once : (now : ℕ) (g : Gate) (gs ws fs : List ℕ) → seen h ≡ seen (called (Tick now) g gs ws fs) → seen k ≡ seen (called (Tick now) g gs ws fs) → h ≡ k
+  tick-once now g gs ws fs = admits (seen (called (Tick now) g gs ws fs)) h k
 
   pub open-once : (d n c : ℕ) (ss gs ws fs : List ℕ) → seen h ≡ seen (opened d n c ss gs ws fs) → seen k ≡ seen (opened d n c ss gs ws fs) → h ≡ k
   open-once d n c ss gs ws fs = admits (seen (opened d n c ss gs ws fs)) h k

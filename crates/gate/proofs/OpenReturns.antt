@@ -31,11 +31,11 @@ use Rattle.gate.proofs.Opened.{open-long}
 
 -- not many guests
 pub known-few : (g : Gate) (b : Bool) → b ≡ countable g → not b ≡ false → g .guests ≤ 64
-known-few g b p n = counted-means (g .depth) (g .guests) (g .capacity) .holds .0 (sym p ∙ not-false b n) .guest-count .1
+known-few g b p n = counted-means (g .setup .depth) (g .guests) (g .setup .capacity) .holds .0 (sym p ∙ not-false b n) .guest-count .1
 
 module _ (g : Gate) (ss gs ws fs : List ℕ) (b : Bool) (p : b ≡ countable g) where
   abbrev Judges : Judged → Type 0
-  Judges j = JudgesOpening (g .depth) (g .guests) (g .capacity) ss gs ws fs j
+  Judges j = JudgesOpening (g .setup .depth) (g .guests) (g .setup .capacity) ss gs ws fs j
 
   -- counts out of range
   pub counts-bad : not b ≡ true → Judges (Bad BadSetting)
@@ -53,7 +53,7 @@ module _ (g : Gate) (ss gs ws fs : List ℕ) (b : Bool) (p : b ≡ countable g) 
 
     module _ (l : g .guests * 3 ≤ length ss) (a : Bool) (q : a ≡ short g gs ws fs) where
       -- the tables then decide
-      short-is : openShort (g .depth) (g .guests) (g .capacity) ss gs ws fs ≡ short g gs ws fs
+      short-is : openShort (g .setup .depth) (g .guests) (g .setup .capacity) ss gs ws fs ≡ short g gs ws fs
       unfolding openShort short
       short-is = rw (counts-good, le-ltb (length ss) (g .guests * 3) l) refl
 
@@ -68,13 +68,13 @@ module _ (g : Gate) (ss gs ws fs : List ℕ) (b : Bool) (p : b ≡ countable g) 
 
         pub opening-good : not s ≡ false → Judges Good
         unfolding openingAt openTests
-        opening-good t = (rw (counts-good, short-is, sym q ∙ f, sym o ∙ not-false s t) refl, open-long (g .depth) (g .guests) (g .capacity) ss gs ws fs counts-good (short-is ∙ sym q ∙ f))
+        opening-good t = (rw (counts-good, short-is, sym q ∙ f, sym o ∙ not-false s t) refl, open-long (g .setup .depth) (g .guests) (g .setup .capacity) ss gs ws fs counts-good (short-is ∙ sym q ∙ f))
 
 -- THE OPENING
 
-module _ (d n c : ℕ) (ss gs ws fs : List ℕ) (g : Gate) (e : g ≡ freshGate d n c) (j : Judged) (found : JudgesOpening (g .depth) (g .guests) (g .capacity) ss gs ws fs j) where
+module _ (d n c : ℕ) (ss gs ws fs : List ℕ) (g : Gate) (e : g ≡ freshGate d n c) (j : Judged) (found : JudgesOpening (g .setup .depth) (g .guests) (g .setup .capacity) ss gs ws fs j) where
   told : JudgesOpening d n c ss gs ws fs j
-  told = subst (λ (x : Gate). JudgesOpening (x .depth) (x .guests) (x .capacity) ss gs ws fs j) e found
+  told = subst (λ (x : Gate). JudgesOpening (x .setup .depth) (x .guests) (x .setup .capacity) ss gs ws fs j) e found
 
   -- a refusal
   pub not-opened-returns : (r : Refusal) → j ≡ Bad r → (o : Outcome) → o ≡ notOpened r → seen (o, gs, ws, fs) ≡ seen (opened d n c ss gs ws fs)
@@ -93,12 +93,12 @@ module _ (d n c : ℕ) (ss gs ws fs : List ℕ) (g : Gate) (e : g ≡ freshGate 
 
     -- and what the moves leave is the fresh table
     pub opened-returns : (hs vs es : List ℕ) → hs ≡ started ss n gs → vs ≡ zeros ws (c * 5) → es ≡ zeros fs (d * 2)
-        → seen (record { gate = g; answer = Nothing }, hs, vs, es) ≡ seen (opened d n c ss gs ws fs)
+        → seen (outcomeOf g Nothing, hs, vs, es) ≡ seen (opened d n c ss gs ws fs)
     unfolding opened handed fresh
     opened-returns hs vs es x y z =
         let m : length (map newcomer (settingsIn ss n)) ≡ n = length-map (settingsIn ss n) newcomer ∙ length-rows settingsForm ss n in
         let pg : hs ≡ overRows guestForm (length (map newcomer (settingsIn ss n))) (map newcomer (settingsIn ss n)) gs = x ∙ ap (λ (k : ℕ). overRows guestForm k (map newcomer (settingsIn ss n)) gs) (sym m) in
         let pw = y ∙ cleared-waiting c ws (open-room .waiting) in
         let pf = z ∙ cleared-flight d fs (open-room .flight) in
-        let pe : g ≡ record { depth = d; guests = length (map newcomer (settingsIn ss n)); capacity = c; time = 0; waiting = 0; flight = 0 } = e ∙ ap (λ (k : ℕ). freshGate d k c) (sym m) in
-        (λ i. seen (record { gate = pe i; answer = Nothing }, pg i, pw i, pf i)) ∙ sym (ap (λ (v : Verdict). seen (openedBy v d n c ss gs ws fs)) (good .0))
+        let pe : g ≡ gateAt (record { depth = d; capacity = c }) (length (map newcomer (settingsIn ss n))) 0 0 0 = e ∙ ap (λ (k : ℕ). freshGate d k c) (sym m) in
+        (λ i. seen (outcomeOf (pe i) Nothing, pg i, pw i, pf i)) ∙ sym (ap (λ (v : Verdict). seen (openedBy v d n c ss gs ws fs)) (good .0))

@@ -6,7 +6,7 @@ use mathlib.Core.Bool.{Bool, true, false, true≢false}
 use mathlib.Core.List.{List, [], _∷_, _++_, append-assoc, append-nil}
 use Rattle.lists.specs.Words.{if_then_else_}
 use Rattle.rules.specs.Tables.{Table}
-use Rattle.rules.specs.Events.{Event}
+use Rattle.rules.specs.declared.Event.{Event}
 use Rattle.rules.specs.Order.{waits, brings, sends, left}
 use Rattle.rules.proofs.InOrder.{step-waits}
 use Rattle.rules.specs.declared.Answer.{Answer}

@@ -8,11 +8,15 @@ use native.Mathlib.Omega.{arith}
 use lib.ListN.{getD}
 use borrow.Author.Tests.{not-false}
 use Rattle.lists.specs.WordsLaws.{both}
-use Rattle.rules.specs.Tables.{Flight, Table}
+use Rattle.rules.specs.Tables.{Table}
+use Rattle.rules.specs.declared.Flight.{Flight}
 use Rattle.rules.specs.Answers.{Printed, shown}
 use Rattle.rules.specs.Sound.{sound}
 use Rattle.rules.specs.Choice.{choice}
-use Rattle.rules.specs.Events.{Arriving, Event, arrival, completion, tick, enter}
+use Rattle.rules.specs.Events.{enter}
+use Rattle.rules.specs.declared.Arriving.{Arriving}
+use Rattle.rules.specs.declared.Event.{Event}
+use Rattle.rules.specs.declared.Event.the-variants.{Arrival, Completion, Tick}
 use Rattle.rules.specs.Refusals.{Verdict, accept, refuse, isAccept}
 use Rattle.rules.specs.Refused.{ArrivalRefused, CompletionRefused, TickRefused, OpeningRefused}
 use Rattle.rules.proofs.Refused.{Tells, arrival-refused, completion-refused, tick-refused, opening-refused}
@@ -103,22 +107,22 @@ module _ (g : Gate) (gs ws fs : List ℕ) where
   unfolding soundNumbers
   honest h =
       let n = not-false (soundNumbers g gs ws fs) h in
-      let a = both (sound t && identified t && zeroed 5 (g .capacity) (g .waiting) ws) (zeroed 2 (g .depth) (g .flight) fs) n in
-      let b = both (sound t && identified t) (zeroed 5 (g .capacity) (g .waiting) ws) (a .0) in
+      let a = both (sound t && identified t && zeroed 5 (g .setup .capacity) (g .waiting) ws) (zeroed 2 (g .setup .depth) (g .flight) fs) n in
+      let b = both (sound t && identified t) (zeroed 5 (g .setup .capacity) (g .waiting) ws) (a .0) in
       both (sound t) (identified t) (b .0) .0
 
   -- Each number of an arrival, a completion and a tick is given exactly where document 01 says.
-  pub arrive-exactly : (a : Arriving) (now : ℕ) → ArrivalRefused (short g gs ws fs) (not (soundNumbers g gs ws fs)) t a now (Numbers (called (arrival a now) g gs ws fs)) (Accepts (called (arrival a now) g gs ws fs))
+  pub arrive-exactly : (a : Arriving) (now : ℕ) → ArrivalRefused (short g gs ws fs) (not (soundNumbers g gs ws fs)) t a now (Numbers (called (Arrival a now) g gs ws fs)) (Accepts (called (Arrival a now) g gs ws fs))
   unfolding judgedAt
-  arrive-exactly a now = arrival-refused (short g gs ws fs) (not (soundNumbers g gs ws fs)) t now (Numbers (called (arrival a now) g gs ws fs)) (Accepts (called (arrival a now) g gs ws fs)) a honest (told (arrival a now))
+  arrive-exactly a now = arrival-refused (short g gs ws fs) (not (soundNumbers g gs ws fs)) t now (Numbers (called (Arrival a now) g gs ws fs)) (Accepts (called (Arrival a now) g gs ws fs)) a honest (told (Arrival a now))
 
-  pub complete-exactly : (f : Flight) (now : ℕ) → CompletionRefused (short g gs ws fs) (not (soundNumbers g gs ws fs)) t f now (Numbers (called (completion f now) g gs ws fs)) (Accepts (called (completion f now) g gs ws fs))
+  pub complete-exactly : (f : Flight) (now : ℕ) → CompletionRefused (short g gs ws fs) (not (soundNumbers g gs ws fs)) t f now (Numbers (called (Completion f now) g gs ws fs)) (Accepts (called (Completion f now) g gs ws fs))
   unfolding judgedAt
-  complete-exactly f now = completion-refused (short g gs ws fs) (not (soundNumbers g gs ws fs)) t now (Numbers (called (completion f now) g gs ws fs)) (Accepts (called (completion f now) g gs ws fs)) f (told (completion f now))
+  complete-exactly f now = completion-refused (short g gs ws fs) (not (soundNumbers g gs ws fs)) t now (Numbers (called (Completion f now) g gs ws fs)) (Accepts (called (Completion f now) g gs ws fs)) f (told (Completion f now))
 
-  pub tick-exactly : (now : ℕ) → TickRefused (short g gs ws fs) (not (soundNumbers g gs ws fs)) t now (Numbers (called (tick now) g gs ws fs)) (Accepts (called (tick now) g gs ws fs))
+  pub tick-exactly : (now : ℕ) → TickRefused (short g gs ws fs) (not (soundNumbers g gs ws fs)) t now (Numbers (called (Tick now) g gs ws fs)) (Accepts (called (Tick now) g gs ws fs))
   unfolding judgedAt
-  tick-exactly now = tick-refused (short g gs ws fs) (not (soundNumbers g gs ws fs)) t now (Numbers (called (tick now) g gs ws fs)) (Accepts (called (tick now) g gs ws fs)) (told (tick now))
+  tick-exactly now = tick-refused (short g gs ws fs) (not (soundNumbers g gs ws fs)) t now (Numbers (called (Tick now) g gs ws fs)) (Accepts (called (Tick now) g gs ws fs)) (told (Tick now))
 
 -- And of an opening.
 pub open-exactly : (d n c : ℕ) (ss gs ws fs : List ℕ) → OpeningRefused (openShort d n c ss gs ws fs) d n c (settingsIn ss n) (Numbers (opened d n c ss gs ws fs)) (Accepts (opened d n c ss gs ws fs))

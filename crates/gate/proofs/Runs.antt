@@ -8,7 +8,9 @@ use Rattle.lists.specs.WordsLaws.{both, join}
 use Rattle.rules.specs.Tables.{Table}
 use Rattle.rules.specs.Sound.{sound}
 use Rattle.rules.specs.Choice.{Result, choice}
-use Rattle.rules.specs.Events.{Event, arrival, completion, tick, enter}
+use Rattle.rules.specs.Events.{enter}
+use Rattle.rules.specs.declared.Event.{Event}
+use Rattle.rules.specs.declared.Event.the-variants.{Arrival, Completion, Tick}
 use Rattle.rules.specs.Refusals.{Verdict, accept, refuse, verdict, isAccept, accepted}
 use Rattle.rules.specs.Run.{decided, step, after, answers}
 use Rattle.rules.proofs.SameSettings.{step-settings}
@@ -49,9 +51,9 @@ step-taken t e = go (verdict t e)
 
 -- an id of 32 bits is brought
 narrow-brings : (e : Event) → narrow e ≡ true → Brings shortId e
-narrow-brings (arrival a now) h = h
-narrow-brings (completion f now) h = tt
-narrow-brings (tick now) h = tt
+narrow-brings (Arrival a now) h = h
+narrow-brings (Completion f now) h = tt
+narrow-brings (Tick now) h = tt
 
 -- so the ids of the table stay so
 step-identified : (t : Table) (e : Event) → narrow e ≡ true → identified t ≡ true → identified (step t e .table) ≡ true

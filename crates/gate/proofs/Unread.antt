@@ -9,10 +9,12 @@ use lib.Dec.{eqb}
 use lib.ListN.{take}
 use Rattle.lists.specs.Words.{all}
 use Rattle.lists.specs.AlikeLaws.{alike-short, alike-fewer, alike-part, alike-rows, rows-alike}
-use Rattle.rules.specs.Tables.{Table, Settings}
+use Rattle.rules.specs.Tables.{Table}
+use Rattle.rules.specs.declared.Settings.{Settings}
 use Rattle.rules.specs.Sound.{sound}
 use Rattle.rules.specs.Choice.{Result, choice}
-use Rattle.rules.specs.Events.{Event, enter}
+use Rattle.rules.specs.Events.{enter}
+use Rattle.rules.specs.declared.Event.{Event}
 use Rattle.rules.specs.Refusals.{Verdict, accept, refuse, judged, tests, openTests}
 use Rattle.rules.specs.Run.{fresh}
 use Rattle.rules.specs.declared.Gate.{Gate}
@@ -36,32 +38,32 @@ handed-alike n c d gs ws fs hs vs es a r s =
       outcome = refl;
       needed = record {
         guests = rw (s .guests) (rows-alike guestForm n gs hs (a .guests) guest-exact (t .guests));
-        waiting = rw (s .capacity) (rows-alike requestForm c ws vs (a .waiting) request-exact (t .waiting));
-        flight = rw (s .depth) (rows-alike flightForm d fs es (a .flight) flight-exact (t .flight));
+        waiting = rw (s .setup .capacity) (rows-alike requestForm c ws vs (a .waiting) request-exact (t .waiting));
+        flight = rw (s .setup .depth) (rows-alike flightForm d fs es (a .flight) flight-exact (t .flight));
       };
     }
 
-module _ (g : Gate) (gs ws fs hs vs es : List ℕ) (a : Alike (g .guests) (g .capacity) (g .depth) gs ws fs hs vs es) where
+module _ (g : Gate) (gs ws fs hs vs es : List ℕ) (a : Alike (g .guests) (g .setup .capacity) (g .setup .depth) gs ws fs hs vs es) where
   -- both are short, or neither is
   short-alike : short g gs ws fs ≡ short g hs vs es
   unfolding short
   short-alike =
-      rw (alike-short (g .guests * 6) gs hs (a .guests), alike-short (g .capacity * 5) ws vs (a .waiting), alike-short (g .depth * 2) fs es (a .flight)) refl
+      rw (alike-short (g .guests * 6) gs hs (a .guests), alike-short (g .setup .capacity * 5) ws vs (a .waiting), alike-short (g .setup .depth * 2) fs es (a .flight)) refl
 
   -- where the counts do not exceed capacity and depth, they show the same table
-  module _ (waits : g .waiting ≤ g .capacity) (flies : g .flight ≤ g .depth) where
+  module _ (waits : g .waiting ≤ g .setup .capacity) (flies : g .flight ≤ g .setup .depth) where
     table-alike : tableOf g gs ws fs ≡ tableOf g hs vs es
     table-alike =
         let pg : guestsOf gs (g .guests) ≡ guestsOf hs (g .guests) = alike-rows guestForm (g .guests) gs hs (a .guests) in
-        let pw : waitingOf ws (g .waiting) ≡ waitingOf vs (g .waiting) = alike-rows requestForm (g .waiting) ws vs (alike-fewer (g .capacity * 5) ws vs (a .waiting) (g .waiting * 5) (mul-le-mul-right 5 waits)) in
-        let pf : flightsOf fs (g .flight) ≡ flightsOf es (g .flight) = alike-rows flightForm (g .flight) fs es (alike-fewer (g .depth * 2) fs es (a .flight) (g .flight * 2) (mul-le-mul-right 2 flies)) in
-        λ i. record { setup = record { depth = g .depth; capacity = g .capacity }; time = g .time; guests = pg i; waiting = pw i; flight = pf i }
+        let pw : waitingOf ws (g .waiting) ≡ waitingOf vs (g .waiting) = alike-rows requestForm (g .waiting) ws vs (alike-fewer (g .setup .capacity * 5) ws vs (a .waiting) (g .waiting * 5) (mul-le-mul-right 5 waits)) in
+        let pf : flightsOf fs (g .flight) ≡ flightsOf es (g .flight) = alike-rows flightForm (g .flight) fs es (alike-fewer (g .setup .depth * 2) fs es (a .flight) (g .flight * 2) (mul-le-mul-right 2 flies)) in
+        λ i. record { setup = g .setup; time = g .time; guests = pg i; waiting = pw i; flight = pf i }
 
     numbers-alike : soundNumbers g gs ws fs ≡ soundNumbers g hs vs es
     unfolding soundNumbers
     numbers-alike =
-        let zw : zeroed 5 (g .capacity) (g .waiting) ws ≡ zeroed 5 (g .capacity) (g .waiting) vs = ap (all (λ x. eqb x 0)) (alike-part (g .capacity * 5) ws vs (a .waiting) (g .waiting * 5) (mul-le-mul-right 5 waits)) in
-        let zf : zeroed 2 (g .depth) (g .flight) fs ≡ zeroed 2 (g .depth) (g .flight) es = ap (all (λ x. eqb x 0)) (alike-part (g .depth * 2) fs es (a .flight) (g .flight * 2) (mul-le-mul-right 2 flies)) in
+        let zw : zeroed 5 (g .setup .capacity) (g .waiting) ws ≡ zeroed 5 (g .setup .capacity) (g .waiting) vs = ap (all (λ x. eqb x 0)) (alike-part (g .setup .capacity * 5) ws vs (a .waiting) (g .waiting * 5) (mul-le-mul-right 5 waits)) in
+        let zf : zeroed 2 (g .setup .depth) (g .flight) fs ≡ zeroed 2 (g .setup .depth) (g .flight) es = ap (all (λ x. eqb x 0)) (alike-part (g .setup .depth * 2) fs es (a .flight) (g .flight * 2) (mul-le-mul-right 2 flies)) in
         λ i. sound (table-alike i) && identified (table-alike i) && zw i && zf i
 
     -- an event is judged alike
@@ -70,13 +72,13 @@ module _ (g : Gate) (gs ws fs hs vs es : List ℕ) (a : Alike (g .guests) (g .ca
     judged-alike e = λ i. judged (tests (short-alike i) (not (numbers-alike i)) (table-alike i) e)
 
     -- and moves alike
-    followed-alike : (e : Event) (v : Verdict) → Same (g .guests) (g .capacity) (g .depth) (followed v e g gs ws fs) (followed v e g hs vs es)
+    followed-alike : (e : Event) (v : Verdict) → Same (g .guests) (g .setup .capacity) (g .setup .depth) (followed v e g gs ws fs) (followed v e g hs vs es)
     followed-alike e accept =
-        subst (λ (u : Table). Same (g .guests) (g .capacity) (g .depth) (handed gs ws fs (choice (enter (tableOf g gs ws fs) e))) (handed hs vs es (choice (enter u e)))) table-alike
-        (handed-alike (g .guests) (g .capacity) (g .depth) gs ws fs hs vs es a (choice (enter (tableOf g gs ws fs) e)) (chosen-sized g gs ws fs e))
+        subst (λ (u : Table). Same (g .guests) (g .setup .capacity) (g .setup .depth) (handed gs ws fs (choice (enter (tableOf g gs ws fs) e))) (handed hs vs es (choice (enter u e)))) table-alike
+        (handed-alike (g .guests) (g .setup .capacity) (g .setup .depth) gs ws fs hs vs es a (choice (enter (tableOf g gs ws fs) e)) (chosen-sized g gs ws fs e))
     followed-alike e (refuse r) = record { outcome = refl; needed = a }
 
-    called-alike : (e : Event) → Same (g .guests) (g .capacity) (g .depth) (called e g gs ws fs) (called e g hs vs es)
+    called-alike : (e : Event) → Same (g .guests) (g .setup .capacity) (g .setup .depth) (called e g gs ws fs) (called e g hs vs es)
     unfolding called
     called-alike e = rw (sym (judged-alike e)) (followed-alike e (judgedAt e g gs ws fs))
 
@@ -93,12 +95,12 @@ both-refused : (n c d : ℕ) (g : Gate) (gs ws fs hs vs es : List ℕ) → Alike
 both-refused n c d g gs ws fs hs vs es a x h k p q = rw (p, q) (record { outcome = refl; needed = a })
 
 -- An arrival, a completion and a tick read nothing beyond what the settings need.
-pub called-unread : (e : Event) (g : Gate) (gs ws fs hs vs es : List ℕ) → Alike (g .guests) (g .capacity) (g .depth) gs ws fs hs vs es
-    → Same (g .guests) (g .capacity) (g .depth) (called e g gs ws fs) (called e g hs vs es)
+pub called-unread : (e : Event) (g : Gate) (gs ws fs hs vs es : List ℕ) → Alike (g .guests) (g .setup .capacity) (g .setup .depth) gs ws fs hs vs es
+    → Same (g .guests) (g .setup .capacity) (g .setup .depth) (called e g gs ws fs) (called e g hs vs es)
 called-unread e g gs ws fs hs vs es a = go (short g gs ws fs) refl (soundNumbers g gs ws fs) refl
   where
-    refused : (x : Answer) → called e g gs ws fs ≡ unchanged g gs ws fs x → called e g hs vs es ≡ unchanged g hs vs es x → Same (g .guests) (g .capacity) (g .depth) (called e g gs ws fs) (called e g hs vs es)
-    refused x p q = both-refused (g .guests) (g .capacity) (g .depth) g gs ws fs hs vs es a x (called e g gs ws fs) (called e g hs vs es) p q
+    refused : (x : Answer) → called e g gs ws fs ≡ unchanged g gs ws fs x → called e g hs vs es ≡ unchanged g hs vs es x → Same (g .guests) (g .setup .capacity) (g .setup .depth) (called e g gs ws fs) (called e g hs vs es)
+    refused x p q = both-refused (g .guests) (g .setup .capacity) (g .setup .depth) g gs ws fs hs vs es a x (called e g gs ws fs) (called e g hs vs es) p q
 
     unsound : soundNumbers g gs ws fs ≡ false → soundNumbers g hs vs es ≡ false
     unsound h = other (soundNumbers g hs vs es) refl
@@ -107,7 +109,7 @@ called-unread e g gs ws fs hs vs es a = go (short g gs ws fs) refl (soundNumbers
         other true k = absurd (true≢false (sym (sound-alike g hs vs es gs ws fs (turned a) k) ∙ h))
         other false k = refl
 
-    go : (b : Bool) → short g gs ws fs ≡ b → (c : Bool) → soundNumbers g gs ws fs ≡ c → Same (g .guests) (g .capacity) (g .depth) (called e g gs ws fs) (called e g hs vs es)
+    go : (b : Bool) → short g gs ws fs ≡ b → (c : Bool) → soundNumbers g gs ws fs ≡ c → Same (g .guests) (g .setup .capacity) (g .setup .depth) (called e g gs ws fs) (called e g hs vs es)
     go true s c h = refused (Refused ShortTable) (short-refused g gs ws fs e s) (short-refused g hs vs es e (sym (short-alike g gs ws fs hs vs es a) ∙ s))
     go false s false h = refused (Refused Unsound) (unsound-refused g gs ws fs e s h) (unsound-refused g hs vs es e (sym (short-alike g gs ws fs hs vs es a) ∙ s) (unsound h))
     go false s true h = let j = judged-is g gs ws fs h in called-alike g gs ws fs hs vs es a (j .waits) (j .flies) e

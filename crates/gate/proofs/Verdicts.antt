@@ -7,7 +7,7 @@ use mathlib.Core.List.{List}
 use lib.ListN.{length}
 use borrow.Author.Tests.{le-ltb}
 use Rattle.rules.specs.Tables.{Table}
-use Rattle.rules.specs.Events.{Event}
+use Rattle.rules.specs.declared.Event.{Event}
 use Rattle.rules.specs.Refusals.{Verdict, accept, refuse, verdict}
 use Rattle.rules.specs.Run.{decided, step}
 use Rattle.rules.specs.declared.Gate.{Gate}
@@ -39,7 +39,7 @@ module _ (g : Gate) (gs ws fs : List ℕ) where
   pub known-long : Known g gs ws fs → short g gs ws fs ≡ false
   unfolding short
   known-long k =
-      rw (le-ltb (length gs) (g .guests * 6) (k .guestRoom), le-ltb (length ws) (g .capacity * 5) (k .waitingRoom), le-ltb (length fs) (g .depth * 2) (k .flightRoom))
+      rw (le-ltb (length gs) (g .guests * 6) (k .guestRoom), le-ltb (length ws) (g .setup .capacity * 5) (k .waitingRoom), le-ltb (length fs) (g .setup .depth * 2) (k .flightRoom))
       (and-false (countable g))
 
   -- counts out of range "give 3 at once"

@@ -7,7 +7,8 @@ use lib.ListN.{take, drop}
 use Rattle.lists.specs.Words.{if_then_else_}
 use Rattle.lists.specs.Lines.{lineAt}
 use Rattle.rules.specs.Tables.{Request, Table}
-use Rattle.rules.specs.Events.{Event, arrival, completion, tick}
+use Rattle.rules.specs.declared.Event.{Event}
+use Rattle.rules.specs.declared.Event.the-variants.{Arrival, Completion, Tick}
 use Rattle.rules.specs.Order.{brings}
 use Rattle.rules.specs.Turn.{isDue, ahead}
 use Rattle.rules.specs.declared.Gate.{Gate}
@@ -51,9 +52,9 @@ firm h = not (short (h .gate) (h .guests) (h .waiting) (h .flight)) && soundNumb
 
 -- the event's id, where it brings one, is a "32-bit id": the calls take no other
 abbrev pub narrow : Event → Bool
-narrow (arrival a now) = ltb (a .id) 4294967296
-narrow (completion f now) = true
-narrow (tick now) = true
+narrow (Arrival a now) = ltb (a .id) 4294967296
+narrow (Completion f now) = true
+narrow (Tick now) = true
 
 -- the answer is no refusal
 abbrev pub taken : Answer → Bool
@@ -73,9 +74,9 @@ took n (e ∷ es) (a ∷ got) = (if taken a then brings n e else []) ++ took n e
 
 -- an event that is accepted at the gate g finds "a place free at the array (a completion frees its own first)"
 abbrev pub finds : Event → Gate → Bool
-finds (arrival a now) g = ltb (g .flight) (g .depth)
-finds (completion f now) g = ltb (g .flight - 1) (g .depth)
-finds (tick now) g = ltb (g .flight) (g .depth)
+finds (Arrival a now) g = ltb (g .flight) (g .setup .depth)
+finds (Completion f now) g = ltb (g .flight - 1) (g .setup .depth)
+finds (Tick now) g = ltb (g .flight) (g .setup .depth)
 
 -- the answers to the calls of a run that are accepted and find a place free, in order
 unfoldable pub freeReplies : Host → List Event → List Answer

@@ -3,7 +3,7 @@ use Prim.Native.Nat.{ℕ, _*_, _≤_}
 use mathlib.Core.Path.{_≡_}
 use mathlib.Core.List.{List}
 use lib.ListN.{length}
-use Rattle.rules.specs.Events.{Event}
+use Rattle.rules.specs.declared.Event.{Event}
 use Rattle.rules.specs.Refusals.{accept, refuse}
 use Rattle.rules.specs.declared.Gate.{Gate}
 use Rattle.rules.specs.declared.Answer.the-variants.{Refused}
@@ -34,8 +34,8 @@ JudgesOpening d n c ss gs ws fs (Bad r) = openingAt d n c ss gs ws fs ≡ refuse
 
 -- the gate of a fresh table with depth d, n guests and capacity c
 abbrev pub freshGate : (d n c : ℕ) → Gate
-freshGate d n c = record { depth = d; guests = n; capacity = c; time = 0; waiting = 0; flight = 0 }
+freshGate d n c = gateAt (record { depth = d; capacity = c }) n 0 0 0
 
 -- what a refused opening answers
 abbrev pub notOpened : Refusal → Outcome
-notOpened r = record { gate = unopened; answer = Refused r }
+notOpened r = outcomeOf unopened (Refused r)

@@ -8,9 +8,10 @@ use lib.Dec.{ltb}
 use lib.ListN.{length}
 use Rattle.lists.specs.Rows.{rowsOf}
 use Rattle.rules.specs.Answers.{Printed, shown}
-use Rattle.rules.specs.Tables.{Settings}
+use Rattle.rules.specs.declared.Settings.{Settings}
 use Rattle.rules.specs.Choice.{choice}
-use Rattle.rules.specs.Events.{Event, enter}
+use Rattle.rules.specs.Events.{enter}
+use Rattle.rules.specs.declared.Event.{Event}
 use Rattle.rules.specs.Refusals.{Verdict, accept, refuse, judged, tests, openTests}
 use Rattle.rules.specs.Run.{fresh}
 use Rattle.rules.specs.declared.Gate.{Gate}
@@ -28,7 +29,7 @@ seen h = (h .0 .gate, shown (h .0 .answer), h .1, h .2, h .3)
 
 -- "Every refusal changes no lent number and not the time."
 abbrev pub unchanged : Gate → (gs ws fs : List ℕ) → Answer → Handed
-unchanged g gs ws fs a = (record { gate = g; answer = a }, gs, ws, fs)
+unchanged g gs ws fs a = (outcomeOf g a, gs, ws, fs)
 
 -- what follows from a verdict on an event: at the table that the lent numbers show it is entered and the choice made; or nothing moves
 abbrev pub followed : Verdict → Event → Gate → (gs ws fs : List ℕ) → Handed
@@ -54,7 +55,7 @@ settingsIn ss n = rowsOf settingsForm ss n
 
 -- the gate of an opening that is refused: nothing is open, and every call on it is refused
 abbrev pub unopened : Gate
-unopened = record { depth = 0; guests = 0; capacity = 0; time = 0; waiting = 0; flight = 0 }
+unopened = gateAt (record { depth = 0; capacity = 0 }) 0 0 0 0
 
 -- what follows from a verdict on an opening: "A fresh table", or nothing moves
 abbrev pub openedBy : Verdict → (d n c : ℕ) (ss gs ws fs : List ℕ) → Handed

@@ -9,7 +9,7 @@ use sound::is_sound;
 use sound::lengths::is_countable;
 use sound::lengths::is_short;
 ghost use mathlib.Core.Path.{_≡_};
-ghost use Rattle.rules.specs.Events.{Event};
+ghost use Rattle.rules.specs.declared.Event.the-variants.{Arrival, Completion, Tick};
 ghost use Rattle.gate.specs.Promise.{seen, called, opened};
 ghost use Rattle.gate.specs.Judges.{Judges, JudgesOpening, freshGate, notOpened};
 
@@ -43,7 +43,7 @@ pub fn tick(
     flight: &mut [u64],
     time: u64,
 ) -> Outcome
-    ensures { λ r. ⌜ seen (r, now (guests .exit), now (waiting .exit), now (flight .exit)) ≡ seen (called (Event.tick time) gate (now (guests .entry)) (now (waiting .entry)) (now (flight .entry))) ⌝ }
+    ensures { λ r. ⌜ seen (r, now (guests .exit), now (waiting .exit), now (flight .exit)) ≡ seen (called (Tick time) gate (now (guests .entry)) (now (waiting .entry)) (now (flight .entry))) ⌝ }
 {
     let found = judge(gate, &guests[..], &waiting[..], &flight[..]);
     match found {
@@ -62,7 +62,7 @@ pub fn complete(
     id: u32,
     time: u64,
 ) -> Outcome
-    ensures { λ r. ⌜ seen (r, now (guests .exit), now (waiting .exit), now (flight .exit)) ≡ seen (called (Event.completion (record { guest = guest; id = id }) time) gate (now (guests .entry)) (now (waiting .entry)) (now (flight .entry))) ⌝ }
+    ensures { λ r. ⌜ seen (r, now (guests .exit), now (waiting .exit), now (flight .exit)) ≡ seen (called (Completion (record { guest = guest; id = id }) time) gate (now (guests .entry)) (now (waiting .entry)) (now (flight .entry))) ⌝ }
 {
     let found = judge(gate, &guests[..], &waiting[..], &flight[..]);
     match found {
@@ -81,7 +81,7 @@ pub fn arrive(
     id: u32,
     time: u64,
 ) -> Outcome
-    ensures { λ r. ⌜ seen (r, now (guests .exit), now (waiting .exit), now (flight .exit)) ≡ seen (called (Event.arrival (record { guest = guest; id = id }) time) gate (now (guests .entry)) (now (waiting .entry)) (now (flight .entry))) ⌝ }
+    ensures { λ r. ⌜ seen (r, now (guests .exit), now (waiting .exit), now (flight .exit)) ≡ seen (called (Arrival (record { guest = guest; id = id }) time) gate (now (guests .entry)) (now (waiting .entry)) (now (flight .entry))) ⌝ }
 {
     let found = judge(gate, &guests[..], &waiting[..], &flight[..]);
     match found {
@@ -122,7 +122,7 @@ fn judge_opening(
     waiting: &[u64],
     flight: &[u64],
 ) -> Judged
-    ensures { λ r. ⌜ JudgesOpening (gate .depth) (gate .guests) (gate .capacity) (now (settings .entry)) (now (guests .entry)) (now (waiting .entry)) (now (flight .entry)) r ⌝ }
+    ensures { λ r. ⌜ JudgesOpening (gate .setup .depth) (gate .guests) (gate .setup .capacity) (now (settings .entry)) (now (guests .entry)) (now (waiting .entry)) (now (flight .entry)) r ⌝ }
 {
     if !is_countable(gate) {
         return Judged::Bad(Refusal::BadSetting);

@@ -5,7 +5,7 @@ use rules::Gate;
 use rules::Outcome;
 use rules::Phase;
 ghost use mathlib.Core.Path.{_≡_};
-ghost use Rattle.rules.specs.Events.{Event};
+ghost use Rattle.rules.specs.declared.Event.the-variants.{Arrival, Completion, Tick};
 ghost use Rattle.gate.specs.Promise.{called, opened};
 ghost use Rattle.host.specs.Host.{kindOf, gateIn, gateOver, replyOf, written, hosted};
 
@@ -79,9 +79,9 @@ fn gate_in(six: &[u64; 6]) -> Gate
 fn gate_over(six: &mut [u64; 6], gate: Gate)
     ensures { λ _. ⌜ now (six .exit) ≡ gateOver gate (now (six .entry)) ⌝ }
 {
-    six[0] = gate.depth;
+    six[0] = gate.setup.depth;
     six[1] = gate.guests;
-    six[2] = gate.capacity;
+    six[2] = gate.setup.capacity;
     six[3] = gate.time;
     six[4] = gate.waiting;
     six[5] = gate.flight;
@@ -135,7 +135,7 @@ pub extern "C" fn sgq_arrive(
     id: u32,
     time: u64,
 ) -> Reply
-    ensures { λ r. ⌜ (r, now (six .exit), now (guests .exit), now (waiting .exit), now (flight .exit)) ≡ hosted (now (six .entry)) (called (Event.arrival (record { guest = guest; id = id }) time) (gateIn (now (six .entry))) (now (guests .entry)) (now (waiting .entry)) (now (flight .entry))) ⌝ }
+    ensures { λ r. ⌜ (r, now (six .exit), now (guests .exit), now (waiting .exit), now (flight .exit)) ≡ hosted (now (six .entry)) (called (Arrival (record { guest = guest; id = id }) time) (gateIn (now (six .entry))) (now (guests .entry)) (now (waiting .entry)) (now (flight .entry))) ⌝ }
 {
     let gate = gate_in(six);
     let outcome = gate::numbers::arrive(gate, guests, waiting, flight, guest, id, time);
@@ -153,7 +153,7 @@ pub extern "C" fn sgq_complete(
     id: u32,
     time: u64,
 ) -> Reply
-    ensures { λ r. ⌜ (r, now (six .exit), now (guests .exit), now (waiting .exit), now (flight .exit)) ≡ hosted (now (six .entry)) (called (Event.completion (record { guest = guest; id = id }) time) (gateIn (now (six .entry))) (now (guests .entry)) (now (waiting .entry)) (now (flight .entry))) ⌝ }
+    ensures { λ r. ⌜ (r, now (six .exit), now (guests .exit), now (waiting .exit), now (flight .exit)) ≡ hosted (now (six .entry)) (called (Completion (record { guest = guest; id = id }) time) (gateIn (now (six .entry))) (now (guests .entry)) (now (waiting .entry)) (now (flight .entry))) ⌝ }
 {
     let gate = gate_in(six);
     let outcome = gate::numbers::complete(gate, guests, waiting, flight, guest, id, time);
@@ -169,7 +169,7 @@ pub extern "C" fn sgq_tick(
     flight: &mut [u64],
     time: u64,
 ) -> Reply
-    ensures { λ r. ⌜ (r, now (six .exit), now (guests .exit), now (waiting .exit), now (flight .exit)) ≡ hosted (now (six .entry)) (called (Event.tick time) (gateIn (now (six .entry))) (now (guests .entry)) (now (waiting .entry)) (now (flight .entry))) ⌝ }
+    ensures { λ r. ⌜ (r, now (six .exit), now (guests .exit), now (waiting .exit), now (flight .exit)) ≡ hosted (now (six .entry)) (called (Tick time) (gateIn (now (six .entry))) (now (guests .entry)) (now (waiting .entry)) (now (flight .entry))) ⌝ }
 {
     let gate = gate_in(six);
     let outcome = gate::numbers::tick(gate, guests, waiting, flight, time);

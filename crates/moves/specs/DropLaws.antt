@@ -12,7 +12,8 @@ use Rattle.lists.specs.Lines.{whether, lineAt}
 use Rattle.lists.specs.Rows.{overRows, Unused}
 use Rattle.lists.specs.RowsLaws.{row-at, row-put, rows-changed, all-used, each-map}
 use Rattle.rules.specs.Numbers.{down}
-use Rattle.rules.specs.Tables.{Guest, Request, Table, owner, of}
+use Rattle.rules.specs.Tables.{Request, Table, owner, of}
+use Rattle.rules.specs.declared.Guest.{Guest}
 use Rattle.rules.specs.Choice.{earlier, sooner, dropOf, dropped}
 use Rattle.table.specs.View.{guestForm, requestForm, guestsOf, waitingOf}
 use Rattle.table.specs.ViewLaws.{guest-exact, request-exact}

@@ -9,7 +9,8 @@ use lib.ListN.{length, set}
 use Rattle.lists.specs.Lines.{lineAt}
 use Rattle.lists.specs.Rows.{overRows}
 use Rattle.lists.specs.RowsLaws.{row-at, row-put, row-put-again, all-used}
-use Rattle.rules.specs.Tables.{Guest, Request, owner}
+use Rattle.rules.specs.Tables.{Request, owner}
+use Rattle.rules.specs.declared.Guest.{Guest}
 use Rattle.rules.specs.Events.{following}
 use Rattle.table.specs.View.{guestForm, guestsOf}
 use Rattle.table.specs.ViewLaws.{guest-exact}

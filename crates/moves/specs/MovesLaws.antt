@@ -13,7 +13,8 @@ use Rattle.lists.specs.Lines.{lineAt}
 use Rattle.lists.specs.Rows.{overRows, Unused}
 use Rattle.lists.specs.RowsLaws.{row-at, row-out, row-in}
 use Rattle.lists.specs.FillLaws.{rows-cleared}
-use Rattle.rules.specs.Tables.{Request, Flight, name}
+use Rattle.rules.specs.Tables.{Request, name}
+use Rattle.rules.specs.declared.Flight.{Flight}
 use Rattle.table.specs.View.{requestForm, flightForm, waitingOf, flightsOf}
 use Rattle.table.specs.ViewLaws.{request-exact, flight-exact}
 use Rattle.moves.specs.Moves.{gone, joined, freed, appended}

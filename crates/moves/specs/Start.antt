@@ -10,7 +10,7 @@ use Rattle.lists.specs.Rows.{rowsOf, overRows}
 use native.Mathlib.Numerals.{add-one}
 use Rattle.lists.specs.RowsLaws.{length-rows, rows-snoc, map-snoc, over-same, all-used}
 use Rattle.lists.specs.FillLaws.{row-next}
-use Rattle.rules.specs.Tables.{Guest}
+use Rattle.rules.specs.declared.Guest.{Guest}
 use Rattle.rules.specs.Run.{newcomer}
 use Rattle.table.specs.View.{settingsForm, guestForm}
 use Rattle.table.specs.ViewLaws.{guest-exact}

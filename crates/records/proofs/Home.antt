@@ -12,7 +12,8 @@ use Rattle.lists.specs.Tab.{lt-or-le}
 use Rattle.rules.specs.Tables.{Table}
 use Rattle.rules.specs.Sound.{counted, ranges, sound}
 use Rattle.rules.specs.Choice.{Result, choice}
-use Rattle.rules.specs.Events.{Event, enter}
+use Rattle.rules.specs.Events.{enter}
+use Rattle.rules.specs.declared.Event.{Event}
 use Rattle.rules.specs.Refusals.{Verdict, accept, refuse, judged, tests, openTests, isAccept}
 use Rattle.rules.specs.Run.{fresh}
 use Rattle.rules.proofs.SameSettings.{same-count, choice-settings, enter-settings}
@@ -60,7 +61,7 @@ unranged t h = rw h refl
 
 -- a refusal on the numbers is one on the records
 pub refusal-home : (n : ℕ) (rs : List Guest) (g : Gate) (ws fs : List ℕ) (a : Answer) → homed n rs (numbers.unchanged g (part n rs) ws fs a) ≡ unchanged g rs ws fs a
-refusal-home n rs g ws fs a = λ i. (record { gate = g; answer = a }, kept n rs i, ws, fs)
+refusal-home n rs g ws fs a = λ i. (outcomeOf g a, kept n rs i, ws, fs)
 
 -- a result on the numbers is one on the records
 result-home : (n : ℕ) (rs : List Guest) (ws fs : List ℕ) → count n rs ≡ n → (r : Result) → length (r .table .guests) ≡ n → homed n rs (view.handed (part n rs) ws fs r) ≡ handed rs ws fs r
@@ -77,15 +78,15 @@ module _ (g : Gate) (rs : List Guest) (ws fs : List ℕ) where
   -- counts out of range: 3 at once
   out-of-range : countable g ≡ false → (short g rs ws fs ≡ false) × (soundRecords g rs ws fs ≡ false)
   unfolding short soundRecords
-  out-of-range h = (rw h refl, rw (unranged (tableOf g rs ws fs) (ap (λ (m : ℕ). counted (g .depth) m (g .capacity)) (length-guests rs n) ∙ h)) refl)
+  out-of-range h = (rw h refl, rw (unranged (tableOf g rs ws fs) (ap (λ (m : ℕ). counted (g .setup .depth) m (g .setup .capacity)) (length-guests rs n) ∙ h)) refl)
 
   module _ (h : countable g ≡ true) where
     few : n ≤ 64
-    few = counted-few (g .depth) n (g .capacity) h
+    few = counted-few (g .setup .depth) n (g .setup .capacity) h
 
     same-short : view.short g xs ws fs ≡ short g rs ws fs
     unfolding view.short short
-    same-short = ap (λ (b : Bool). countable g && (b || ltb (length ws) (g .capacity * 5) || ltb (length fs) (g .depth * 2))) (too-few n rs few)
+    same-short = ap (λ (b : Bool). countable g && (b || ltb (length ws) (g .setup .capacity * 5) || ltb (length fs) (g .setup .depth * 2))) (too-few n rs few)
 
     module _ (le : n ≤ length rs) where
       all : count n rs ≡ n
@@ -94,12 +95,12 @@ module _ (g : Gate) (rs : List Guest) (ws fs : List ℕ) where
       same-table : view.tableOf g xs ws fs ≡ tableOf g rs ws fs
       same-table =
           let p : guestsOf xs n ≡ tableOf g rs ws fs .guests = same-guests n rs all in
-          λ i. record { setup = record { depth = g .depth; capacity = g .capacity }; time = g .time; guests = p i; waiting = waitingOf ws (g .waiting); flight = flightsOf fs (g .flight) }
+          λ i. record { setup = g .setup; time = g .time; guests = p i; waiting = waitingOf ws (g .waiting); flight = flightsOf fs (g .flight) }
 
       same-sound : soundNumbers g xs ws fs ≡ soundRecords g rs ws fs
       unfolding soundNumbers soundRecords
       same-sound =
-          ap (λ (t : Table). sound t && identified t && zeroed 5 (g .capacity) (g .waiting) ws && zeroed 2 (g .depth) (g .flight) fs) same-table
+          ap (λ (t : Table). sound t && identified t && zeroed 5 (g .setup .capacity) (g .waiting) ws && zeroed 2 (g .setup .depth) (g .flight) fs) same-table
 
       same-verdict : (e : Event) → numbers.judgedAt e g xs ws fs ≡ judgedAt e g rs ws fs
       unfolding numbers.judgedAt judgedAt

@@ -2,8 +2,9 @@
 use Prim.Native.Nat.{ℕ}
 use mathlib.Core.Path.{_≡_, sym, ap, _∙_}
 use mathlib.Core.List.{List}
-use Rattle.rules.specs.Tables.{Flight}
-use Rattle.rules.specs.Events.{Arriving, arrival, completion, tick}
+use Rattle.rules.specs.declared.Flight.{Flight}
+use Rattle.rules.specs.declared.Arriving.{Arriving}
+use Rattle.rules.specs.declared.Event.the-variants.{Arrival, Completion, Tick}
 use Rattle.rules.specs.declared.Guest.{Guest}
 use Rattle.rules.specs.declared.Gate.{Gate}
 use Rattle.gate.proofs.Once.{shown-once}
@@ -13,7 +14,7 @@ use Rattle.records.specs.Promise.{Handed, Seen, seen, called, opened}
 pub seen-once : (h k : Handed) → seen h ≡ seen k → h ≡ k
 seen-once h k e =
     let a = shown-once (h .0 .answer) (k .0 .answer) (ap (λ (s : Seen). s .1) e) in
-    λ i. (record { gate = e i .0; answer = a i }, e i .2, e i .3, e i .4)
+    λ i. (outcomeOf (e i .0) (a i), e i .2, e i .3, e i .4)
 
 -- what an equation of a promise admits, once
 admits : (s : Seen) (h k : Handed) → seen h ≡ s → seen k ≡ s → h ≡ k
@@ -21,14 +22,14 @@ admits s h k p q = seen-once h k (p ∙ sym q)
 
 module _ (h k : Handed) (rs : List Guest) (ws fs : List ℕ) where
   -- of an arrival, a completion, a tick and an opening
-  pub arrive-once : (a : Arriving) (now : ℕ) (g : Gate) → seen h ≡ seen (called (arrival a now) g rs ws fs) → seen k ≡ seen (called (arrival a now) g rs ws fs) → h ≡ k
-  arrive-once a now g = admits (seen (called (arrival a now) g rs ws fs)) h k
+  pub arrive-once : (a : Arriving) (now : ℕ) (g : Gate) → seen h ≡ seen (called (Arrival a now) g rs ws fs) → seen k ≡ seen (called (Arrival a now) g rs ws fs) → h ≡ k
+  arrive-once a now g = admits (seen (called (Arrival a now) g rs ws fs)) h k
 
-  pub complete-once : (f : Flight) (now : ℕ) (g : Gate) → seen h ≡ seen (called (completion f now) g rs ws fs) → seen k ≡ seen (called (completion f now) g rs ws fs) → h ≡ k
-  complete-once f now g = admits (seen (called (completion f now) g rs ws fs)) h k
+  pub complete-once : (f : Flight) (now : ℕ) (g : Gate) → seen h ≡ seen (called (Completion f now) g rs ws fs) → seen k ≡ seen (called (Completion f now) g rs ws fs) → h ≡ k
+  complete-once f now g = admits (seen (called (Completion f now) g rs ws fs)) h k
 
-  pub tick-once : (now : ℕ) (g : Gate) → seen h ≡ seen (called (tick now) g rs ws fs) → seen k ≡ seen (called (tick now) g rs ws fs) → h ≡ k
-  tick-once now g = admits (seen (called (tick now) g rs ws fs)) h k
+  pub tick-once : (now : ℕ) (g : Gate) → seen h ≡ seen (called (Tick now) g rs ws fs) → seen k ≡ seen (called (Tick now) g rs ws fs) → h ≡ k
+  tick-once now g = admits (seen (called (Tick now) g rs ws fs)) h k
 
   pub open-once : (d n c : ℕ) (ss : List ℕ) → seen h ≡ seen (opened d n c ss rs ws fs) → seen k ≡ seen (opened d n c ss rs ws fs) → h ≡ k
   open-once d n c ss = admits (seen (opened d n c ss rs ws fs)) h k

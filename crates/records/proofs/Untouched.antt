@@ -9,7 +9,7 @@ use lib.ListN.{length, take, drop, replicate, length-take}
 use lib.Seq.{length-take-le, take-all, take-take, take-add, drop-at, drop-drop, drop-append-add, take-append-add}
 use Rattle.lists.specs.Rows.{rowsOf, overRows}
 use Rattle.lists.specs.RowsLaws.{length-rows}
-use Rattle.rules.specs.Events.{Event}
+use Rattle.rules.specs.declared.Event.{Event}
 use Rattle.rules.specs.declared.Guest.{Guest}
 use Rattle.rules.specs.declared.Gate.{Gate}
 use Rattle.rules.specs.declared.Refusal.{Refusal}
@@ -51,10 +51,10 @@ beyond-home n c d rs ws fs h b = record {
 }
 
 -- an arrival, a completion and a tick change nothing beyond what the settings need
-pub called-beyond : (e : Event) (g : Gate) (rs : List Guest) (ws fs : List ℕ) → Beyond (g .guests) (g .capacity) (g .depth) rs ws fs (called e g rs ws fs)
+pub called-beyond : (e : Event) (g : Gate) (rs : List Guest) (ws fs : List ℕ) → Beyond (g .guests) (g .setup .capacity) (g .setup .depth) rs ws fs (called e g rs ws fs)
 called-beyond e g rs ws fs =
     let n = g .guests in
-    rw (sym (called-home g rs ws fs e)) (beyond-home n (g .capacity) (g .depth) rs ws fs (numbers.called e g (part n rs) ws fs) (beyond.called-beyond e g (part n rs) ws fs))
+    rw (sym (called-home g rs ws fs e)) (beyond-home n (g .setup .capacity) (g .setup .depth) rs ws fs (numbers.called e g (part n rs) ws fs) (beyond.called-beyond e g (part n rs) ws fs))
 
 -- nor does an opening
 pub opened-beyond : (d n c : ℕ) (ss : List ℕ) (rs : List Guest) (ws fs : List ℕ) → Beyond n c d rs ws fs (opened d n c ss rs ws fs)
@@ -122,14 +122,14 @@ same-home n c d rs os ws fs vs es same h k b b′ s = record {
     alike = brought-alike n rs os same (left n rs (h .1)) ∙ ap (λ (zs : List ℕ). take n (brought n os zs)) lefts
 
 -- An arrival, a completion and a tick read nothing beyond what the settings need.
-pub called-unread : (e : Event) (g : Gate) (rs : List Guest) (ws fs : List ℕ) (os : List Guest) (vs es : List ℕ) → Alike (g .guests) (g .capacity) (g .depth) rs ws fs os vs es
-    → Same (g .guests) (g .capacity) (g .depth) (called e g rs ws fs) (called e g os vs es)
+pub called-unread : (e : Event) (g : Gate) (rs : List Guest) (ws fs : List ℕ) (os : List Guest) (vs es : List ℕ) → Alike (g .guests) (g .setup .capacity) (g .setup .depth) rs ws fs os vs es
+    → Same (g .guests) (g .setup .capacity) (g .setup .depth) (called e g rs ws fs) (called e g os vs es)
 called-unread e g rs ws fs os vs es a =
     let n = g .guests in
     let x = part n rs in
     let to : homed n os (numbers.called e g x vs es) ≡ called e g os vs es = ap (λ (l : List ℕ). homed n os (numbers.called e g l vs es)) (same-part n rs os (a .records)) ∙ called-home g os vs es e in
     rw (sym (called-home g rs ws fs e), sym to)
-    (same-home n (g .capacity) (g .depth) rs os ws fs vs es (a .records) (numbers.called e g x ws fs) (numbers.called e g x vs es)
+    (same-home n (g .setup .capacity) (g .setup .depth) rs os ws fs vs es (a .records) (numbers.called e g x ws fs) (numbers.called e g x vs es)
     (beyond.called-beyond e g x ws fs) (beyond.called-beyond e g x vs es)
     (unread.called-unread e g x ws fs x vs es (record { guests = refl; waiting = a .waiting; flight = a .flight })))
 

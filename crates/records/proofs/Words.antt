@@ -43,7 +43,7 @@ pub use denote.Triple.Walked.{says, Stays, stay-none, stay-none-slice, stay-slic
 pub use Rattle.rules.specs.declared.Guest.{Guest}
 pub use Rattle.rules.specs.declared.Gate.{Gate}
 pub use Rattle.rules.specs.declared.Outcome.{Outcome}
-pub use Rattle.rules.specs.Events.{Event}
+pub use Rattle.rules.specs.declared.Event.{Event}
 pub use Rattle.table.specs.View.{Handed}
 pub use Rattle.gate.specs.Promise.{seen, called, opened}
 pub use Rattle.records.specs.Records.{inPart}

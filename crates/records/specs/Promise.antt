@@ -14,7 +14,8 @@ use Rattle.rules.specs.Tables as tables
 use Rattle.rules.specs.Tables.{Table}
 use Rattle.rules.specs.Sound.{sound}
 use Rattle.rules.specs.Choice.{Result, choice}
-use Rattle.rules.specs.Events.{Event, enter}
+use Rattle.rules.specs.Events.{enter}
+use Rattle.rules.specs.declared.Event.{Event}
 use Rattle.rules.specs.Refusals.{Verdict, accept, refuse, judged, tests, openTests}
 use Rattle.rules.specs.Run.{fresh}
 use Rattle.rules.specs.declared.Guest.{Guest}
@@ -36,7 +37,7 @@ guestsIn rs n = tab n (λ k. guestOf (getD rs k blank))
 abbrev pub tableOf : Gate → List Guest → (ws fs : List ℕ) → Table
 tableOf g rs ws fs =
     record {
-      setup = record { depth = g .depth; capacity = g .capacity };
+      setup = g .setup;
       time = g .time;
       guests = guestsIn rs (g .guests);
       waiting = waitingOf ws (g .waiting);
@@ -54,7 +55,7 @@ Handed = Outcome × List Guest × List ℕ × List ℕ
 -- a table and an answer written over what was lent; places beyond what the settings need stay as they were
 unfoldable pub handed : List Guest → (ws fs : List ℕ) → Result → Handed
 handed rs ws fs r = (
-  record { gate = gateOf (r .table); answer = r .answer },
+  outcomeOf (gateOf (r .table)) (r .answer),
   overRecords (r .table .guests) rs,
   overRows requestForm (r .table .setup .capacity) (r .table .waiting) ws,
   overRows flightForm (r .table .setup .depth) (r .table .flight) fs,
@@ -73,17 +74,17 @@ seen h = (h .0 .gate, shown (h .0 .answer), h .1, h .2, h .3)
 -- refusal 2: the slice has fewer records than guests, or a list is "shorter than the settings need"; where the counts are out of range
 -- nothing is needed, and 3 is given
 unfoldable pub short : Gate → List Guest → (ws fs : List ℕ) → Bool
-short g rs ws fs = countable g && (ltb (length rs) (g .guests) || ltb (length ws) (g .capacity * 5) || ltb (length fs) (g .depth * 2))
+short g rs ws fs = countable g && (ltb (length rs) (g .guests) || ltb (length ws) (g .setup .capacity * 5) || ltb (length fs) (g .setup .depth * 2))
 
 -- refusal 3, of lent tables that suffice: the table is sound, every id has 32 bits, and "unused places are zero"
 unfoldable pub soundRecords : Gate → List Guest → (ws fs : List ℕ) → Bool
 soundRecords g rs ws fs =
     sound (tableOf g rs ws fs) && identified (tableOf g rs ws fs)
-    && zeroed 5 (g .capacity) (g .waiting) ws && zeroed 2 (g .depth) (g .flight) fs
+    && zeroed 5 (g .setup .capacity) (g .waiting) ws && zeroed 2 (g .setup .depth) (g .flight) fs
 
 -- "Every refusal changes no lent number and not the time."
 abbrev pub unchanged : Gate → List Guest → (ws fs : List ℕ) → Answer → Handed
-unchanged g rs ws fs a = (record { gate = g; answer = a }, rs, ws, fs)
+unchanged g rs ws fs a = (outcomeOf g a, rs, ws, fs)
 
 -- what follows from a verdict on an event: at the table that is shown it is entered and the choice made; or nothing moves
 abbrev pub followed : Verdict → Event → Gate → List Guest → (ws fs : List ℕ) → Handed

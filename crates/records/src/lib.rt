@@ -11,7 +11,7 @@ use rules::Gate;
 use rules::Guest;
 use rules::Outcome;
 ghost use mathlib.Core.Path.{_≡_};
-ghost use Rattle.rules.specs.Events.{Event};
+ghost use Rattle.rules.specs.declared.Event.the-variants.{Arrival, Completion, Tick};
 ghost use Rattle.records.specs.Promise.{seen, called, opened};
 
 // An arrival.
@@ -24,7 +24,7 @@ pub fn arrive(
     id: u32,
     time: u64,
 ) -> Outcome
-    ensures { λ r. ⌜ seen (r, now (guests .exit), now (waiting .exit), now (flight .exit)) ≡ seen (called (Event.arrival (record { guest = guest; id = id }) time) gate (now (guests .entry)) (now (waiting .entry)) (now (flight .entry))) ⌝ }
+    ensures { λ r. ⌜ seen (r, now (guests .exit), now (waiting .exit), now (flight .exit)) ≡ seen (called (Arrival (record { guest = guest; id = id }) time) gate (now (guests .entry)) (now (waiting .entry)) (now (flight .entry))) ⌝ }
 {
     let mut rows: [u64; 384] = [0; 384];
     let count = used(gate.guests, guests.len());
@@ -44,7 +44,7 @@ pub fn complete(
     id: u32,
     time: u64,
 ) -> Outcome
-    ensures { λ r. ⌜ seen (r, now (guests .exit), now (waiting .exit), now (flight .exit)) ≡ seen (called (Event.completion (record { guest = guest; id = id }) time) gate (now (guests .entry)) (now (waiting .entry)) (now (flight .entry))) ⌝ }
+    ensures { λ r. ⌜ seen (r, now (guests .exit), now (waiting .exit), now (flight .exit)) ≡ seen (called (Completion (record { guest = guest; id = id }) time) gate (now (guests .entry)) (now (waiting .entry)) (now (flight .entry))) ⌝ }
 {
     let mut rows: [u64; 384] = [0; 384];
     let count = used(gate.guests, guests.len());
@@ -62,7 +62,7 @@ pub fn tick(
     flight: &mut [u64],
     time: u64,
 ) -> Outcome
-    ensures { λ r. ⌜ seen (r, now (guests .exit), now (waiting .exit), now (flight .exit)) ≡ seen (called (Event.tick time) gate (now (guests .entry)) (now (waiting .entry)) (now (flight .entry))) ⌝ }
+    ensures { λ r. ⌜ seen (r, now (guests .exit), now (waiting .exit), now (flight .exit)) ≡ seen (called (Tick time) gate (now (guests .entry)) (now (waiting .entry)) (now (flight .entry))) ⌝ }
 {
     let mut rows: [u64; 384] = [0; 384];
     let count = used(gate.guests, guests.len());

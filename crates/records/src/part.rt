@@ -5,7 +5,7 @@ use rules::Outcome;
 ghost use mathlib.Core.Path.{_≡_};
 ghost use Prim.Native.Nat.{_*_, _≤_};
 ghost use lib.ListN.{length};
-ghost use Rattle.rules.specs.Events.{Event};
+ghost use Rattle.rules.specs.declared.Event.the-variants.{Arrival, Completion, Tick};
 ghost use Rattle.gate.specs.Promise.{seen, called, opened};
 ghost use Rattle.records.specs.Records.{inPart};
 
@@ -21,7 +21,7 @@ pub fn arrive(
     time: u64,
 ) -> Outcome
     requires { ⌜ count * 6 ≤ length (now rows) ⌝ }
-    ensures { λ r. ⌜ seen (r, now (rows .exit), now (waiting .exit), now (flight .exit)) ≡ seen (inPart count (now (rows .entry)) (λ gs. called (Event.arrival (record { guest = guest; id = id }) time) gate gs (now (waiting .entry)) (now (flight .entry)))) ⌝ }
+    ensures { λ r. ⌜ seen (r, now (rows .exit), now (waiting .exit), now (flight .exit)) ≡ seen (inPart count (now (rows .entry)) (λ gs. called (Arrival (record { guest = guest; id = id }) time) gate gs (now (waiting .entry)) (now (flight .entry)))) ⌝ }
 {
     numbers::arrive(
         gate,
@@ -46,7 +46,7 @@ pub fn complete(
     time: u64,
 ) -> Outcome
     requires { ⌜ count * 6 ≤ length (now rows) ⌝ }
-    ensures { λ r. ⌜ seen (r, now (rows .exit), now (waiting .exit), now (flight .exit)) ≡ seen (inPart count (now (rows .entry)) (λ gs. called (Event.completion (record { guest = guest; id = id }) time) gate gs (now (waiting .entry)) (now (flight .entry)))) ⌝ }
+    ensures { λ r. ⌜ seen (r, now (rows .exit), now (waiting .exit), now (flight .exit)) ≡ seen (inPart count (now (rows .entry)) (λ gs. called (Completion (record { guest = guest; id = id }) time) gate gs (now (waiting .entry)) (now (flight .entry)))) ⌝ }
 {
     numbers::complete(
         gate,
@@ -69,7 +69,7 @@ pub fn tick(
     time: u64,
 ) -> Outcome
     requires { ⌜ count * 6 ≤ length (now rows) ⌝ }
-    ensures { λ r. ⌜ seen (r, now (rows .exit), now (waiting .exit), now (flight .exit)) ≡ seen (inPart count (now (rows .entry)) (λ gs. called (Event.tick time) gate gs (now (waiting .entry)) (now (flight .entry)))) ⌝ }
+    ensures { λ r. ⌜ seen (r, now (rows .exit), now (waiting .exit), now (flight .exit)) ≡ seen (inPart count (now (rows .entry)) (λ gs. called (Tick time) gate gs (now (waiting .entry)) (now (flight .entry)))) ⌝ }
 {
     numbers::tick(gate, &mut rows[..count * 6], waiting, flight, time)
 }

@@ -12,7 +12,9 @@ use Rattle.lists.specs.Words.{all, empty, lowest}
 use Rattle.lists.specs.WordsLaws.{both, join, all-at, all-filter, lowest-all}
 use Rattle.lists.specs.RowsLaws.{length-rows, row-at}
 use Rattle.rules.specs.Numbers.{ceiling, second, down}
-use Rattle.rules.specs.Tables.{Settings, Guest, Request, reserved, limited, rspacing, lspacing, sspacing, owner, of, mine}
+use Rattle.rules.specs.Tables.{Request, reserved, limited, rspacing, lspacing, sspacing, owner, of, mine}
+use Rattle.rules.specs.declared.Settings.{Settings}
+use Rattle.rules.specs.declared.Guest.{Guest}
 use Rattle.rules.proofs.Spacings.{down-le}
 use Rattle.rules.specs.Sound.{lawful, apart, follows, kept, orderly}
 use Rattle.table.specs.View.{guestForm, requestForm, guestsOf, waitingOf}

@@ -104,11 +104,11 @@ nexts-over n gs room time m idle =
     [ true ↦ refl | false ↦ refl ])
 
 -- the two exits of the settling are the settled table, written over what was lent
-pub adjusted-is : (g : Gate) (gs ws fs : List ℕ) (time : ℕ) → g .guests * 6 ≤ length gs → g .capacity * 5 ≤ length ws → g .waiting ≤ g .capacity → Unused requestForm (g .capacity) (g .waiting) ws
+pub adjusted-is : (g : Gate) (gs ws fs : List ℕ) (time : ℕ) → g .guests * 6 ≤ length gs → g .setup .capacity * 5 ≤ length ws → g .waiting ≤ g .setup .capacity → Unused requestForm (g .setup .capacity) (g .waiting) ws
     → (movedNexts time (smallest (tableOf g gs ws fs)) (idleIn ws (g .waiting)) gs (g .guests) ≡ overRows guestForm (g .guests) ((adjusted true time (tableOf g gs ws fs)) .guests) gs)
-    × (movedTags time (smallest (tableOf g gs ws fs)) ws (g .waiting) ≡ overRows requestForm (g .capacity) ((adjusted true time (tableOf g gs ws fs)) .waiting) ws)
+    × (movedTags time (smallest (tableOf g gs ws fs)) ws (g .waiting) ≡ overRows requestForm (g .setup .capacity) ((adjusted true time (tableOf g gs ws fs)) .waiting) ws)
 unfolding adjusted idle
 adjusted-is g gs ws fs time guests waiting fit unused = (
   nexts-over (g .guests) gs guests time (smallest (tableOf g gs ws fs)) (idleIn ws (g .waiting)),
-  tags-over (g .capacity) (g .waiting) ws waiting fit unused time (smallest (tableOf g gs ws fs)),
+  tags-over (g .setup .capacity) (g .waiting) ws waiting fit unused time (smallest (tableOf g gs ws fs)),
 )

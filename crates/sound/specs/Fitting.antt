@@ -7,7 +7,7 @@ use Rattle.rules.specs.declared.Gate.{Gate}
 
 -- depth, guests and capacity lie in their ranges, and the lent tables are long enough for them
 pub record Fitting (gate : Gate) (gs ws fs : List ℕ) : Type 0 where
-  pub counts : Countable (gate .depth) (gate .guests) (gate .capacity)
+  pub counts : Countable (gate .setup .depth) (gate .guests) (gate .setup .capacity)
   pub guestRoom : gate .guests * 6 ≤ length gs
-  pub waitingRoom : gate .capacity * 5 ≤ length ws
-  pub flightRoom : gate .depth * 2 ≤ length fs
+  pub waitingRoom : gate .setup .capacity * 5 ≤ length ws
+  pub flightRoom : gate .setup .depth * 2 ≤ length fs

@@ -4,7 +4,8 @@ use mathlib.Core.List.{List, _++_, map}
 use lib.Dec.{ltb}
 use lib.ListN.{length, getD}
 use Rattle.lists.specs.Lines.{whether}
-use Rattle.rules.specs.Tables.{Flight, name}
+use Rattle.rules.specs.Tables.{name}
+use Rattle.rules.specs.declared.Flight.{Flight}
 use Rattle.table.specs.View.{waitingOf, flightsOf}
 
 -- what `all_once` asks: the bucket arrays have room for both counts, and both tables are long enough for them

@@ -8,7 +8,7 @@ ghost use Rattle.table.specs.View.{countable, short};
 pub fn is_countable(gate: Gate) -> bool
     ensures { λ b. ⌜ b ≡ countable gate ⌝ }
 {
-    is_counted(gate.depth, gate.guests, gate.capacity)
+    is_counted(gate.setup.depth, gate.guests, gate.setup.capacity)
 }
 
 // A lent table is shorter than the settings need; where the counts are out of range nothing is known to be needed.
@@ -19,8 +19,8 @@ pub fn is_short(gate: Gate, guests: &[u64], waiting: &[u64], flight: &[u64]) -> 
         return false;
     }
     let known = gate.guests as usize;
-    let capacity = gate.capacity as usize;
-    let depth = gate.depth as usize;
+    let capacity = gate.setup.capacity as usize;
+    let depth = gate.setup.depth as usize;
     if guests.len() < known * 6 {
         return true;
     }

@@ -7,7 +7,8 @@ use mathlib.Core.List.{List}
 use Rattle.rules.specs.Tables.{Table}
 use Rattle.rules.specs.Sound.{sound}
 use Rattle.rules.specs.Choice.{Result}
-use Rattle.rules.specs.Events.{Event, enter}
+use Rattle.rules.specs.Events.{enter}
+use Rattle.rules.specs.declared.Event.{Event}
 use Rattle.rules.specs.Refusals.{accepted}
 use Rattle.rules.specs.Run.{step}
 use Rattle.rules.proofs.SameSettings.{SameSettings, step-settings}

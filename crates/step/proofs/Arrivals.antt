@@ -10,9 +10,15 @@ use Rattle.lists.specs.Words.{if_then_else_}
 use Rattle.lists.specs.Rows.{overRows, Unused}
 use Rattle.lists.specs.RowsLaws.{length-rows, length-over-rows, rows-over, over-twice, over-unused, over-same}
 use Rattle.rules.specs.Numbers.{ceiling}
-use Rattle.rules.specs.Tables.{Setup, Guest, Request, Flight, Table, owner, idle, lacks, names}
+use Rattle.rules.specs.Tables.{Request, Table, owner, idle, lacks, names}
+use Rattle.rules.specs.declared.Setup.{Setup}
+use Rattle.rules.specs.declared.Guest.{Guest}
+use Rattle.rules.specs.declared.Flight.{Flight}
 use Rattle.rules.specs.Choice.{choice}
-use Rattle.rules.specs.Events.{Arriving, Event, arrival, calledBy, adjusted, stamped, stampedFor, following, placed, arriveAs, arrive, enter}
+use Rattle.rules.specs.Events.{calledBy, adjusted, stamped, stampedFor, following, placed, arriveAs, arrive, enter}
+use Rattle.rules.specs.declared.Arriving.{Arriving}
+use Rattle.rules.specs.declared.Event.{Event}
+use Rattle.rules.specs.declared.Event.the-variants.{Arrival}
 use Rattle.rules.specs.Refusals.{eventTests, passing, accept, refuse, judged, verdict, isAccept, accepted}
 use Rattle.rules.specs.Run.{step}
 use Rattle.rules.proofs.SameSettings.{adjusted-settings, same-count}
@@ -45,7 +51,7 @@ module _ (g : Gate) (gs ws fs : List ℕ) (k : Known g gs ws fs) (a : Arriving) 
   t = tableOf g gs ws fs
 
   abbrev ev : Event
-  ev = arrival a now
+  ev = Arrival a now
 
   module _ (known : a .guest < g .guests) (l : now ≤ ceiling) (h : g .time ≤ now) where
     -- the guest and the time are good: the other tests decide
@@ -59,16 +65,16 @@ module _ (g : Gate) (gs ws fs : List ℕ) (k : Known g gs ws fs) (a : Arriving) 
 
     module _ (new : lacks (calledBy a) (names t) ≡ true) where
       -- no place is free to wait in
-      pub arrival-full : g .waiting ≡ g .capacity → verdict t ev ≡ refuse NoRoom
+      pub arrival-full : g .waiting ≡ g .setup .capacity → verdict t ev ≡ refuse NoRoom
       unfolding eventTests
-      arrival-full f = arrival-judged ∙ rw (new, length-rows requestForm ws (g .waiting), eq-eqb (g .waiting) (g .capacity) f)
+      arrival-full f = arrival-judged ∙ rw (new, length-rows requestForm ws (g .waiting), eq-eqb (g .waiting) (g .setup .capacity) f)
 
-      module _ (free : g .waiting ≡ g .capacity → ⊥) (i : Bool) (e : idle t (a .guest) ≡ i) where
+      module _ (free : g .waiting ≡ g .setup .capacity → ⊥) (i : Bool) (e : idle t (a .guest) ≡ i) where
         -- only refusal 9 is left
         arrival-left : verdict t ev ≡ (if passing i now a t then refuse TagAboveCeiling else accept)
         unfolding eventTests
         arrival-left =
-            arrival-judged ∙ rw (new, length-rows requestForm ws (g .waiting), ne-eqb (g .waiting) (g .capacity) free)
+            arrival-judged ∙ rw (new, length-rows requestForm ws (g .waiting), ne-eqb (g .waiting) (g .setup .capacity) free)
             (ap (λ (b : Bool). if passing b now a t then refuse TagAboveCeiling else accept) e)
 
         -- a tag would pass the ceiling
@@ -87,44 +93,44 @@ module _ (g : Gate) (gs ws fs : List ℕ) (k : Known g gs ws fs) (a : Arriving) 
           q = stampedFor i now a t
 
           -- numbers that show the settled table
-          module _ (hs vs : List ℕ) (ph : hs ≡ overRows guestForm (g .guests) (s .guests) gs) (pv : vs ≡ overRows requestForm (g .capacity) (s .waiting) ws) where
+          module _ (hs vs : List ℕ) (ph : hs ≡ overRows guestForm (g .guests) (s .guests) gs) (pv : vs ≡ overRows requestForm (g .setup .capacity) (s .waiting) ws) where
             count : length (s .waiting) ≡ g .waiting
             count = adjusted-count i now t ∙ length-rows requestForm ws (g .waiting)
 
             guests : length (s .guests) ≡ g .guests
             guests = same-count s t (adjusted-settings i now t) ∙ length-rows guestForm gs (g .guests)
 
-            fit : g .waiting < g .capacity
+            fit : g .waiting < g .setup .capacity
             fit = let w = facts g gs ws fs k .waits in omega arith
 
             rows : waitingOf vs (g .waiting) ≡ s .waiting
             rows =
                 ap (λ (m : ℕ). waitingOf vs m) (sym count) ∙ ap (λ (x : List ℕ). waitingOf x (length (s .waiting))) pv
-                ∙ rows-over requestForm request-exact (g .capacity) (s .waiting) ws (k .waitingRoom) (omega (arith, count, fit))
+                ∙ rows-over requestForm request-exact (g .setup .capacity) (s .waiting) ws (k .waitingRoom) (omega (arith, count, fit))
 
             owners : guestsOf hs (g .guests) ≡ s .guests
             owners =
                 ap (λ (m : ℕ). guestsOf hs m) (sym guests) ∙ ap (λ (x : List ℕ). guestsOf x (length (s .guests))) ph
                 ∙ rows-over guestForm guest-exact (g .guests) (s .guests) gs (k .guestRoom) (omega (arith, guests))
 
-            unused : Unused requestForm (g .capacity) (g .waiting) vs
+            unused : Unused requestForm (g .setup .capacity) (g .waiting) vs
             unused =
-                subst (λ (m : ℕ). Unused requestForm (g .capacity) m vs) count
-                (subst (λ (x : List ℕ). Unused requestForm (g .capacity) (length (s .waiting)) x) (sym pv) (over-unused requestForm request-exact (g .capacity) (s .waiting) ws (k .waitingRoom) (omega (arith, count, fit))))
+                subst (λ (m : ℕ). Unused requestForm (g .setup .capacity) m vs) count
+                (subst (λ (x : List ℕ). Unused requestForm (g .setup .capacity) (length (s .waiting)) x) (sym pv) (over-unused requestForm request-exact (g .setup .capacity) (s .waiting) ws (k .waitingRoom) (omega (arith, count, fit))))
 
-            room-v : g .capacity * 5 ≤ length vs
-            room-v = omega (arith, k .waitingRoom, ap length pv, length-over-rows requestForm request-exact (g .capacity) (s .waiting) ws)
+            room-v : g .setup .capacity * 5 ≤ length vs
+            room-v = omega (arith, k .waitingRoom, ap length pv, length-over-rows requestForm request-exact (g .setup .capacity) (s .waiting) ws)
 
             room-h : g .guests * 6 ≤ length hs
             room-h = omega (arith, k .guestRoom, ap length ph, length-over-rows guestForm guest-exact (g .guests) (s .guests) gs)
 
             -- the request placed last
-            pub placed-waiting : appended (g .waiting) q vs ≡ overRows requestForm (g .capacity) (s .waiting ++ (q ∷ [])) ws
+            pub placed-waiting : appended (g .waiting) q vs ≡ overRows requestForm (g .setup .capacity) (s .waiting ++ (q ∷ [])) ws
             placed-waiting =
-                appended-is (g .capacity) (g .waiting) vs room-v unused fit q
-                ∙ ap (λ (x : List Request). overRows requestForm (g .capacity) (x ++ (q ∷ [])) vs) rows
-                ∙ ap (overRows requestForm (g .capacity) (s .waiting ++ (q ∷ []))) pv
-                ∙ over-twice requestForm request-exact (g .capacity) (s .waiting ++ (q ∷ [])) (s .waiting) ws (k .waitingRoom)
+                appended-is (g .setup .capacity) (g .waiting) vs room-v unused fit q
+                ∙ ap (λ (x : List Request). overRows requestForm (g .setup .capacity) (x ++ (q ∷ [])) vs) rows
+                ∙ ap (overRows requestForm (g .setup .capacity) (s .waiting ++ (q ∷ []))) pv
+                ∙ over-twice requestForm request-exact (g .setup .capacity) (s .waiting ++ (q ∷ [])) (s .waiting) ws (k .waitingRoom)
 
             -- and its guest's next numbers
             pub placed-guests : followed (a .guest) (q .rtag) (q .ltag) (q .stag) hs ≡ overRows guestForm (g .guests) (set (s .guests) (a .guest) (following q (owner (s .guests) (a .guest)))) gs
@@ -147,12 +153,12 @@ module _ (g : Gate) (gs ws fs : List ℕ) (k : Known g gs ws fs) (a : Arriving) 
                 let el : t .flight ≡ s .flight = sym (adjusted-flight i now t) in
                 let ef : g .flight ≡ length (s .flight) = sym (length-rows flightForm fs (g .flight)) ∙ ap length el in
                 let pg : followed (a .guest) (q .rtag) (q .ltag) (q .stag) hs ≡ overRows guestForm (length after) after gs = placed-guests ∙ ap (λ (m : ℕ). overRows guestForm m after gs) eg in
-                let pw : appended (g .waiting) q vs ≡ overRows requestForm (s .setup .capacity) (s .waiting ++ (q ∷ [])) ws = placed-waiting ∙ ap (λ (c : Setup). overRows requestForm (c .capacity) (s .waiting ++ (q ∷ [])) ws) es in
+                let pw : appended (g .waiting) q vs ≡ overRows requestForm (s .setup .capacity) (s .waiting ++ (q ∷ [])) ws = placed-waiting ∙ ap (λ (c : Setup). overRows requestForm (c .setup .capacity) (s .waiting ++ (q ∷ [])) ws) es in
                 let pf : fs ≡ overRows flightForm (s .setup .depth) (s .flight) fs =
-                sym (over-same flightForm flight-exact (g .depth) (g .flight) fs (k .whole .flightUnused))
-                ∙ ap (λ (c : Setup). overRows flightForm (c .depth) (t .flight) fs) es
+                sym (over-same flightForm flight-exact (g .setup .depth) (g .flight) fs (k .whole .flightUnused))
+                ∙ ap (λ (c : Setup). overRows flightForm (c .setup .depth) (t .flight) fs) es
                 ∙ ap (λ (x : List Flight). overRows flightForm (s .setup .depth) x fs) el in
-                λ j. (record { depth = es j .depth; guests = eg j; capacity = es j .capacity; time = now; waiting = ew j; flight = ef j }, pg j, pw j, pf j)
+                λ j. (gateAt (es j) (eg j) now (ew j) (ef j), pg j, pw j, pf j)
 
             -- and that is what the arrival enters
             entered : enter t ev ≡ placed now q s

@@ -9,9 +9,15 @@ use Rattle.lists.specs.Words.{lowest}
 use Rattle.lists.specs.Lines.{lineAt}
 use Rattle.lists.specs.Rows.{overRows}
 use Rattle.lists.specs.RowsLaws.{length-rows, row-at, length-over-rows, rows-over}
-use Rattle.rules.specs.Tables.{Settings, Guest, Request, Flight, Table, owner, idle}
+use Rattle.rules.specs.Tables.{Request, Table, owner, idle}
+use Rattle.rules.specs.declared.Settings.{Settings}
+use Rattle.rules.specs.declared.Guest.{Guest}
+use Rattle.rules.specs.declared.Flight.{Flight}
 use Rattle.rules.specs.Choice.{choice}
-use Rattle.rules.specs.Events.{Arriving, Event, arrival, adjusted, stamped, stampedFor}
+use Rattle.rules.specs.Events.{adjusted, stamped, stampedFor}
+use Rattle.rules.specs.declared.Arriving.{Arriving}
+use Rattle.rules.specs.declared.Event.{Event}
+use Rattle.rules.specs.declared.Event.the-variants.{Arrival}
 use Rattle.rules.specs.Refusals.{passing, refuse, verdict}
 use Rattle.rules.specs.Run.{step}
 use Rattle.rules.proofs.Facts.{lawful-is}
@@ -51,7 +57,7 @@ module _ (g : Gate) (gs ws fs : List ℕ) (k : Known g gs ws fs) (f : Flight) (n
   a = record { guest = f .guest; id = f .id }
 
   abbrev ev : Event
-  ev = arrival a now
+  ev = Arrival a now
 
   z : Facts g gs ws fs
   z = facts g gs ws fs k
@@ -104,7 +110,7 @@ module _ (g : Gate) (gs ws fs : List ℕ) (k : Known g gs ws fs) (f : Flight) (n
       passes-not = passing-as ∙ rw (moves, fits)
 
       -- the numbers that show the settled table
-      module _ (hs vs : List ℕ) (ph : hs ≡ overRows guestForm (g .guests) ((adjusted i now t) .guests) gs) (pv : vs ≡ overRows requestForm (g .capacity) ((adjusted i now t) .waiting) ws) (bits : f .id < 4294967296) where
+      module _ (hs vs : List ℕ) (ph : hs ≡ overRows guestForm (g .guests) ((adjusted i now t) .guests) gs) (pv : vs ≡ overRows requestForm (g .setup .capacity) ((adjusted i now t) .waiting) ws) (bits : f .id < 4294967296) where
         abbrev Shown : Request → Type 0
         Shown q = Known (placedGate now g) (followed (f .guest) (q .rtag) (q .ltag) (q .stag) hs) (appended (g .waiting) q vs) fs
 
@@ -130,11 +136,11 @@ module _ (g : Gate) (gs ws fs : List ℕ) (k : Known g gs ws fs) (f : Flight) (n
             let at : owner (guestsOf hs (g .guests)) (f .guest) ≡ guestForm .read (lineAt 6 hs (f .guest)) = row-at guestForm hs (g .guests) (f .guest) known in
             let limits : getD hs (f .guest * 6 + 1) 0 ≡ (owner (t .guests) (f .guest)) .settings .limit =
             sym (ap (λ (x : Guest). x .settings .limit) at) ∙ ap (λ (x : List Guest). (owner x (f .guest)) .settings .limit) rows ∙ ap Settings.limit own in
-            let free : g .waiting ≡ g .capacity → ⊥ = ready .free in
-            let fit : g .waiting < g .capacity = let w = z .waits in omega arith in
+            let free : g .waiting ≡ g .setup .capacity → ⊥ = ready .free in
+            let fit : g .waiting < g .setup .capacity = let w = z .waits in omega arith in
             record {
               waits = omega (arith, fit, z .counts .capacities .1);
-              row = omega (arith, fit, k .waitingRoom, ap length pv, length-over-rows requestForm request-exact (g .capacity) ((adjusted i now t) .waiting) ws);
+              row = omega (arith, fit, k .waitingRoom, ap length pv, length-over-rows requestForm request-exact (g .setup .capacity) ((adjusted i now t) .waiting) ws);
               owner = omega (arith, row-asks, ap length ph, length-over-rows guestForm guest-exact (g .guests) ((adjusted i now t) .guests) gs);
               limit = omega (arith, limits, z .settles (f .guest) known .limits);
               rtag = c .reservation;

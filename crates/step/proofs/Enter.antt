@@ -4,10 +4,12 @@ use mathlib.Core.Path.{_≡_, refl, sym, ap, _∙_, subst}
 use mathlib.Core.Bool.{Bool, true}
 use mathlib.Core.List.{List}
 use lib.Dec.{ltb}
-use Rattle.rules.specs.Tables.{Table, Flight}
+use Rattle.rules.specs.Tables.{Table}
+use Rattle.rules.specs.declared.Flight.{Flight}
 use Rattle.rules.specs.Sound.{sound}
 use Rattle.rules.specs.Choice.{choice}
-use Rattle.rules.specs.Events.{Event, enter}
+use Rattle.rules.specs.Events.{enter}
+use Rattle.rules.specs.declared.Event.{Event}
 use Rattle.rules.specs.Refusals.{refuse, verdict, accepted}
 use Rattle.rules.specs.Run.{decided, step}
 use Rattle.rules.proofs.Facts.{is-sound}
@@ -31,7 +33,7 @@ module _ (g : Gate) (gs ws fs : List ℕ) (k : Known g gs ws fs) (e : Event) whe
   t = tableOf g gs ws fs
 
   -- a refusal leaves the gate and every lent number
-  pub refused-same : (r : Refusal) → verdict t e ≡ refuse r → (record { gate = g; answer = Refused r }, gs, ws, fs) ≡ does (λ t. step t e) g gs ws fs
+  pub refused-same : (r : Refusal) → verdict t e ≡ refuse r → (outcomeOf g (Refused r), gs, ws, fs) ≡ does (λ t. step t e) g gs ws fs
   unfolding step decided
   refused-same r v = rw v (handed-written gs ws fs g gs ws fs (record { table = t; answer = Refused r }) (Refused r) (known-written g gs ws fs k) refl)
 

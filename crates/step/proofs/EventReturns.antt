@@ -5,9 +5,11 @@ use mathlib.Core.List.{List}
 use native.Mathlib.Omega.{arith}
 use lib.ListN.{length}
 use Rattle.rules.specs.Numbers.{ceiling}
-use Rattle.rules.specs.Tables.{Flight, Table}
+use Rattle.rules.specs.Tables.{Table}
+use Rattle.rules.specs.declared.Flight.{Flight}
 use Rattle.rules.specs.Choice.{choice}
-use Rattle.rules.specs.Events.{Event, completion, tick}
+use Rattle.rules.specs.declared.Event.{Event}
+use Rattle.rules.specs.declared.Event.the-variants.{Completion, Tick}
 use Rattle.rules.specs.Refusals.{refuse, verdict}
 use Rattle.rules.specs.Run.{step}
 use Rattle.rules.specs.declared.Gate.{Gate}
@@ -37,12 +39,12 @@ module _ (g : Gate) (gs ws fs : List ℕ) (k : Known g gs ws fs) where
     pub tick-asks : (m : Gate) → m ≡ timedGate now g → Known m gs ws fs
     tick-asks m p = subst (λ (x : Gate). Known x gs ws fs) (sym p) (tick-known g gs ws fs k now l h)
 
-    pub tick-returns : (m : Gate) → m ≡ timedGate now g → does choice m gs ws fs ≡ does (λ t. step t (tick now)) g gs ws fs
+    pub tick-returns : (m : Gate) → m ≡ timedGate now g → does choice m gs ws fs ≡ does (λ t. step t (Tick now)) g gs ws fs
     tick-returns m p = ap (λ (x : Gate). does choice x gs ws fs) p ∙ tick-moves g gs ws fs k now l h
 
     module _ (a : Flight) (known : a .guest < g .guests) (x : Found) (found : Finds a (t .flight) x) where
       -- nothing of this name is in flight
-      pub absent-is : x ≡ NoPlace → verdict t (completion a now) ≡ refuse NotInFlight
+      pub absent-is : x ≡ NoPlace → verdict t (Completion a now) ≡ refuse NotInFlight
       absent-is e = completion-absent g gs ws fs k now a known l h (subst (Finds a (t .flight)) e found)
 
       module _ (place : ℕ) (e : x ≡ At place) where
@@ -56,7 +58,7 @@ module _ (g : Gate) (gs ws fs : List ℕ) (k : Known g gs ws fs) where
         pub out-known : (es : List ℕ) → es ≡ freed place (g .flight) fs → (m : Gate) → m ≡ freedGate now g → Known m gs ws es
         out-known es p m q = subst (λ (y : Gate). Known y gs ws es) (sym q) (completion-known g gs ws fs k now a known l h place at-place p)
 
-        pub out-returns : (es : List ℕ) → es ≡ freed place (g .flight) fs → (m : Gate) → m ≡ freedGate now g → does choice m gs ws es ≡ does (λ t. step t (completion a now)) g gs ws fs
+        pub out-returns : (es : List ℕ) → es ≡ freed place (g .flight) fs → (m : Gate) → m ≡ freedGate now g → does choice m gs ws es ≡ does (λ t. step t (Completion a now)) g gs ws fs
         out-returns es p m q = ap (λ (y : Gate). does choice y gs ws es) q ∙ completion-moves g gs ws fs k now a known l h place at-place p
 
 -- what the search in flight asks

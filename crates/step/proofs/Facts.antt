@@ -23,9 +23,9 @@ use Rattle.table.specs.View.{guestForm, requestForm, flightForm, guestsOf, wait
 -- what is known of the numbers of a known table
 pub record Facts (g : Gate) (gs ws fs : List ℕ) : Type 0 where
   pub firm : Sound (tableOf g gs ws fs)
-  pub counts : Countable (g .depth) (g .guests) (g .capacity)
-  pub waits : g .waiting ≤ g .capacity
-  pub flies : g .flight ≤ g .depth
+  pub counts : Countable (g .setup .depth) (g .guests) (g .setup .capacity)
+  pub waits : g .waiting ≤ g .setup .capacity
+  pub flies : g .flight ≤ g .setup .depth
   pub timed : g .time ≤ ceiling
   pub owners : (j : ℕ) → j < g .waiting → getD ws (j * 5 + 0) 0 < g .guests
   pub ids : (j : ℕ) → j < g .waiting → getD ws (j * 5 + 1) 0 < 4294967296
@@ -54,11 +54,11 @@ module _ (g : Gate) (gs ws fs : List ℕ) (k : Known g gs ws fs) where
   facts =
       let s = sound-is t (k .isSound) in
       let n = length-rows guestForm gs (g .guests) in
-      let r = both (counted (g .depth) (length (t .guests)) (g .capacity)) (all (λ h. settled (h .settings)) (t .guests)) (s .in-range) in
+      let r = both (counted (g .setup .depth) (length (t .guests)) (g .setup .capacity)) (all (λ h. settled (h .settings)) (t .guests)) (s .in-range) in
       let named = all-parts (λ f. ltb (f .id) 4294967296) (map name (t .waiting)) (t .flight) (k .isIdentified) .0 in
       record {
         firm = s;
-        counts = counted-means (g .depth) (g .guests) (g .capacity) .holds .0 (rw n at (r .0));
+        counts = counted-means (g .setup .depth) (g .guests) (g .setup .capacity) .holds .0 (rw n at (r .0));
         waits = omega (arith, s .waiting-fits, length-rows requestForm ws (g .waiting));
         flies = omega (arith, s .flight-fits, length-rows flightForm fs (g .flight));
         timed = s .time-fits;

@@ -5,9 +5,12 @@ use mathlib.Core.Bool.{Bool, true}
 use mathlib.Core.List.{List, [], _∷_, _++_, map}
 use Rattle.lists.specs.Words.{all, without}
 use Rattle.lists.specs.WordsLaws.{join, all-append, all-parts, all-mid, all-without, map-append}
-use Rattle.rules.specs.Tables.{Request, Flight, Table, idle, name, same, names}
+use Rattle.rules.specs.Tables.{Request, Table, idle, name, same, names}
+use Rattle.rules.specs.declared.Flight.{Flight}
 use Rattle.rules.specs.Choice.{Pick, due, open?, sending, choice}
-use Rattle.rules.specs.Events.{Event, arrival, completion, tick, calledBy, adjusted, stamped, stampedFor, placed, arriveAs, arrive, complete, wait, enter}
+use Rattle.rules.specs.Events.{calledBy, adjusted, stamped, stampedFor, placed, arriveAs, arrive, complete, wait, enter}
+use Rattle.rules.specs.declared.Event.{Event}
+use Rattle.rules.specs.declared.Event.the-variants.{Arrival, Completion, Tick}
 use Rattle.rules.proofs.Picks.{Between, Split, splits}
 use Rattle.rules.proofs.Cases.{choice-by}
 use Rattle.rules.proofs.Drops.{dropped-names}
@@ -41,17 +44,17 @@ module _ (f : Flight → Bool) where
 
   -- the name that an event brings passes, if it brings one
   abbrev pub Brings : Event → Type 0
-  Brings (arrival a now) = f (calledBy a) ≡ true
-  Brings (completion g now) = Unit {0}
-  Brings (tick now) = Unit {0}
+  Brings (Arrival a now) = f (calledBy a) ≡ true
+  Brings (Completion g now) = Unit {0}
+  Brings (Tick now) = Unit {0}
 
   -- what enters with an event
   pub enter-all : (t : Table) (e : Event) → Brings e → all f (names t) ≡ true → all f (names (enter t e)) ≡ true
   unfolding enter arrive arriveAs stamped complete wait
-  enter-all t (arrival a now) b h =
+  enter-all t (Arrival a now) b h =
       let i = idle t (a .guest) in
       placed-all now (stampedFor i now a t) (adjusted i now t) b (ap (all f) (adjusted-names t now i) ∙ h)
-  enter-all t (completion g now) b h =
+  enter-all t (Completion g now) b h =
       let c = all-parts f (map name (t .waiting)) (t .flight) h in
       all-append f (map name (t .waiting)) (without (same g) (t .flight)) (c .0) (all-without f (same g) (t .flight) (c .1))
-  enter-all t (tick now) b h = h
+  enter-all t (Tick now) b h = h

@@ -7,8 +7,11 @@ use lib.ListN.{drop}
 use borrow.Author.Tests.{lt-ltb, le-ltb, le-leb, lt-leb}
 use Rattle.lists.specs.RowsLaws.{length-rows}
 use Rattle.rules.specs.Numbers.{ceiling}
-use Rattle.rules.specs.Tables.{Flight, Table}
-use Rattle.rules.specs.Events.{Arriving, Event, arrival, completion}
+use Rattle.rules.specs.Tables.{Table}
+use Rattle.rules.specs.declared.Flight.{Flight}
+use Rattle.rules.specs.declared.Arriving.{Arriving}
+use Rattle.rules.specs.declared.Event.{Event}
+use Rattle.rules.specs.declared.Event.the-variants.{Arrival, Completion}
 use Rattle.rules.specs.Refusals.{Test, refuse, judged, guestTests, eventTests, verdict}
 use Rattle.rules.specs.declared.Gate.{Gate}
 use Rattle.rules.specs.declared.Refusal.the-variants.{UnknownGuest, TimeAboveCeiling, TimeBeforeLast}
@@ -23,12 +26,12 @@ abbrev pub Names : Table → Event → (n now : ℕ) → Type 0
 Names t e n now = eventTests t e ≡ guestTests n now t (others t e)
 
 -- an arrival names its guest
-pub arrival-names : (t : Table) (a : Arriving) (now : ℕ) → Names t (arrival a now) (a .guest) now
+pub arrival-names : (t : Table) (a : Arriving) (now : ℕ) → Names t (Arrival a now) (a .guest) now
 unfolding eventTests
 arrival-names t a now = refl
 
 -- and so does a completion
-pub completion-names : (t : Table) (f : Flight) (now : ℕ) → Names t (completion f now) (f .guest) now
+pub completion-names : (t : Table) (f : Flight) (now : ℕ) → Names t (Completion f now) (f .guest) now
 unfolding eventTests
 completion-names t f now = refl
 

@@ -69,7 +69,7 @@ module _ (gs ws fs : List ℕ) (u : Table) (room : Room gs ws fs u) (firm : soun
       rw (c .setup) (over-twice requestForm request-exact (u .setup .capacity) (r .table .waiting) (u .waiting) ws (room .waiting)) in
       let pf : overRows flightForm (r .table .setup .depth) (r .table .flight) es ≡ overRows flightForm (r .table .setup .depth) (r .table .flight) fs =
       rw (c .setup) (over-twice flightForm flight-exact (u .setup .depth) (r .table .flight) (u .flight) fs (room .flight)) in
-      λ i. (record { gate = gateOf (r .table); answer = r .answer }, pg i, pw i, pf i)
+      λ i. (outcomeOf (gateOf (r .table)) (r .answer), pg i, pw i, pf i)
 
 module _ (g : Gate) (gs ws fs : List ℕ) (k : Known g gs ws fs) where
   abbrev t : Table
@@ -91,12 +91,12 @@ module _ (g : Gate) (gs ws fs : List ℕ) (k : Known g gs ws fs) where
       let ew = length-rows requestForm ws (g .waiting) in
       let ef = length-rows flightForm fs (g .flight) in
       let pg = ap (λ (n : ℕ). overRows guestForm n (guestsOf gs (g .guests)) gs) eg ∙ over-same guestForm guest-exact (g .guests) (g .guests) gs (all-used guestForm guest-exact (g .guests) gs) in
-      let pw = over-same requestForm request-exact (g .capacity) (g .waiting) ws (k .whole .waitingUnused) in
-      let pf = over-same flightForm flight-exact (g .depth) (g .flight) fs (k .whole .flightUnused) in
-      sym (λ i. (record { depth = g .depth; guests = eg i; capacity = g .capacity; time = g .time; waiting = ew i; flight = ef i }, pg i, pw i, pf i))
+      let pw = over-same requestForm request-exact (g .setup .capacity) (g .waiting) ws (k .whole .waitingUnused) in
+      let pf = over-same flightForm flight-exact (g .setup .depth) (g .flight) fs (k .whole .flightUnused) in
+      sym (λ i. (gateAt (g .setup) (eg i) (g .time) (ew i) (ef i), pg i, pw i, pf i))
 
 -- the numbers that show a table, and an answer, are what is handed back
 pub handed-written : (gs ws fs : List ℕ) (g : Gate) (hs vs es : List ℕ) (r : Result) (a : Answer) → (g, hs, vs, es) ≡ written gs ws fs (r .table) → a ≡ r .answer
-    → (record { gate = g; answer = a }, hs, vs, es) ≡ handed gs ws fs r
+    → (outcomeOf g a, hs, vs, es) ≡ handed gs ws fs r
 unfolding handed
-handed-written gs ws fs g hs vs es r a p q = λ i. (record { gate = p i .0; answer = q i }, p i .1, p i .2, p i .3)
+handed-written gs ws fs g hs vs es r a p q = λ i. (outcomeOf (p i .0) (q i), p i .1, p i .2, p i .3)

@@ -12,7 +12,8 @@ use Rattle.lists.specs.WordsLaws.{both, all-passing-at}
 use Rattle.lists.specs.Lines.{lineAt}
 use Rattle.lists.specs.RowsLaws.{row-at}
 use Rattle.rules.specs.Numbers.{ceiling, down}
-use Rattle.rules.specs.Tables.{Guest, Request, Table, limited, lspacing, owner, settingsOf, of, mine}
+use Rattle.rules.specs.Tables.{Request, Table, limited, lspacing, owner, settingsOf, of, mine}
+use Rattle.rules.specs.declared.Guest.{Guest}
 use Rattle.rules.specs.Sound.{kept}
 use Rattle.rules.specs.Choice.{dueAt, passes, due, open?, dropOf}
 use Rattle.rules.specs.Chosen.{blank, at}
@@ -78,12 +79,12 @@ module _ (g : Gate) (gs ws fs : List ℕ) (k : Known g gs ws fs) where
         inside = p .inside;
       }
 
-  module _ (free : g .flight < g .depth) (place : ℕ) (here : place < g .waiting) where
+  module _ (free : g .flight < g .setup .depth) (place : ℕ) (here : place < g .waiting) where
     -- what a send asks
     pub send-asks : (place < g .waiting) × (g .waiting * 5 ≤ length ws) × (g .flight * 2 + 2 ≤ length fs)
     send-asks = (here, rows-ask .1, omega (arith, k .flightRoom))
 
-    pub sent-asks : (0 < g .waiting) × (g .flight < g .depth) × (g .depth ≤ 64)
+    pub sent-asks : (0 < g .waiting) × (g .flight < g .setup .depth) × (g .setup .depth ≤ 64)
     sent-asks = (omega arith, free, f .counts .depths .1)
 
     abbrev n : ℕ

@@ -31,7 +31,7 @@ module _ (g : Gate) (gs ws fs : List ℕ) (k : Known g gs ws fs) where
   pub narrow-id : (place : ℕ) → place < g .waiting → (r : Name) → Named place ws r → r .id < 4294967296
   narrow-id place here r n = omega (arith, n .1, facts g gs ws fs k .ids place here)
 
-  module _ (free : g .flight < g .depth) where
+  module _ (free : g .flight < g .setup .depth) where
     -- THE RESERVATION PHASE
 
     abbrev Due : Found → Type 0
@@ -46,7 +46,7 @@ module _ (g : Gate) (gs ws fs : List ℕ) (k : Known g gs ws fs) where
         → (o, gs, vs, es) ≡ does reservationPhase g gs ws fs
     reservation-returns x place p e n vs es o ew ef en eo =
         let f = found-at g gs ws fs k x place (due-picks g gs ws fs k x p) e in
-        (λ i. ((eo ∙ (λ j. record { gate = sentGate g; answer = Sent Reservation (en .0 j) (en .1 j) })) i, gs, ew i, ef i))
+        (λ i. ((eo ∙ (λ j. outcomeOf (sentGate g) (Sent Reservation (en .0 j) (en .1 j)))) i, gs, ew i, ef i))
         ∙ reservation-sent g gs ws fs k free place (f .1) (f .0)
 
     pub none-due : (x : Found) → Due x → x ≡ NoPlace → does weightPhase g gs ws fs ≡ does reservationPhase g gs ws fs
@@ -78,12 +78,12 @@ module _ (g : Gate) (gs ws fs : List ℕ) (k : Known g gs ws fs) where
     weight-returns x place p e n hs vs us es o ew ef en eh eu eo =
         let f = found-at g gs ws fs k x place (open-picks g gs ws fs k x p) e in
         (λ i. (
-          (eo ∙ (λ j. record { gate = sentGate g; answer = Sent Weight (en .0 j) (en .1 j) })) i,
+          (eo ∙ (λ j. outcomeOf (sentGate g) (Sent Weight (en .0 j) (en .1 j)))) i,
           (eh ∙ ap (λ (m : ℕ). nextDropped m gs) (en .0)) i,
           (eu ∙ (λ j. tagsDropped (en .0 j) (spacingOf (en .0 j) gs) (ew j) (g .waiting - 1))) i,
           ef i,
         ))
         ∙ weight-sent g gs ws fs k free place (f .1) (f .0)
 
-    pub none-open : (x : Found) → Open x → x ≡ NoPlace → (record { gate = g; answer = Nothing }, gs, ws, fs) ≡ does weightPhase g gs ws fs
+    pub none-open : (x : Found) → Open x → x ≡ NoPlace → (outcomeOf g Nothing, gs, ws, fs) ≡ does weightPhase g gs ws fs
     none-open x p e = weight-none g gs ws fs k (subst (λ (y : Found). Picks (open? t) Request.stag (t .waiting) y) e (open-picks g gs ws fs k x p))

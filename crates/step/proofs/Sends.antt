@@ -31,18 +31,18 @@ module _ (g : Gate) (gs ws fs : List ℕ) (k : Known g gs ws fs) where
   t = tableOf g gs ws fs
 
   -- nothing is sent: all is handed back as it stood
-  pub nothing-same : (record { gate = g; answer = Nothing }, gs, ws, fs) ≡ handed gs ws fs (record { table = t; answer = Nothing })
+  pub nothing-same : (outcomeOf g Nothing, gs, ws, fs) ≡ handed gs ws fs (record { table = t; answer = Nothing })
   nothing-same = handed-written gs ws fs g gs ws fs (record { table = t; answer = Nothing }) Nothing (known-written g gs ws fs k) refl
 
   -- no place is free
-  pub choice-full : g .depth ≤ g .flight → (record { gate = g; answer = Nothing }, gs, ws, fs) ≡ does choice g gs ws fs
+  pub choice-full : g .setup .depth ≤ g .flight → (outcomeOf g Nothing, gs, ws, fs) ≡ does choice g gs ws fs
   unfolding choice room
-  choice-full h = rw (length-rows flightForm fs (g .flight), le-ltb (g .flight) (g .depth) h) nothing-same
+  choice-full h = rw (length-rows flightForm fs (g .flight), le-ltb (g .flight) (g .setup .depth) h) nothing-same
 
   -- a place is free
-  pub choice-room : g .flight < g .depth → does reservationPhase g gs ws fs ≡ does choice g gs ws fs
+  pub choice-room : g .flight < g .setup .depth → does reservationPhase g gs ws fs ≡ does choice g gs ws fs
   unfolding choice room
-  choice-room h = rw (length-rows flightForm fs (g .flight), lt-ltb (g .flight) (g .depth) h)
+  choice-room h = rw (length-rows flightForm fs (g .flight), lt-ltb (g .flight) (g .setup .depth) h)
 
   -- none is due
   pub reservation-none : Picks (due t) Request.rtag (t .waiting) NoPlace → does weightPhase g gs ws fs ≡ does reservationPhase g gs ws fs
@@ -50,7 +50,7 @@ module _ (g : Gate) (gs ws fs : List ℕ) (k : Known g gs ws fs) where
   reservation-none p = rw (p .pick)
 
   -- none is open
-  pub weight-none : Picks (open? t) Request.stag (t .waiting) NoPlace → (record { gate = g; answer = Nothing }, gs, ws, fs) ≡ does weightPhase g gs ws fs
+  pub weight-none : Picks (open? t) Request.stag (t .waiting) NoPlace → (outcomeOf g Nothing, gs, ws, fs) ≡ does weightPhase g gs ws fs
   unfolding byWeight
   weight-none p = rw (p .pick) nothing-same
 
@@ -60,7 +60,7 @@ module _ (g : Gate) (gs ws fs : List ℕ) (k : Known g gs ws fs) where
       let q : Picks ok tag (t .waiting) (At place) = rw e at p in
       (q, omega (arith, q .inside, length-rows requestForm ws (g .waiting)))
 
-  module _ (free : g .flight < g .depth) (place : ℕ) (here : place < g .waiting) where
+  module _ (free : g .flight < g .setup .depth) (place : ℕ) (here : place < g .waiting) where
     -- the request that goes, and those that stay
     abbrev pub goes : Request
     goes = at (t .waiting) place
@@ -93,13 +93,13 @@ module _ (g : Gate) (gs ws fs : List ℕ) (k : Known g gs ws fs) where
         let eg = length-rows guestForm gs (g .guests) in
         let ef : length (t .flight ++ (name goes ∷ [])) ≡ g .flight + 1 = length-append (t .flight) (name goes ∷ []) ∙ ap (λ (m : ℕ). m + 1) (length-rows flightForm fs (g .flight)) in
         let pg = ap (λ (n : ℕ). overRows guestForm n (t .guests) gs) eg ∙ over-same guestForm guest-exact (g .guests) (g .guests) gs (all-used guestForm guest-exact (g .guests) gs) in
-        let pw = gone-is (g .capacity) (g .waiting) ws (k .waitingRoom) (k .whole .waitingUnused) (f .waits) place here in
-        let pf = joined-is (g .depth) (g .flight) fs (k .flightRoom) (k .whole .flightUnused) free ws (g .waiting) place here in
-        sym (λ i. (record { depth = g .depth; guests = eg i; capacity = g .capacity; time = g .time; waiting = length-stay i; flight = ef i }, pg i, sym pw i, sym pf i))
+        let pw = gone-is (g .setup .capacity) (g .waiting) ws (k .waitingRoom) (k .whole .waitingUnused) (f .waits) place here in
+        let pf = joined-is (g .setup .depth) (g .flight) fs (k .flightRoom) (k .whole .flightUnused) free ws (g .waiting) place here in
+        sym (λ i. (gateAt (g .setup) (eg i) (g .time) (length-stay i) (ef i), pg i, sym pw i, sym pf i))
 
     -- a send by reservation
     pub reservation-sent : Picks (due t) Request.rtag (t .waiting) (At place)
-        → (record { gate = sentGate g; answer = Sent Reservation goesGuest goesId }, gs, gone place (g .waiting) ws, joined place (g .flight) ws fs) ≡ does reservationPhase g gs ws fs
+        → (outcomeOf (sentGate g) (Sent Reservation goesGuest goesId), gs, gone place (g .waiting) ws, joined place (g .flight) ws fs) ≡ does reservationPhase g gs ws fs
     unfolding byReservation
     reservation-sent h =
         rw (h .pick)

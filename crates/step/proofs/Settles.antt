@@ -11,8 +11,11 @@ use Rattle.lists.specs.WordsLaws.{join, left-fails, right-fails}
 use Rattle.lists.specs.Rows.{overRows}
 use Rattle.lists.specs.RowsLaws.{over-same, all-used}
 use Rattle.rules.specs.Numbers.{ceiling}
-use Rattle.rules.specs.Tables.{Request, Flight, Table, idle, same, lacks, name, names}
-use Rattle.rules.specs.Events.{Event, arrival, smallest, adjusted}
+use Rattle.rules.specs.Tables.{Request, Table, idle, same, lacks, name, names}
+use Rattle.rules.specs.declared.Flight.{Flight}
+use Rattle.rules.specs.Events.{smallest, adjusted}
+use Rattle.rules.specs.declared.Event.{Event}
+use Rattle.rules.specs.declared.Event.the-variants.{Arrival}
 use Rattle.rules.specs.Refusals.{refuse, verdict}
 use Rattle.rules.proofs.Facts.{any-orderly}
 use Rattle.rules.specs.declared.Gate.{Gate}
@@ -47,9 +50,9 @@ module _ (g : Gate) (gs ws fs : List ℕ) (k : Known g gs ws fs) (now : ℕ) whe
   unfolding adjusted
   busy-guests = sym (over-same guestForm guest-exact (g .guests) (g .guests) gs (all-used guestForm guest-exact (g .guests) gs))
 
-  pub busy-waiting : ws ≡ overRows requestForm (g .capacity) ((adjusted false now (tableOf g gs ws fs)) .waiting) ws
+  pub busy-waiting : ws ≡ overRows requestForm (g .setup .capacity) ((adjusted false now (tableOf g gs ws fs)) .waiting) ws
   unfolding adjusted
-  busy-waiting = sym (over-same requestForm request-exact (g .capacity) (g .waiting) ws (k .whole .waitingUnused))
+  busy-waiting = sym (over-same requestForm request-exact (g .setup .capacity) (g .waiting) ws (k .whole .waitingUnused))
 
 -- AN IDLE GUEST: the shares are settled
 module _ (g : Gate) (gs ws fs : List ℕ) (k : Known g gs ws fs) (now : ℕ) (late : now ≤ ceiling) where
@@ -95,7 +98,7 @@ module _ (g : Gate) (gs ws fs : List ℕ) (k : Known g gs ws fs) (now : ℕ) (la
       p ∙ ap (λ (x : ℕ). movedNexts now x (idleIn ws (g .waiting)) gs (g .guests)) em
       ∙ adjusted-is g gs ws fs now (k .guestRoom) (k .waitingRoom) (facts g gs ws fs k .waits) (k .whole .waitingUnused) .0
 
-  pub settled-waiting : (m : ℕ) → m ≡ smallest t → (vs : List ℕ) → vs ≡ movedTags now m ws (g .waiting) → vs ≡ overRows requestForm (g .capacity) ((adjusted true now t) .waiting) ws
+  pub settled-waiting : (m : ℕ) → m ≡ smallest t → (vs : List ℕ) → vs ≡ movedTags now m ws (g .waiting) → vs ≡ overRows requestForm (g .setup .capacity) ((adjusted true now t) .waiting) ws
   settled-waiting m em vs p =
       p ∙ ap (λ (x : ℕ). movedTags now x ws (g .waiting)) em
       ∙ adjusted-is g gs ws fs now (k .guestRoom) (k .waitingRoom) (facts g gs ws fs k .waits) (k .whole .waitingUnused) .1
@@ -123,7 +126,7 @@ module _ (g : Gate) (gs ws fs : List ℕ) (k : Known g gs ws fs) (f : Flight) (n
   at = tableOf g gs ws fs
 
   abbrev comes : Event
-  comes = arrival (record { guest = f .guest; id = f .id }) now
+  comes = Arrival (record { guest = f .guest; id = f .id }) now
 
   pub waits-refused : lacks f (map name (at .waiting)) ≡ false → verdict at comes ≡ refuse IdInUse
   waits-refused e = arrival-used g gs ws fs k (record { guest = f .guest; id = f .id }) now (timely .known) (timely .late) (timely .early) (waits-used at f e)
@@ -138,10 +141,10 @@ module _ (g : Gate) (gs ws fs : List ℕ) (k : Known g gs ws fs) (f : Flight) (n
       new : lacks f (names at) ≡ true
       new = names-new at f absent (subst (Finds f (at .flight)) e found)
 
-      pub full-refused : g .waiting ≡ g .capacity → verdict at comes ≡ refuse NoRoom
+      pub full-refused : g .waiting ≡ g .setup .capacity → verdict at comes ≡ refuse NoRoom
       full-refused = arrival-full g gs ws fs k (record { guest = f .guest; id = f .id }) now (timely .known) (timely .late) (timely .early) new
 
-      pub is-ready : (g .waiting ≡ g .capacity → ⊥) → Ready g gs ws fs f now
+      pub is-ready : (g .waiting ≡ g .setup .capacity → ⊥) → Ready g gs ws fs f now
       is-ready free = record { timely = timely; new = new; free = free }
 
   -- what the survey of the guest's own rows says

@@ -11,9 +11,12 @@ use Rattle.lists.specs.Tab.{length-removeAt}
 use Rattle.lists.specs.Rows.{overRows}
 use Rattle.lists.specs.RowsLaws.{length-rows}
 use Rattle.rules.specs.Numbers.{ceiling}
-use Rattle.rules.specs.Tables.{Flight, Table, same}
+use Rattle.rules.specs.Tables.{Table, same}
+use Rattle.rules.specs.declared.Flight.{Flight}
 use Rattle.rules.specs.Choice.{choice}
-use Rattle.rules.specs.Events.{Event, completion, tick, complete, wait, enter}
+use Rattle.rules.specs.Events.{complete, wait, enter}
+use Rattle.rules.specs.declared.Event.{Event}
+use Rattle.rules.specs.declared.Event.the-variants.{Completion, Tick}
 use Rattle.rules.specs.Refusals.{eventTests, refuse, judged, verdict, isAccept, accepted}
 use Rattle.rules.specs.Run.{step}
 use Rattle.rules.specs.declared.Gate.{Gate}
@@ -36,36 +39,36 @@ module _ (g : Gate) (gs ws fs : List ℕ) (k : Known g gs ws fs) (now : ℕ) whe
   -- A TICK
 
   -- the time is above the ceiling
-  pub tick-late : ceiling < now → verdict t (tick now) ≡ refuse TimeAboveCeiling
+  pub tick-late : ceiling < now → verdict t (Tick now) ≡ refuse TimeAboveCeiling
   unfolding eventTests
   tick-late h = rw (k .isSound, lt-ltb ceiling now h)
 
   -- the time is before the last
-  pub tick-early : now ≤ ceiling → now < g .time → verdict t (tick now) ≡ refuse TimeBeforeLast
+  pub tick-early : now ≤ ceiling → now < g .time → verdict t (Tick now) ≡ refuse TimeBeforeLast
   unfolding eventTests
   tick-early l h = rw (k .isSound, le-ltb ceiling now l, lt-ltb now (g .time) h)
 
   module _ (l : now ≤ ceiling) (h : g .time ≤ now) where
-    tick-taken : accepted t (tick now) ≡ true
+    tick-taken : accepted t (Tick now) ≡ true
     unfolding eventTests
     tick-taken = rw (k .isSound, le-ltb ceiling now l, le-ltb now (g .time) h)
 
     -- the numbers at the new time show what the tick enters
-    tick-written : (timedGate now g, gs, ws, fs) ≡ written gs ws fs (enter t (tick now))
+    tick-written : (timedGate now g, gs, ws, fs) ≡ written gs ws fs (enter t (Tick now))
     unfolding enter wait
     tick-written = let p = known-written g gs ws fs k in λ i. (timedGate now (p i .0), p i .1, p i .2, p i .3)
 
     pub tick-known : Known (timedGate now g) gs ws fs
-    tick-known = entered-known g gs ws fs k (tick now) tick-taken tt (timedGate now g) gs ws fs tick-written
+    tick-known = entered-known g gs ws fs k (Tick now) tick-taken tt (timedGate now g) gs ws fs tick-written
 
-    pub tick-moves : does choice (timedGate now g) gs ws fs ≡ does (λ t. step t (tick now)) g gs ws fs
-    tick-moves = entered-moves g gs ws fs k (tick now) tick-taken tt (timedGate now g) gs ws fs tick-written
+    pub tick-moves : does choice (timedGate now g) gs ws fs ≡ does (λ t. step t (Tick now)) g gs ws fs
+    tick-moves = entered-moves g gs ws fs k (Tick now) tick-taken tt (timedGate now g) gs ws fs tick-written
 
   -- A COMPLETION
 
   module _ (a : Flight) where
     abbrev ev : Event
-    ev = completion a now
+    ev = Completion a now
 
     module _ (known : a .guest < g .guests) (l : now ≤ ceiling) (h : g .time ≤ now) where
       -- the guest and the time are good: the other test decides
@@ -91,9 +94,9 @@ module _ (g : Gate) (gs ws fs : List ℕ) (k : Known g gs ws fs) (now : ℕ) whe
         out-written =
             let p = known-written g gs ws fs k in
             let n : g .flight - 1 ≡ length (without (same a) (t .flight)) = sym (ap length (f .2) ∙ length-removeAt place (t .flight) (f .0) ∙ ap (λ (m : ℕ). m - 1) (length-rows flightForm fs (g .flight))) in
-            let pf : freed place (g .flight) fs ≡ overRows flightForm (g .depth) (without (same a) (t .flight)) fs =
-            freed-is (g .depth) (g .flight) fs (k .flightRoom) (k .whole .flightUnused) (facts g gs ws fs k .flies) place out-here ∙ ap (λ (q : List Flight). overRows flightForm (g .depth) q fs) (sym (f .2)) in
-            λ i. (record { depth = g .depth; guests = p i .0 .guests; capacity = g .capacity; time = now; waiting = p i .0 .waiting; flight = n i }, p i .1, p i .2, pf i)
+            let pf : freed place (g .flight) fs ≡ overRows flightForm (g .setup .depth) (without (same a) (t .flight)) fs =
+            freed-is (g .setup .depth) (g .flight) fs (k .flightRoom) (k .whole .flightUnused) (facts g gs ws fs k .flies) place out-here ∙ ap (λ (q : List Flight). overRows flightForm (g .setup .depth) q fs) (sym (f .2)) in
+            λ i. (gateAt (g .setup) (p i .0 .guests) now (p i .0 .waiting) (n i), p i .1, p i .2, pf i)
 
         pub completion-known : {es : List ℕ} → es ≡ freed place (g .flight) fs → Known (freedGate now g) gs ws es
         completion-known e = rw e (entered-known g gs ws fs k ev taken tt (freedGate now g) gs ws (freed place (g .flight) fs) out-written)

@@ -24,7 +24,7 @@ use Rattle.step.proofs.Lens.{handed-written}
 use Rattle.step.proofs.Facts.{facts}
 use Rattle.step.proofs.Sends.{goes, stay, goesGuest, goesId, guest-goes, id-goes, length-stay, sent-written}
 
-module _ (g : Gate) (gs ws fs : List ℕ) (k : Known g gs ws fs) (free : g .flight < g .depth) (place : ℕ) (here : place < g .waiting) where
+module _ (g : Gate) (gs ws fs : List ℕ) (k : Known g gs ws fs) (free : g .flight < g .setup .depth) (place : ℕ) (here : place < g .waiting) where
   abbrev t : Table
   t = tableOf g gs ws fs
 
@@ -41,25 +41,25 @@ module _ (g : Gate) (gs ws fs : List ℕ) (k : Known g gs ws fs) (free : g .flig
   abbrev pub left : List ℕ
   left = gone place (g .waiting) ws
 
-  fit : length v ≤ g .capacity
+  fit : length v ≤ g .setup .capacity
   fit = omega (arith, length-stay g gs ws fs k free place here, facts g gs ws fs k .waits)
 
-  pub left-is : left ≡ overRows requestForm (g .capacity) v ws
-  left-is = gone-is (g .capacity) (g .waiting) ws (k .waitingRoom) (k .whole .waitingUnused) (facts g gs ws fs k .waits) place here
+  pub left-is : left ≡ overRows requestForm (g .setup .capacity) v ws
+  left-is = gone-is (g .setup .capacity) (g .waiting) ws (k .waitingRoom) (k .whole .waitingUnused) (facts g gs ws fs k .waits) place here
 
   pub left-rows : waitingOf left (g .waiting - 1) ≡ v
   left-rows =
       ap (λ (m : ℕ). waitingOf left m) (sym (length-stay g gs ws fs k free place here))
       ∙ ap (λ (xs : List ℕ). waitingOf xs (length v)) left-is
-      ∙ rows-over requestForm request-exact (g .capacity) v ws (k .waitingRoom) fit
+      ∙ rows-over requestForm request-exact (g .setup .capacity) v ws (k .waitingRoom) fit
 
-  left-unused : Unused requestForm (g .capacity) (g .waiting - 1) left
+  left-unused : Unused requestForm (g .setup .capacity) (g .waiting - 1) left
   left-unused =
-      subst (λ (m : ℕ). Unused requestForm (g .capacity) m left) (length-stay g gs ws fs k free place here)
-      (subst (λ (xs : List ℕ). Unused requestForm (g .capacity) (length v) xs) (sym left-is) (over-unused requestForm request-exact (g .capacity) v ws (k .waitingRoom) fit))
+      subst (λ (m : ℕ). Unused requestForm (g .setup .capacity) m left) (length-stay g gs ws fs k free place here)
+      (subst (λ (xs : List ℕ). Unused requestForm (g .setup .capacity) (length v) xs) (sym left-is) (over-unused requestForm request-exact (g .setup .capacity) v ws (k .waitingRoom) fit))
 
-  pub left-room : g .capacity * 5 ≤ length left
-  left-room = omega (arith, k .waitingRoom, ap length left-is, length-over-rows requestForm request-exact (g .capacity) v ws)
+  pub left-room : g .setup .capacity * 5 ≤ length left
+  left-room = omega (arith, k .waitingRoom, ap length left-is, length-over-rows requestForm request-exact (g .setup .capacity) v ws)
 
   -- the numbers once its guest's tags have dropped show the table that it is sent from, dropped
   weight-written : (sentGate g, nextDropped n gs, tagsDropped n (spacingOf n gs) left (g .waiting - 1), joined place (g .flight) ws fs) ≡ written gs ws fs (dropped q (sending t q v))
@@ -69,22 +69,22 @@ module _ (g : Gate) (gs ws fs : List ℕ) (k : Known g gs ws fs) (free : g .flig
       let s : Table = sending t q v in
       let eq = guest-goes g gs ws fs k free place here in
       let known : q .guest < g .guests = omega (arith, f .owners place here) in
-      let d = dropped-is (g .guests) (g .capacity) (g .waiting - 1) gs left s q refl (sym left-rows) (k .guestRoom) known left-room (omega (arith, f .waits)) left-unused in
+      let d = dropped-is (g .guests) (g .setup .capacity) (g .waiting - 1) gs left s q refl (sym left-rows) (k .guestRoom) known left-room (omega (arith, f .waits)) left-unused in
       let w = sent-written g gs ws fs k free place here in
       let eg : length (dropped q s .guests) ≡ g .guests = length-set (t .guests) (q .guest) (sooner (dropOf s q) (owner (t .guests) (q .guest))) ∙ length-rows guestForm gs (g .guests) in
       let ew : length (dropped q s .waiting) ≡ g .waiting - 1 = length-map v (λ p. if of (q .guest) p then earlier (dropOf s q) p else p) ∙ length-stay g gs ws fs k free place here in
       let ef : g .flight + 1 ≡ length (s .flight) = λ i. w i .0 .flight in
       let pg : nextDropped n gs ≡ overRows guestForm (length (dropped q s .guests)) (dropped q s .guests) gs =
       ap (λ (m : ℕ). nextDropped m gs) (sym eq) ∙ d .0 ∙ ap (λ (m : ℕ). overRows guestForm m (dropped q s .guests) gs) (sym eg) in
-      let pw : tagsDropped n (spacingOf n gs) left (g .waiting - 1) ≡ overRows requestForm (g .capacity) (dropped q s .waiting) ws =
+      let pw : tagsDropped n (spacingOf n gs) left (g .waiting - 1) ≡ overRows requestForm (g .setup .capacity) (dropped q s .waiting) ws =
       ap (λ (m : ℕ). tagsDropped m (spacingOf m gs) left (g .waiting - 1)) (sym eq) ∙ d .1
-      ∙ ap (overRows requestForm (g .capacity) (dropped q s .waiting)) left-is
-      ∙ over-twice requestForm request-exact (g .capacity) (dropped q s .waiting) v ws (k .waitingRoom) in
-      λ i. (record { depth = g .depth; guests = sym eg i; capacity = g .capacity; time = g .time; waiting = sym ew i; flight = ef i }, pg i, pw i, w i .3)
+      ∙ ap (overRows requestForm (g .setup .capacity) (dropped q s .waiting)) left-is
+      ∙ over-twice requestForm request-exact (g .setup .capacity) (dropped q s .waiting) v ws (k .waitingRoom) in
+      λ i. (gateAt (g .setup) (sym eg i) (g .time) (sym ew i) (ef i), pg i, pw i, w i .3)
 
   -- a send by weight
   pub weight-sent : Picks (open? t) Request.stag (t .waiting) (At place)
-      → (record { gate = sentGate g; answer = Sent Weight n (goesId g gs ws fs k free place here) }, nextDropped n gs, tagsDropped n (spacingOf n gs) left (g .waiting - 1), joined place (g .flight) ws fs) ≡ does weightPhase g gs ws fs
+      → (outcomeOf (sentGate g) (Sent Weight n (goesId g gs ws fs k free place here)), nextDropped n gs, tagsDropped n (spacingOf n gs) left (g .waiting - 1), joined place (g .flight) ws fs) ≡ does weightPhase g gs ws fs
   unfolding byWeight
   weight-sent h =
       rw (h .pick)

@@ -5,7 +5,9 @@ use mathlib.Core.Bool.{Bool, true}
 use mathlib.Core.List.{List}
 use lib.ListN.{length, getD}
 use Rattle.rules.specs.Numbers.{ceiling}
-use Rattle.rules.specs.Tables.{Guest, Request, Flight, reserved, limited, lacks, names}
+use Rattle.rules.specs.Tables.{Request, reserved, limited, lacks, names}
+use Rattle.rules.specs.declared.Guest.{Guest}
+use Rattle.rules.specs.declared.Flight.{Flight}
 use Rattle.rules.specs.Events.{tagIf, shareTag}
 use Rattle.rules.specs.declared.Gate.{Gate}
 use Rattle.table.specs.View.{tableOf, Known}
@@ -36,7 +38,7 @@ pub record Timely (g : Gate) (guest now : ℕ) : Type 0 where
 pub record Ready (g : Gate) (gs ws fs : List ℕ) (f : Flight) (now : ℕ) : Type 0 where
   pub timely : Timely g (f .guest) now
   pub new : lacks f (names (tableOf g gs ws fs)) ≡ true
-  pub free : g .waiting ≡ g .capacity → ⊥
+  pub free : g .waiting ≡ g .setup .capacity → ⊥
 
 -- the tables as they are once the request stands last and its guest's next numbers follow it
 abbrev pub PlacedKnown : Gate → (gs ws fs : List ℕ) (guest id now : ℕ) → Stamp → Type 0

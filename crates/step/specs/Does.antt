@@ -39,24 +39,24 @@ reservationPhase t = byReservation t (least (due t) Request.rtag (t .waiting))
 
 -- the gate once a request went from the waiting to the array
 abbrev pub sentGate : Gate → Gate
-sentGate g = record { depth = g .depth; guests = g .guests; capacity = g .capacity; time = g .time; waiting = g .waiting - 1; flight = g .flight + 1 }
+sentGate g = gateAt (g .setup) (g .guests) (g .time) (g .waiting - 1) (g .flight + 1)
 
 -- the gate at another time
 abbrev pub timedGate : ℕ → Gate → Gate
-timedGate now g = record { depth = g .depth; guests = g .guests; capacity = g .capacity; time = now; waiting = g .waiting; flight = g .flight }
+timedGate now g = gateAt (g .setup) (g .guests) now (g .waiting) (g .flight)
 
 -- the gate at a time, once a request left the array
 abbrev pub freedGate : ℕ → Gate → Gate
-freedGate now g = record { depth = g .depth; guests = g .guests; capacity = g .capacity; time = now; waiting = g .waiting; flight = g .flight - 1 }
+freedGate now g = gateAt (g .setup) (g .guests) now (g .waiting) (g .flight - 1)
 
 -- the gate at a time, once a request stands among the waiting
 abbrev pub placedGate : ℕ → Gate → Gate
-placedGate now g = record { depth = g .depth; guests = g .guests; capacity = g .capacity; time = now; waiting = g .waiting + 1; flight = g .flight }
+placedGate now g = gateAt (g .setup) (g .guests) now (g .waiting + 1) (g .flight)
 
 -- a refusal, the gate as it stood
 abbrev pub refusing : Refusal → Gate → Outcome
-refusing why g = record { gate = g; answer = Refused why }
+refusing why g = outcomeOf g (Refused why)
 
 -- a send, the gate after it
 abbrev pub sending : Phase → (guest id : ℕ) → Gate → Outcome
-sending phase n i g = record { gate = sentGate g; answer = Sent phase n i }
+sending phase n i g = outcomeOf (sentGate g) (Sent phase n i)

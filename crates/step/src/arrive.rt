@@ -21,7 +21,7 @@ ghost use lib.ListN.{length};
 ghost use Rattle.lists.specs.Lines.{lineAt};
 ghost use Rattle.rules.specs.Tables.{idle as idleAt, lacks, name};
 ghost use Rattle.rules.specs.Choice.{choice};
-ghost use Rattle.rules.specs.Events.{Event};
+ghost use Rattle.rules.specs.declared.Event.the-variants.{Arrival};
 ghost use Rattle.rules.specs.Run.{step};
 ghost use Rattle.table.specs.View.{guestForm, waitingOf, tableOf, Known};
 ghost use Rattle.moves.specs.Moves.{appended, followed};
@@ -94,7 +94,7 @@ fn arrive_busy(
     requires { ⌜ Known gate (now guests) (now waiting) (now flight) ⌝ }
     requires { ⌜ Ready gate (now guests) (now waiting) (now flight) (record { guest = guest; id = id }) time ⌝ }
     requires { ⌜ idleAt (tableOf gate (now guests) (now waiting) (now flight)) guest ≡ false ⌝ }
-    ensures { λ r. ⌜ (r, now (guests .exit), now (waiting .exit), now (flight .exit)) ≡ does (λ t. step t (Event.arrival (record { guest = guest; id = id }) time)) gate (now (guests .entry)) (now (waiting .entry)) (now (flight .entry)) ⌝ }
+    ensures { λ r. ⌜ (r, now (guests .exit), now (waiting .exit), now (flight .exit)) ≡ does (λ t. step t (Arrival (record { guest = guest; id = id }) time)) gate (now (guests .entry)) (now (waiting .entry)) (now (flight .entry)) ⌝ }
 {
     let tags = tags_of(&guests[..], guest, time, false);
     let rtag = tags.rtag;
@@ -119,7 +119,7 @@ fn arrive_idle(
     requires { ⌜ Known gate (now guests) (now waiting) (now flight) ⌝ }
     requires { ⌜ Ready gate (now guests) (now waiting) (now flight) (record { guest = guest; id = id }) time ⌝ }
     requires { ⌜ idleAt (tableOf gate (now guests) (now waiting) (now flight)) guest ≡ true ⌝ }
-    ensures { λ r. ⌜ (r, now (guests .exit), now (waiting .exit), now (flight .exit)) ≡ does (λ t. step t (Event.arrival (record { guest = guest; id = id }) time)) gate (now (guests .entry)) (now (waiting .entry)) (now (flight .entry)) ⌝ }
+    ensures { λ r. ⌜ (r, now (guests .exit), now (waiting .exit), now (flight .exit)) ≡ does (λ t. step t (Arrival (record { guest = guest; id = id }) time)) gate (now (guests .entry)) (now (waiting .entry)) (now (flight .entry)) ⌝ }
 {
     let known = gate.guests as usize;
     let count = gate.waiting as usize;
@@ -155,14 +155,14 @@ fn arrive_new(
     requires { ⌜ Timely gate guest time ⌝ }
     requires { ⌜ lacks (record { guest = guest; id = id }) (map name (waitingOf (now waiting) (gate .waiting))) ≡ true ⌝ }
     requires { ⌜ idleAt (tableOf gate (now guests) (now waiting) (now flight)) guest ≡ idle ⌝ }
-    ensures { λ r. ⌜ (r, now (guests .exit), now (waiting .exit), now (flight .exit)) ≡ does (λ t. step t (Event.arrival (record { guest = guest; id = id }) time)) gate (now (guests .entry)) (now (waiting .entry)) (now (flight .entry)) ⌝ }
+    ensures { λ r. ⌜ (r, now (guests .exit), now (waiting .exit), now (flight .exit)) ≡ does (λ t. step t (Arrival (record { guest = guest; id = id }) time)) gate (now (guests .entry)) (now (waiting .entry)) (now (flight .entry)) ⌝ }
 {
     let flying = gate.flight as usize;
     let found = walks::rows::find_flight(&flight[..], flying, guest, id as u64);
     match found {
         Found::At(_) => gates::refused(gate, Refusal::IdInUse),
         Found::Nothing => {
-            if gate.waiting == gate.capacity {
+            if gate.waiting == gate.setup.capacity {
                 return gates::refused(gate, Refusal::NoRoom);
             }
             if idle {
@@ -185,7 +185,7 @@ pub fn arrive(
     time: u64,
 ) -> Outcome
     requires { ⌜ Known gate (now guests) (now waiting) (now flight) ⌝ }
-    ensures { λ r. ⌜ (r, now (guests .exit), now (waiting .exit), now (flight .exit)) ≡ does (λ t. step t (Event.arrival (record { guest = guest; id = id }) time)) gate (now (guests .entry)) (now (waiting .entry)) (now (flight .entry)) ⌝ }
+    ensures { λ r. ⌜ (r, now (guests .exit), now (waiting .exit), now (flight .exit)) ≡ does (λ t. step t (Arrival (record { guest = guest; id = id }) time)) gate (now (guests .entry)) (now (waiting .entry)) (now (flight .entry)) ⌝ }
 {
     if gate.guests <= guest {
         return gates::refused(gate, Refusal::UnknownGuest);

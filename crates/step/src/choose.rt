@@ -23,7 +23,7 @@ fn by_weight(
     found: Found,
 ) -> Outcome
     requires { ⌜ Known gate (now guests) (now waiting) (now flight) ⌝ }
-    requires { ⌜ gate .flight < gate .depth ⌝ }
+    requires { ⌜ gate .flight < gate .setup .depth ⌝ }
     requires { ⌜ Picks (λ q. leb (q .ltag) (gate .time)) Request.stag (waitingOf (now waiting) (gate .waiting)) found ⌝ }
     ensures { λ r. ⌜ (r, now (guests .exit), now (waiting .exit), now (flight .exit)) ≡ does weightPhase gate (now (guests .entry)) (now (waiting .entry)) (now (flight .entry)) ⌝ }
 {
@@ -52,7 +52,7 @@ fn by_reservation(
     flight: &mut [u64],
 ) -> Outcome
     requires { ⌜ Known gate (now guests) (now waiting) (now flight) ⌝ }
-    requires { ⌜ gate .flight < gate .depth ⌝ }
+    requires { ⌜ gate .flight < gate .setup .depth ⌝ }
     ensures { λ r. ⌜ (r, now (guests .exit), now (waiting .exit), now (flight .exit)) ≡ does reservationPhase gate (now (guests .entry)) (now (waiting .entry)) (now (flight .entry)) ⌝ }
 {
     let known = gate.guests as usize;
@@ -78,7 +78,7 @@ pub fn choose(gate: Gate, guests: &mut [u64], waiting: &mut [u64], flight: &mut 
     requires { ⌜ Known gate (now guests) (now waiting) (now flight) ⌝ }
     ensures { λ r. ⌜ (r, now (guests .exit), now (waiting .exit), now (flight .exit)) ≡ does choice gate (now (guests .entry)) (now (waiting .entry)) (now (flight .entry)) ⌝ }
 {
-    if gate.flight < gate.depth {
+    if gate.flight < gate.setup.depth {
         by_reservation(gate, guests, waiting, flight)
     } else {
         Outcome {

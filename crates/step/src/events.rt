@@ -7,7 +7,7 @@ use rules::Refusal;
 use table::numbers::CEILING;
 use walks::Found;
 ghost use mathlib.Core.Path.{_≡_};
-ghost use Rattle.rules.specs.Events.{Event};
+ghost use Rattle.rules.specs.declared.Event.the-variants.{Completion, Tick};
 ghost use Rattle.rules.specs.Run.{step};
 ghost use Rattle.table.specs.View.{Known};
 ghost use Rattle.step.specs.Does.{does};
@@ -21,7 +21,7 @@ pub fn tick(
     time: u64,
 ) -> Outcome
     requires { ⌜ Known gate (now guests) (now waiting) (now flight) ⌝ }
-    ensures { λ r. ⌜ (r, now (guests .exit), now (waiting .exit), now (flight .exit)) ≡ does (λ t. step t (Event.tick time)) gate (now (guests .entry)) (now (waiting .entry)) (now (flight .entry)) ⌝ }
+    ensures { λ r. ⌜ (r, now (guests .exit), now (waiting .exit), now (flight .exit)) ≡ does (λ t. step t (Tick time)) gate (now (guests .entry)) (now (waiting .entry)) (now (flight .entry)) ⌝ }
 {
     if CEILING < time {
         return gates::refused(gate, Refusal::TimeAboveCeiling);
@@ -44,7 +44,7 @@ pub fn complete(
     time: u64,
 ) -> Outcome
     requires { ⌜ Known gate (now guests) (now waiting) (now flight) ⌝ }
-    ensures { λ r. ⌜ (r, now (guests .exit), now (waiting .exit), now (flight .exit)) ≡ does (λ t. step t (Event.completion (record { guest = guest; id = id }) time)) gate (now (guests .entry)) (now (waiting .entry)) (now (flight .entry)) ⌝ }
+    ensures { λ r. ⌜ (r, now (guests .exit), now (waiting .exit), now (flight .exit)) ≡ does (λ t. step t (Completion (record { guest = guest; id = id }) time)) gate (now (guests .entry)) (now (waiting .entry)) (now (flight .entry)) ⌝ }
 {
     if gate.guests <= guest {
         return gates::refused(gate, Refusal::UnknownGuest);

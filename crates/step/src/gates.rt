@@ -20,14 +20,14 @@ pub fn refused(gate: Gate, why: Refusal) -> Outcome
 
 // A request of `guest` with this id went from the waiting to the array.
 pub fn sent(gate: Gate, phase: Phase, guest: u64, id: u32) -> Outcome
-    requires { ⌜ (0 < gate .waiting) × (gate .flight < gate .depth) × (gate .depth ≤ 64) ⌝ }
+    requires { ⌜ (0 < gate .waiting) × (gate .flight < gate .setup .depth) × (gate .setup .depth ≤ 64) ⌝ }
     ensures { λ r. ⌜ r ≡ sending phase guest id gate ⌝ }
 {
     Outcome {
         gate: Gate {
-            depth: gate.depth,
+            depth: gate.setup.depth,
             guests: gate.guests,
-            capacity: gate.capacity,
+            capacity: gate.setup.capacity,
             time: gate.time,
             waiting: gate.waiting - 1,
             flight: gate.flight + 1,
@@ -45,9 +45,9 @@ pub fn timed(gate: Gate, time: u64) -> Gate
     ensures { λ r. ⌜ r ≡ timedGate time gate ⌝ }
 {
     Gate {
-        depth: gate.depth,
+        depth: gate.setup.depth,
         guests: gate.guests,
-        capacity: gate.capacity,
+        capacity: gate.setup.capacity,
         time: time,
         waiting: gate.waiting,
         flight: gate.flight,
@@ -60,9 +60,9 @@ pub fn freed(gate: Gate, time: u64) -> Gate
     ensures { λ r. ⌜ r ≡ freedGate time gate ⌝ }
 {
     Gate {
-        depth: gate.depth,
+        depth: gate.setup.depth,
         guests: gate.guests,
-        capacity: gate.capacity,
+        capacity: gate.setup.capacity,
         time: time,
         waiting: gate.waiting,
         flight: gate.flight - 1,
@@ -75,9 +75,9 @@ pub fn placed(gate: Gate, time: u64) -> Gate
     ensures { λ r. ⌜ r ≡ placedGate time gate ⌝ }
 {
     Gate {
-        depth: gate.depth,
+        depth: gate.setup.depth,
         guests: gate.guests,
-        capacity: gate.capacity,
+        capacity: gate.setup.capacity,
         time: time,
         waiting: gate.waiting + 1,
         flight: gate.flight,

@@ -7,10 +7,15 @@ use lib.Dec.{ltb, eqb}
 use lib.ListN.{length, getD, take, drop}
 use Rattle.lists.specs.Words.{all}
 use Rattle.lists.specs.Rows.{Form, rowsOf, overRows, Unused}
-use Rattle.rules.specs.Tables.{Settings, Guest, Request, Flight, Table, names}
+use Rattle.rules.specs.Tables.{Request, Table, names}
+use Rattle.rules.specs.declared.Setup.{Setup}
+use Rattle.rules.specs.declared.Settings.{Settings}
+use Rattle.rules.specs.declared.Guest.{Guest}
+use Rattle.rules.specs.declared.Flight.{Flight}
 use Rattle.rules.specs.Sound.{counted, sound}
 use Rattle.rules.specs.Choice.{Result}
 use Rattle.rules.specs.declared.Gate.{Gate}
+use Rattle.rules.specs.declared.Answer.{Answer}
 use Rattle.rules.specs.declared.Outcome.{Outcome}
 
 -- a guest's settings as three numbers
@@ -68,24 +73,24 @@ nameless = nameIs 0 0
 abbrev pub tableOf : Gate → (gs ws fs : List ℕ) → Table
 tableOf g gs ws fs =
     record {
-      setup = record { depth = g .depth; capacity = g .capacity };
+      setup = g .setup;
       time = g .time;
       guests = guestsOf gs (g .guests);
       waiting = waitingOf ws (g .waiting);
       flight = flightsOf fs (g .flight);
     }
 
--- the gate of a table: its settings, its time and its counts
+-- the gate of this setup and so many guests at a time, with so many waiting and so many in flight
+abbrev pub gateAt : Setup → (guests time waiting flight : ℕ) → Gate
+gateAt s n time w f = record { setup = s; guests = n; time = time; waiting = w; flight = f }
+
+-- the gate of a table: its setup, its time and its counts
 abbrev pub gateOf : Table → Gate
-gateOf t =
-    record {
-      depth = t .setup .depth;
-      guests = length (t .guests);
-      capacity = t .setup .capacity;
-      time = t .time;
-      waiting = length (t .waiting);
-      flight = length (t .flight);
-    }
+gateOf t = gateAt (t .setup) (length (t .guests)) (t .time) (length (t .waiting)) (length (t .flight))
+
+-- the outcome of a call: the gate after it, and its answer
+abbrev pub outcomeOf : Gate → Answer → Outcome
+outcomeOf g a = record { gate = g; answer = a }
 
 -- an outcome and the three lent tables as a call hands them back
 abbrev pub Handed : Type 0
@@ -94,7 +99,7 @@ Handed = Outcome × List ℕ × List ℕ × List ℕ
 -- THE WAY BACK: a table and an answer written over what was lent; places beyond what the settings need stay as they were
 unfoldable pub handed : (gs ws fs : List ℕ) → Result → Handed
 handed gs ws fs r = (
-  record { gate = gateOf (r .table); answer = r .answer },
+  outcomeOf (gateOf (r .table)) (r .answer),
   overRows guestForm (length (r .table .guests)) (r .table .guests) gs,
   overRows requestForm (r .table .setup .capacity) (r .table .waiting) ws,
   overRows flightForm (r .table .setup .depth) (r .table .flight) fs,
@@ -102,12 +107,12 @@ handed gs ws fs r = (
 
 -- guests, depth and capacity are in range, so that the lengths needed are known
 abbrev pub countable : Gate → Bool
-countable g = counted (g .depth) (g .guests) (g .capacity)
+countable g = counted (g .setup .depth) (g .guests) (g .setup .capacity)
 
 -- refusal 2: "a lent table .. is shorter than the settings need"; where the counts are out of range nothing is needed, and 3 is given
 unfoldable pub short : Gate → (gs ws fs : List ℕ) → Bool
 short g gs ws fs =
-    countable g && (ltb (length gs) (g .guests * 6) || ltb (length ws) (g .capacity * 5) || ltb (length fs) (g .depth * 2))
+    countable g && (ltb (length gs) (g .guests * 6) || ltb (length ws) (g .setup .capacity * 5) || ltb (length fs) (g .setup .depth * 2))
 
 -- every id is a number of 32 bits: document 01's ids are, and another number in a place for one is no request
 abbrev pub identified : Table → Bool
@@ -121,18 +126,18 @@ zeroed s cap n xs = all (λ x. eqb x 0) (take (cap * s - n * s) (drop (n * s) xs
 unfoldable pub soundNumbers : Gate → (gs ws fs : List ℕ) → Bool
 soundNumbers g gs ws fs =
     sound (tableOf g gs ws fs) && identified (tableOf g gs ws fs)
-    && zeroed 5 (g .capacity) (g .waiting) ws && zeroed 2 (g .depth) (g .flight) fs
+    && zeroed 5 (g .setup .capacity) (g .waiting) ws && zeroed 2 (g .setup .depth) (g .flight) fs
 
 -- the unused places of the waiting table and of the flight table are zero
 pub record Whole (g : Gate) (ws fs : List ℕ) : Type 0 where
-  pub waitingUnused : Unused requestForm (g .capacity) (g .waiting) ws
-  pub flightUnused : Unused flightForm (g .depth) (g .flight) fs
+  pub waitingUnused : Unused requestForm (g .setup .capacity) (g .waiting) ws
+  pub flightUnused : Unused flightForm (g .setup .depth) (g .flight) fs
 
 -- what a call may rely on once lengths and soundness were judged
 pub record Known (g : Gate) (gs ws fs : List ℕ) : Type 0 where
   pub guestRoom : g .guests * 6 ≤ length gs
-  pub waitingRoom : g .capacity * 5 ≤ length ws
-  pub flightRoom : g .depth * 2 ≤ length fs
+  pub waitingRoom : g .setup .capacity * 5 ≤ length ws
+  pub flightRoom : g .setup .depth * 2 ≤ length fs
   pub isSound : sound (tableOf g gs ws fs) ≡ true
   pub isIdentified : identified (tableOf g gs ws fs) ≡ true
   pub whole : Whole g ws fs

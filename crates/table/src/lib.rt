@@ -3,3 +3,4 @@
 pub mod columns; // where each number stands in its row
 pub mod ranges; // counts and settings in range, on plain numbers
 pub mod numbers; // spacings and tags, on plain numbers
+pub mod gates; // a gate and an outcome from their parts

@@ -9,7 +9,7 @@ use lib.ListN.{length, drop}
 use lib.Seq.{drop-append-le}
 use borrow.Author.Tests.{leb-true}
 use Rattle.lists.specs.Words.{if_then_else_}
-use Rattle.rules.specs.Tables.{Settings}
+use Rattle.rules.specs.declared.Settings.{Settings}
 use Rattle.rules.specs.Run.{fresh}
 use Rattle.rules.proofs.Conditions.{counted-means}
 use Rattle.lines.specs.Line.{titleLine}

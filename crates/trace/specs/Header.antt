@@ -8,7 +8,7 @@ use lib.Dec.{eqb, ltb}
 use lib.ListN.{length, take}
 use Rattle.lists.specs.Words.{all}
 use Rattle.lists.specs.Tab.{tab}
-use Rattle.rules.specs.Tables.{Settings}
+use Rattle.rules.specs.declared.Settings.{Settings}
 use Rattle.rules.specs.Sound.{counted, settled}
 use Rattle.rules.specs.Answers.{numberOf}
 use Rattle.rules.specs.Refusals.{Test, Verdict, accept, refuse, judged}

@@ -5,7 +5,7 @@ use mathlib.Core.List.{List, [], _∷_, _++_}
 use lib.ListN.{drop}
 use Rattle.rules.specs.Tables.{Table}
 use Rattle.rules.specs.Choice.{Result}
-use Rattle.rules.specs.Events.{arrival, completion, tick}
+use Rattle.rules.specs.declared.Event.the-variants.{Arrival, Completion, Tick}
 use Rattle.rules.specs.Run.{step, fresh}
 use Rattle.rules.specs.declared.Refusal.the-variants.{BadEvent, EventCut}
 use Rattle.rules.specs.declared.Answer.{Answer}
@@ -20,9 +20,9 @@ use Rattle.trace.specs.declared.Read.the-variants.{Arrival, Completion, 
 
 -- an event as it was read, at a table: a bad one is refused 14 and changes nothing
 unfoldable pub answered : Table → Read → Result
-answered t (Arrival g i now) = step t (arrival (record { guest = g; id = i }) now)
-answered t (Completion g i now) = step t (completion (record { guest = g; id = i }) now)
-answered t (Tick now) = step t (tick now)
+answered t (Arrival g i now) = step t (Arrival (record { guest = g; id = i }) now)
+answered t (Completion g i now) = step t (Completion (record { guest = g; id = i }) now)
+answered t (Tick now) = step t (Tick now)
 answered t Bad = record { table = t; answer = Refused BadEvent }
 
 -- the answers to a run of events

@@ -4,7 +4,8 @@ use mathlib.Core.Bool.{Bool}
 use mathlib.Core.List.{List, [], _∷_, map}
 use lib.ListN.{getD}
 use Rattle.lists.specs.Words.{if_then_else_, empty}
-use Rattle.rules.specs.Tables.{Request, Flight, mine, name, lacks}
+use Rattle.rules.specs.Tables.{Request, mine, name, lacks}
+use Rattle.rules.specs.declared.Flight.{Flight}
 use Rattle.table.specs.View.{waitingOf}
 use Rattle.walks.specs.declared.survey.Own.{Own}
 use Rattle.walks.specs.declared.survey.Own.the-variants.{Repeated, Waits, Idle}

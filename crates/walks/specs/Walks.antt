@@ -8,7 +8,8 @@ use lib.ListN.{length, getD}
 use Rattle.lists.specs.Words.{if_then_else_, without}
 use Rattle.lists.specs.Tab.{removeAt}
 use Rattle.rules.specs.Numbers.{ceiling}
-use Rattle.rules.specs.Tables.{Request, Flight, same, lacks}
+use Rattle.rules.specs.Tables.{Request, same, lacks}
+use Rattle.rules.specs.declared.Flight.{Flight}
 use Rattle.rules.specs.Choice.{Pick, nobody, picked, least}
 use Rattle.rules.specs.Chosen.{at}
 use Rattle.walks.specs.declared.Found.{Found}

@@ -10,7 +10,8 @@ use lib.ListN.{length, getD}
 use borrow.Author.Tests.{le-leb, leb-true, eq-eqb, ne-eqb}
 use Rattle.lists.specs.RowsLaws.{row-at, length-rows}
 use Rattle.lists.specs.WordsLaws.{both, join, places-all, place-not, without-at}
-use Rattle.rules.specs.Tables.{Guest, Request, settingsOf, same}
+use Rattle.rules.specs.Tables.{Request, settingsOf, same}
+use Rattle.rules.specs.declared.Guest.{Guest}
 use Rattle.rules.specs.Choice.{dueAt}
 use Rattle.rules.specs.Chosen.{at}
 use Rattle.table.specs.View.{guestForm, requestForm, flightForm, guestsOf, waitingOf, flightsOf, nameIs, nameless}

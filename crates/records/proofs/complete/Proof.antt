@@ -67,7 +67,7 @@ module _ {M : Type 1} (𝓤 : URA M) (H : Heap 𝓤) (A : Atoms 𝓤) (W : Given
   rs = rows wanted gs
 
   abbrev does : List ℕ → Handed
-  does ys = called (Event.completion (record { guest = guest; id = id }) time) gate ys (waiting .now) (flight .now)
+  does ys = called (Completion (record { guest = guest; id = id }) time) gate ys (waiting .now) (flight .now)
 
   -- what the parameters are, and what is to be shown at exit
   abbrev a : Gate × (RefT (List Guest) × (RefT (List ℕ) × (RefT (List ℕ) × (ℕ × (ℕ × (ℕ × (Unit {0})))))))
@@ -93,7 +93,7 @@ module _ {M : Type 1} (𝓤 : URA M) (H : Heap 𝓤) (A : Atoms 𝓤) (W : Given
   exits : (r : Outcome) (w : Val) (zs waiting′ flight′ : List ℕ) → Says r zs waiting′ flight′ → length waiting′ ≡ length (waiting .now) → length flight′ ≡ length (flight .now) → ent 𝓤 (⋆ 𝓤 H A (Left r w zs waiting′ flight′)) (Post w)
   exits r w zs waiting′ flight′ e len-waiting len-flight = qed W (Left r w zs waiting′ flight′) ∵
       suffices ! _ (ends-at 𝓤 H A f.ended stayed (f.clauses 𝓤 H A mem run) W bound w r (tt, (brought wanted gs zs, (waiting′, (flight′, (tt, (tt, (tt, tt))))))) (tt, (length-brought wanted gs zs, (len-waiting, (len-flight, (tt, (tt, (tt, tt)))))))) $
-      says ! (at-home wanted gs does _ (called-home gate gs (waiting .now) (flight .now) (Event.completion (record { guest = guest; id = id }) time)) r zs waiting′ flight′ e) $
+      says ! (at-home wanted gs does _ (called-home gate gs (waiting .now) (flight .now) (Completion (record { guest = guest; id = id }) time)) r zs waiting′ flight′ e) $
       nothing ! $ move ! (6 ∷ 0 ∷ []) $ join ! $ move ! (5 ∷ 0 ∷ []) $ join ! $ move ! (4 ∷ 0 ∷ []) $ join ! $ frame ! $ nothing ! $
       gives ! w64 time time-ok $ gives ! w32 id id-ok $ gives ! w64 guest guest-ok $ move ! (3 ∷ 0 ∷ []) $ fjoin ! $ move ! (2 ∷ 0 ∷ []) $ fjoin ! $
       move ! (1 ∷ 0 ∷ []) $ fjoin ! $ owned ! GateR (Is GateR) (Gate-makes 𝓤 H A W) gate _ gate-ok $ fjoin ! $ frame ! $ done !

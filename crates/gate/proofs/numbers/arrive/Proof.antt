@@ -1,4 +1,4 @@
-use Rattle.rules.specs.Events.{Event}
+use Rattle.rules.specs.declared.Event.{Event}
 use Rattle.gate.proofs.Returns.{good-known, good-returns, bad-returns}
 use borrow.Author.Needs.{needs}
 use Rattle.gate.proofs.numbers.arrive.Statement.{statement}
@@ -33,7 +33,7 @@ same-length-3 c = search needs
 returns : tie.Need-returns
 returns c =
     let s = c .before .before .before .before .before .before .before .before .before .before .before in
-    bad-returns (s .args .gate) (s .args .guests .now) (s .args .waiting .now) (s .args .flight .now) _ (c .before .before .before .before .judge .ensures) (Event.arrival (record { guest = s .args .guest; id = s .args .id }) (s .args .time)) _ (c .before .before .found .given .1) _ (c .refused .ensures)
+    bad-returns (s .args .gate) (s .args .guests .now) (s .args .waiting .now) (s .args .flight .now) _ (c .before .before .before .before .judge .ensures) (Arrival (record { guest = s .args .guest; id = s .args .id }) (s .args .time)) _ (c .before .before .found .given .1) _ (c .refused .ensures)
 
 same-length-4 : tie.Need-same-length-4
 same-length-4 c = search needs
@@ -47,7 +47,7 @@ same-length-6 c = search needs
 returns-2 : tie.Need-returns-2
 returns-2 c =
     let s = c .before .before .before .before .before .before .before .before .before .before .before .before .before .before .before .before .before .before .before in
-    good-returns (s .args .gate) (s .args .guests .now) (s .args .waiting .now) (s .args .flight .now) _ (c .before .before .before .before .before .before .before .before .before .before .before .before .judge .ensures) (Event.arrival (record { guest = s .args .guest; id = s .args .id }) (s .args .time)) (c .before .before .before .before .before .before .before .before .before .before .enum-told .given .1) _ (c .before .before .before .before .before .before .arrive .ensures)
+    good-returns (s .args .gate) (s .args .guests .now) (s .args .waiting .now) (s .args .flight .now) _ (c .before .before .before .before .before .before .before .before .before .before .before .before .judge .ensures) (Arrival (record { guest = s .args .guest; id = s .args .id }) (s .args .time)) (c .before .before .before .before .before .before .before .before .before .before .enum-told .given .1) _ (c .before .before .before .before .before .before .arrive .ensures)
 
 pub arrive-spec : {M : Type 1} → statement M
 arrive-spec =

@@ -11,7 +11,7 @@ fresh-gate-requires c κs = search needs
 
 returns : tie.Need-returns
 returns c =
-    let r : Gate → Outcome = λ g. record { gate = g; answer = Refused (c .before .args .why) } in
+    let r : Gate → Outcome = λ g. outcomeOf g (Refused (c .before .args .why)) in
     ap r (c .fresh-gate .ensures)
 
 pub not-opened-spec : {M : Type 1} → statement M

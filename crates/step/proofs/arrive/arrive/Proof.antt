@@ -1,4 +1,4 @@
-use Rattle.rules.specs.Events.{Event}
+use Rattle.rules.specs.declared.Event.{Event}
 use Rattle.rules.specs.declared.Refusal.the-variants.{UnknownGuest, TimeAboveCeiling, TimeBeforeLast, IdInUse}
 use Rattle.step.proofs.Phases.{rows-ask}
 use Rattle.step.proofs.Judges.{arrival-names, unknown-guest, above-ceiling, before-last}
@@ -15,7 +15,7 @@ refused-requires c κs = search needs
 returns : tie.Need-returns
 returns c =
     let s = c .before .before .before .before .before .before in
-    refused-returns (s .args .gate) (s .args .guests .now) (s .args .waiting .now) (s .args .flight .now) (s .pre) (Event.arrival (record { guest = s .args .guest; id = s .args .id }) (s .args .time)) UnknownGuest (unknown-guest (s .args .gate) (s .args .guests .now) (s .args .waiting .now) (s .args .flight .now) (s .pre) (Event.arrival (record { guest = s .args .guest; id = s .args .id }) (s .args .time)) (s .args .guest) (s .args .time) (arrival-names _ (record { guest = s .args .guest; id = s .args .id }) (s .args .time)) (c .before .if1 .taken)) _ (c .refused .ensures)
+    refused-returns (s .args .gate) (s .args .guests .now) (s .args .waiting .now) (s .args .flight .now) (s .pre) (Arrival (record { guest = s .args .guest; id = s .args .id }) (s .args .time)) UnknownGuest (unknown-guest (s .args .gate) (s .args .guests .now) (s .args .waiting .now) (s .args .flight .now) (s .pre) (Arrival (record { guest = s .args .guest; id = s .args .id }) (s .args .time)) (s .args .guest) (s .args .time) (arrival-names _ (record { guest = s .args .guest; id = s .args .id }) (s .args .time)) (c .before .if1 .taken)) _ (c .refused .ensures)
 
 refused-requires-2 : tie.Need-refused-requires-2
 refused-requires-2 c κs = search needs
@@ -23,7 +23,7 @@ refused-requires-2 c κs = search needs
 returns-2 : tie.Need-returns-2
 returns-2 c =
     let s = c .before .before .before .before .before .before .before in
-    refused-returns (s .args .gate) (s .args .guests .now) (s .args .waiting .now) (s .args .flight .now) (s .pre) (Event.arrival (record { guest = s .args .guest; id = s .args .id }) (s .args .time)) TimeAboveCeiling (above-ceiling (s .args .gate) (s .args .guests .now) (s .args .waiting .now) (s .args .flight .now) (s .pre) (Event.arrival (record { guest = s .args .guest; id = s .args .id }) (s .args .time)) (s .args .guest) (s .args .time) (arrival-names _ (record { guest = s .args .guest; id = s .args .id }) (s .args .time)) (c .before .before .if1 .left) (c .before .if2 .taken)) _ (c .refused2 .ensures)
+    refused-returns (s .args .gate) (s .args .guests .now) (s .args .waiting .now) (s .args .flight .now) (s .pre) (Arrival (record { guest = s .args .guest; id = s .args .id }) (s .args .time)) TimeAboveCeiling (above-ceiling (s .args .gate) (s .args .guests .now) (s .args .waiting .now) (s .args .flight .now) (s .pre) (Arrival (record { guest = s .args .guest; id = s .args .id }) (s .args .time)) (s .args .guest) (s .args .time) (arrival-names _ (record { guest = s .args .guest; id = s .args .id }) (s .args .time)) (c .before .before .if1 .left) (c .before .if2 .taken)) _ (c .refused2 .ensures)
 
 refused-requires-3 : tie.Need-refused-requires-3
 refused-requires-3 c κs = search needs
@@ -31,7 +31,7 @@ refused-requires-3 c κs = search needs
 returns-3 : tie.Need-returns-3
 returns-3 c =
     let s = c .before .before .before .before .before .before .before .before .before in
-    refused-returns (s .args .gate) (s .args .guests .now) (s .args .waiting .now) (s .args .flight .now) (s .pre) (Event.arrival (record { guest = s .args .guest; id = s .args .id }) (s .args .time)) TimeBeforeLast (before-last (s .args .gate) (s .args .guests .now) (s .args .waiting .now) (s .args .flight .now) (s .pre) (Event.arrival (record { guest = s .args .guest; id = s .args .id }) (s .args .time)) (s .args .guest) (s .args .time) (arrival-names _ (record { guest = s .args .guest; id = s .args .id }) (s .args .time)) (c .before .before .before .before .if1 .left) (c .before .before .before .if2 .left) (c .before .if3 .taken)) _ (c .refused3 .ensures)
+    refused-returns (s .args .gate) (s .args .guests .now) (s .args .waiting .now) (s .args .flight .now) (s .pre) (Arrival (record { guest = s .args .guest; id = s .args .id }) (s .args .time)) TimeBeforeLast (before-last (s .args .gate) (s .args .guests .now) (s .args .waiting .now) (s .args .flight .now) (s .pre) (Arrival (record { guest = s .args .guest; id = s .args .id }) (s .args .time)) (s .args .guest) (s .args .time) (arrival-names _ (record { guest = s .args .guest; id = s .args .id }) (s .args .time)) (c .before .before .before .before .if1 .left) (c .before .before .before .if2 .left) (c .before .if3 .taken)) _ (c .refused3 .ensures)
 
 own-rows-requires : tie.Need-own-rows-requires
 own-rows-requires c κs =
@@ -74,7 +74,7 @@ returns-4 c =
     let s = c .before .before .before .before .before .before .before .before .before .before .before .before .before in
     let o = c .before .before .before .own-rows in
     let t : Timely (s .args .gate) (s .args .guest) (s .args .time) = (record { known = c .before .before .before .before .before .before .before .before .if1 .left; late = c .before .before .before .before .before .before .before .if2 .left; early = c .before .before .before .before .before .if3 .left }) in
-    refused-returns (s .args .gate) (s .args .guests .now) (s .args .waiting .now) (s .args .flight .now) (s .pre) (Event.arrival (record { guest = s .args .guest; id = s .args .id }) (s .args .time)) IdInUse (waits-refused (s .args .gate) (s .args .guests .now) (s .args .waiting .now) (s .args .flight .now) (s .pre) (record { guest = s .args .guest; id = s .args .id }) (s .args .time) t (own-repeated (s .args .gate) (s .args .guests .now) (s .args .waiting .now) (s .args .flight .now) (s .pre) (record { guest = s .args .guest; id = s .args .id }) (s .args .time) t (o .result) (o .ensures) (c .before .enum-told .given .1))) _ (c .refused4 .ensures)
+    refused-returns (s .args .gate) (s .args .guests .now) (s .args .waiting .now) (s .args .flight .now) (s .pre) (Arrival (record { guest = s .args .guest; id = s .args .id }) (s .args .time)) IdInUse (waits-refused (s .args .gate) (s .args .guests .now) (s .args .waiting .now) (s .args .flight .now) (s .pre) (record { guest = s .args .guest; id = s .args .id }) (s .args .time) t (own-repeated (s .args .gate) (s .args .guests .now) (s .args .waiting .now) (s .args .flight .now) (s .pre) (record { guest = s .args .guest; id = s .args .id }) (s .args .time) t (o .result) (o .ensures) (c .before .enum-told .given .1))) _ (c .refused4 .ensures)
 
 same-length-2 : tie.Need-same-length-2
 same-length-2 c = search needs

@@ -2,7 +2,7 @@ use mathlib.Core.Path.{refl, sym, _∙_}
 use mathlib.Core.Bool.{false}
 use native.Mathlib.Omega.{arith}
 use borrow.Author.Tests.{not-true, not-false}
-use Rattle.rules.specs.Events.{Event}
+use Rattle.rules.specs.declared.Event.{Event}
 use Rattle.rules.specs.declared.Refusal.the-variants.{TagAboveCeiling}
 use Rattle.step.proofs.EventReturns.{refused-returns}
 use Rattle.step.proofs.ArriveReturns.{stamp-passes, ready-known, ready-moves, placeable}
@@ -28,7 +28,7 @@ returns c =
     let s = c .before .before .before .before .before .before .before .before in
     let w = c .before .before .before .tags-of in
     let b = c .before .before .stamp-fits in
-    refused-returns (s .args .gate) (s .args .guests .now) (s .args .waiting .now) (s .args .flight .now) (s .pre .0) (Event.arrival (record { guest = s .args .guest; id = s .args .id }) (s .args .time)) TagAboveCeiling (stamp-passes (s .args .gate) (s .args .guests .now) (s .args .waiting .now) (s .args .flight .now) (s .pre .0) (record { guest = s .args .guest; id = s .args .id }) (s .args .time) (s .pre .1 .0) false (s .pre .1 .1) (w .result) (w .ensures) (sym (b .ensures) ∙ not-true _ (c .before .if1 .taken))) _ (c .refused .ensures)
+    refused-returns (s .args .gate) (s .args .guests .now) (s .args .waiting .now) (s .args .flight .now) (s .pre .0) (Arrival (record { guest = s .args .guest; id = s .args .id }) (s .args .time)) TagAboveCeiling (stamp-passes (s .args .gate) (s .args .guests .now) (s .args .waiting .now) (s .args .flight .now) (s .pre .0) (record { guest = s .args .guest; id = s .args .id }) (s .args .time) (s .pre .1 .0) false (s .pre .1 .1) (w .result) (w .ensures) (sym (b .ensures) ∙ not-true _ (c .before .if1 .taken))) _ (c .refused .ensures)
 
 place-requires : tie.Need-place-requires
 place-requires c κs =

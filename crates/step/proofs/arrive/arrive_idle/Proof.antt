@@ -2,7 +2,7 @@ use mathlib.Core.Path.{sym, _∙_}
 use mathlib.Core.Bool.{true}
 use native.Mathlib.Omega.{arith}
 use borrow.Author.Tests.{not-true, not-false}
-use Rattle.rules.specs.Events.{Event}
+use Rattle.rules.specs.declared.Event.{Event}
 use Rattle.rules.specs.declared.Refusal.the-variants.{TagAboveCeiling}
 use Rattle.step.proofs.Phases.{rows-ask}
 use Rattle.step.proofs.EventReturns.{refused-returns}
@@ -29,7 +29,7 @@ returns c =
     let s = c .before .before .before .before .before .before .before .before in
     let w = c .before .before .before .tags-of in
     let b = c .before .before .stamp-fits in
-    refused-returns (s .args .gate) (s .args .guests .now) (s .args .waiting .now) (s .args .flight .now) (s .pre .0) (Event.arrival (record { guest = s .args .guest; id = s .args .id }) (s .args .time)) TagAboveCeiling (stamp-passes (s .args .gate) (s .args .guests .now) (s .args .waiting .now) (s .args .flight .now) (s .pre .0) (record { guest = s .args .guest; id = s .args .id }) (s .args .time) (s .pre .1 .0) true (s .pre .1 .1) (w .result) (w .ensures) (sym (b .ensures) ∙ not-true _ (c .before .if1 .taken))) _ (c .refused .ensures)
+    refused-returns (s .args .gate) (s .args .guests .now) (s .args .waiting .now) (s .args .flight .now) (s .pre .0) (Arrival (record { guest = s .args .guest; id = s .args .id }) (s .args .time)) TagAboveCeiling (stamp-passes (s .args .gate) (s .args .guests .now) (s .args .waiting .now) (s .args .flight .now) (s .pre .0) (record { guest = s .args .guest; id = s .args .id }) (s .args .time) (s .pre .1 .0) true (s .pre .1 .1) (w .result) (w .ensures) (sym (b .ensures) ∙ not-true _ (c .before .if1 .taken))) _ (c .refused .ensures)
 
 ends-requires : tie.Need-ends-requires
 ends-requires c κs =
@@ -62,7 +62,7 @@ returns-2 c =
     let s = c .before .before .before .before .before .before .before .before .before .before .before in
     let w = c .before .before .before .before .before .before .tags-of in
     let n = c .before .before .ends .ensures in
-    refused-returns (s .args .gate) (s .args .guests .now) (s .args .waiting .now) (s .args .flight .now) (s .pre .0) (Event.arrival (record { guest = s .args .guest; id = s .args .id }) (s .args .time)) TagAboveCeiling (move-passes (s .args .gate) (s .args .guests .now) (s .args .waiting .now) (s .args .flight .now) (s .pre .0) (record { guest = s .args .guest; id = s .args .id }) (s .args .time) (s .pre .1 .0) true (s .pre .1 .1) (w .result) (w .ensures) (move-past (s .args .gate) (s .args .guests .now) (s .args .waiting .now) (s .args .flight .now) (s .pre .0) (s .args .time) (s .pre .1 .0 .timely .late) _ _ (n .0) (n .1) (c .before .if2 .taken))) _ (c .refused2 .ensures)
+    refused-returns (s .args .gate) (s .args .guests .now) (s .args .waiting .now) (s .args .flight .now) (s .pre .0) (Arrival (record { guest = s .args .guest; id = s .args .id }) (s .args .time)) TagAboveCeiling (move-passes (s .args .gate) (s .args .guests .now) (s .args .waiting .now) (s .args .flight .now) (s .pre .0) (record { guest = s .args .guest; id = s .args .id }) (s .args .time) (s .pre .1 .0) true (s .pre .1 .1) (w .result) (w .ensures) (move-past (s .args .gate) (s .args .guests .now) (s .args .waiting .now) (s .args .flight .now) (s .pre .0) (s .args .time) (s .pre .1 .0 .timely .late) _ _ (n .0) (n .1) (c .before .if2 .taken))) _ (c .refused2 .ensures)
 
 adjust-requires : tie.Need-adjust-requires
 adjust-requires c κs =

@@ -1,5 +1,5 @@
 use mathlib.Core.Path.{_∙_}
-use Rattle.rules.specs.Events.{Event}
+use Rattle.rules.specs.declared.Event.{Event}
 use Rattle.rules.specs.declared.Refusal.the-variants.{IdInUse, NoRoom}
 use Rattle.step.proofs.EventReturns.{refused-returns, flight-asks}
 use Rattle.step.proofs.Settles.{flies-refused, full-refused, is-ready}
@@ -31,7 +31,7 @@ returns : tie.Need-returns
 returns c =
     let s = c .before .before .before .before .before .before .before .before .before .before in
     let w = c .before .before .before .before .before .find-flight in
-    refused-returns (s .args .gate) (s .args .guests .now) (s .args .waiting .now) (s .args .flight .now) (s .pre .0) (Event.arrival (record { guest = s .args .guest; id = s .args .id }) (s .args .time)) NoRoom (full-refused (s .args .gate) (s .args .guests .now) (s .args .waiting .now) (s .args .flight .now) (s .pre .0) (record { guest = s .args .guest; id = s .args .id }) (s .args .time) (s .pre .1 .0) (w .result) (w .ensures) (c .before .before .before .enum-told2 .given .1) (s .pre .1 .1 .0) (c .before .if1 .taken)) _ (c .refused2 .ensures)
+    refused-returns (s .args .gate) (s .args .guests .now) (s .args .waiting .now) (s .args .flight .now) (s .pre .0) (Arrival (record { guest = s .args .guest; id = s .args .id }) (s .args .time)) NoRoom (full-refused (s .args .gate) (s .args .guests .now) (s .args .waiting .now) (s .args .flight .now) (s .pre .0) (record { guest = s .args .guest; id = s .args .id }) (s .args .time) (s .pre .1 .0) (w .result) (w .ensures) (c .before .before .before .enum-told2 .given .1) (s .pre .1 .1 .0) (c .before .if1 .taken)) _ (c .refused2 .ensures)
 
 arrive-idle-requires : tie.Need-arrive-idle-requires
 arrive-idle-requires c κs =
@@ -53,7 +53,7 @@ returns-2 c =
     let s = c .before .before .before .before .before .before .before .before in
     let w = c .before .before .before .find-flight in
     let f = c .before .enum-told .given in
-    refused-returns (s .args .gate) (s .args .guests .now) (s .args .waiting .now) (s .args .flight .now) (s .pre .0) (Event.arrival (record { guest = s .args .guest; id = s .args .id }) (s .args .time)) IdInUse (flies-refused (s .args .gate) (s .args .guests .now) (s .args .waiting .now) (s .args .flight .now) (s .pre .0) (record { guest = s .args .guest; id = s .args .id }) (s .args .time) (s .pre .1 .0) (w .result) (w .ensures) (f .0 .0) (f .1)) _ (c .refused .ensures)
+    refused-returns (s .args .gate) (s .args .guests .now) (s .args .waiting .now) (s .args .flight .now) (s .pre .0) (Arrival (record { guest = s .args .guest; id = s .args .id }) (s .args .time)) IdInUse (flies-refused (s .args .gate) (s .args .guests .now) (s .args .waiting .now) (s .args .flight .now) (s .pre .0) (record { guest = s .args .guest; id = s .args .id }) (s .args .time) (s .pre .1 .0) (w .result) (w .ensures) (f .0 .0) (f .1)) _ (c .refused .ensures)
 
 same-length-3 : tie.Need-same-length-3
 same-length-3 c = search needs

@@ -1,6 +1,6 @@
 use mathlib.Core.Path.{_∙_}
 use native.Mathlib.Omega.{arith}
-use Rattle.rules.specs.Events.{Event}
+use Rattle.rules.specs.declared.Event.{Event}
 use Rattle.rules.specs.declared.Refusal.the-variants.{UnknownGuest, TimeAboveCeiling, TimeBeforeLast, NotInFlight}
 use Rattle.step.proofs.Judges.{completion-names, unknown-guest, above-ceiling, before-last}
 use Rattle.step.proofs.EventReturns.{refused-returns, flight-asks, absent-is, out-asks, out-known, out-returns}
@@ -14,7 +14,7 @@ refused-requires c κs = search needs
 returns : tie.Need-returns
 returns c =
     let s = c .before .before .before .before .before .before in
-    refused-returns (s .args .gate) (s .args .guests .now) (s .args .waiting .now) (s .args .flight .now) (s .pre) (Event.completion (record { guest = s .args .guest; id = s .args .id }) (s .args .time)) UnknownGuest (unknown-guest (s .args .gate) (s .args .guests .now) (s .args .waiting .now) (s .args .flight .now) (s .pre) (Event.completion (record { guest = s .args .guest; id = s .args .id }) (s .args .time)) (s .args .guest) (s .args .time) (completion-names _ (record { guest = s .args .guest; id = s .args .id }) (s .args .time)) (c .before .if1 .taken)) _ (c .refused .ensures)
+    refused-returns (s .args .gate) (s .args .guests .now) (s .args .waiting .now) (s .args .flight .now) (s .pre) (Completion (record { guest = s .args .guest; id = s .args .id }) (s .args .time)) UnknownGuest (unknown-guest (s .args .gate) (s .args .guests .now) (s .args .waiting .now) (s .args .flight .now) (s .pre) (Completion (record { guest = s .args .guest; id = s .args .id }) (s .args .time)) (s .args .guest) (s .args .time) (completion-names _ (record { guest = s .args .guest; id = s .args .id }) (s .args .time)) (c .before .if1 .taken)) _ (c .refused .ensures)
 
 refused-requires-2 : tie.Need-refused-requires-2
 refused-requires-2 c κs = search needs
@@ -22,7 +22,7 @@ refused-requires-2 c κs = search needs
 returns-2 : tie.Need-returns-2
 returns-2 c =
     let s = c .before .before .before .before .before .before .before in
-    refused-returns (s .args .gate) (s .args .guests .now) (s .args .waiting .now) (s .args .flight .now) (s .pre) (Event.completion (record { guest = s .args .guest; id = s .args .id }) (s .args .time)) TimeAboveCeiling (above-ceiling (s .args .gate) (s .args .guests .now) (s .args .waiting .now) (s .args .flight .now) (s .pre) (Event.completion (record { guest = s .args .guest; id = s .args .id }) (s .args .time)) (s .args .guest) (s .args .time) (completion-names _ (record { guest = s .args .guest; id = s .args .id }) (s .args .time)) (c .before .before .if1 .left) (c .before .if2 .taken)) _ (c .refused2 .ensures)
+    refused-returns (s .args .gate) (s .args .guests .now) (s .args .waiting .now) (s .args .flight .now) (s .pre) (Completion (record { guest = s .args .guest; id = s .args .id }) (s .args .time)) TimeAboveCeiling (above-ceiling (s .args .gate) (s .args .guests .now) (s .args .waiting .now) (s .args .flight .now) (s .pre) (Completion (record { guest = s .args .guest; id = s .args .id }) (s .args .time)) (s .args .guest) (s .args .time) (completion-names _ (record { guest = s .args .guest; id = s .args .id }) (s .args .time)) (c .before .before .if1 .left) (c .before .if2 .taken)) _ (c .refused2 .ensures)
 
 refused-requires-3 : tie.Need-refused-requires-3
 refused-requires-3 c κs = search needs
@@ -30,7 +30,7 @@ refused-requires-3 c κs = search needs
 returns-3 : tie.Need-returns-3
 returns-3 c =
     let s = c .before .before .before .before .before .before .before .before .before in
-    refused-returns (s .args .gate) (s .args .guests .now) (s .args .waiting .now) (s .args .flight .now) (s .pre) (Event.completion (record { guest = s .args .guest; id = s .args .id }) (s .args .time)) TimeBeforeLast (before-last (s .args .gate) (s .args .guests .now) (s .args .waiting .now) (s .args .flight .now) (s .pre) (Event.completion (record { guest = s .args .guest; id = s .args .id }) (s .args .time)) (s .args .guest) (s .args .time) (completion-names _ (record { guest = s .args .guest; id = s .args .id }) (s .args .time)) (c .before .before .before .before .if1 .left) (c .before .before .before .if2 .left) (c .before .if3 .taken)) _ (c .refused3 .ensures)
+    refused-returns (s .args .gate) (s .args .guests .now) (s .args .waiting .now) (s .args .flight .now) (s .pre) (Completion (record { guest = s .args .guest; id = s .args .id }) (s .args .time)) TimeBeforeLast (before-last (s .args .gate) (s .args .guests .now) (s .args .waiting .now) (s .args .flight .now) (s .pre) (Completion (record { guest = s .args .guest; id = s .args .id }) (s .args .time)) (s .args .guest) (s .args .time) (completion-names _ (record { guest = s .args .guest; id = s .args .id }) (s .args .time)) (c .before .before .before .before .if1 .left) (c .before .before .before .if2 .left) (c .before .if3 .taken)) _ (c .refused3 .ensures)
 
 find-flight-requires : tie.Need-find-flight-requires
 find-flight-requires c κs =
@@ -91,7 +91,7 @@ returns-5 : tie.Need-returns-5
 returns-5 c =
     let s = c .before .before .before .before .before .before .before .before .before .before .before .before .before in
     let w = c .before .before .before .find-flight in
-    refused-returns (s .args .gate) (s .args .guests .now) (s .args .waiting .now) (s .args .flight .now) (s .pre) (Event.completion (record { guest = s .args .guest; id = s .args .id }) (s .args .time)) NotInFlight
+    refused-returns (s .args .gate) (s .args .guests .now) (s .args .waiting .now) (s .args .flight .now) (s .pre) (Completion (record { guest = s .args .guest; id = s .args .id }) (s .args .time)) NotInFlight
     (absent-is (s .args .gate) (s .args .guests .now) (s .args .waiting .now) (s .args .flight .now) (s .pre) (s .args .time) (c .before .before .before .before .before .before .before .if2 .left) (c .before .before .before .before .before .if3 .left) (record { guest = s .args .guest; id = s .args .id }) (c .before .before .before .before .before .before .before .before .if1 .left) (w .result) (w .ensures) (c .before .enum-told .given .1)) _ (c .refused4 .ensures)
 
 pub complete-spec : {M : Type 1} → statement M

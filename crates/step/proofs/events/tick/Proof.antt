@@ -1,5 +1,5 @@
 use mathlib.Core.Path.{_∙_}
-use Rattle.rules.specs.Events.{Event}
+use Rattle.rules.specs.declared.Event.{Event}
 use Rattle.rules.specs.declared.Refusal.the-variants.{TimeAboveCeiling, TimeBeforeLast}
 use Rattle.step.proofs.Ticks.{tick-late, tick-early}
 use Rattle.step.proofs.EventReturns.{refused-returns, tick-asks, tick-returns}
@@ -13,7 +13,7 @@ refused-requires c κs = search needs
 returns : tie.Need-returns
 returns c =
     let s = c .before .before .before .before .before in
-    refused-returns (s .args .gate) (s .args .guests .now) (s .args .waiting .now) (s .args .flight .now) (s .pre) (Event.tick (s .args .time)) TimeAboveCeiling (tick-late (s .args .gate) (s .args .guests .now) (s .args .waiting .now) (s .args .flight .now) (s .pre) (s .args .time) (c .before .if1 .taken)) _ (c .refused .ensures)
+    refused-returns (s .args .gate) (s .args .guests .now) (s .args .waiting .now) (s .args .flight .now) (s .pre) (Tick (s .args .time)) TimeAboveCeiling (tick-late (s .args .gate) (s .args .guests .now) (s .args .waiting .now) (s .args .flight .now) (s .pre) (s .args .time) (c .before .if1 .taken)) _ (c .refused .ensures)
 
 refused-requires-2 : tie.Need-refused-requires-2
 refused-requires-2 c κs = search needs
@@ -21,7 +21,7 @@ refused-requires-2 c κs = search needs
 returns-2 : tie.Need-returns-2
 returns-2 c =
     let s = c .before .before .before .before .before .before .before in
-    refused-returns (s .args .gate) (s .args .guests .now) (s .args .waiting .now) (s .args .flight .now) (s .pre) (Event.tick (s .args .time)) TimeBeforeLast (tick-early (s .args .gate) (s .args .guests .now) (s .args .waiting .now) (s .args .flight .now) (s .pre) (s .args .time) (c .before .before .before .if1 .left) (c .before .if2 .taken)) _ (c .refused2 .ensures)
+    refused-returns (s .args .gate) (s .args .guests .now) (s .args .waiting .now) (s .args .flight .now) (s .pre) (Tick (s .args .time)) TimeBeforeLast (tick-early (s .args .gate) (s .args .guests .now) (s .args .waiting .now) (s .args .flight .now) (s .pre) (s .args .time) (c .before .before .before .if1 .left) (c .before .if2 .taken)) _ (c .refused2 .ensures)
 
 timed-requires : tie.Need-timed-requires
 timed-requires c κs = search needs
