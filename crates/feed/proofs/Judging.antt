@@ -9,9 +9,9 @@ use Rattle.rules.specs.declared.Gate.{Gate}
 use Rattle.rules.specs.declared.Refusal.the-variants.{BadEvent}
 use Rattle.rules.specs.declared.Answer.the-variants.{Refused}
 use Rattle.rules.specs.declared.Outcome.{Outcome}
-use Rattle.table.specs.View.{tableOf, Handed, handed, Known}
-use Rattle.step.specs.Does.{does}
-use Rattle.step.proofs.Lens.{known-written, handed-written}
+use Rattle.table.specs.View.{outcomeOf, tableOf, Handed, handed, Known}
+use Rattle.table.specs.Does.{does}
+use Rattle.table.proofs.Lens.{known-written, handed-written}
 use Rattle.step.proofs.After.{KnownAfter, step-known}
 use Rattle.lines.specs.Line.{lineOf, LINE}
 use Rattle.lines.specs.Put.{Put}

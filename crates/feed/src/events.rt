@@ -8,7 +8,7 @@ ghost use mathlib.Core.Path.{_≡_};
 ghost use Prim.Native.Nat.{_+_, _≤_, _<_, _^_, min};
 ghost use lib.ListN.{length, drop};
 ghost use Rattle.table.specs.View.{Known};
-ghost use Rattle.step.specs.Does.{does};
+ghost use Rattle.table.specs.Does.{does};
 ghost use Rattle.lines.specs.Line.{LINE};
 ghost use Rattle.trace.specs.Event.{eventOf};
 ghost use Rattle.trace.specs.Printed.{answered};

@@ -15,7 +15,7 @@ use Rattle.rules.specs.declared.Phase.{Phase}
 use Rattle.rules.specs.declared.Phase.the-variants.{Reservation, Weight}
 use Rattle.rules.specs.declared.Answer.{Answer}
 use Rattle.rules.specs.declared.Answer.the-variants.{Nothing, Sent, Refused}
-use Rattle.table.specs.View.{Handed}
+use Rattle.table.specs.View.{outcomeOf, Handed}
 use Rattle.gate.specs.Promise.{Seen, seen, called, opened}
 
 -- ANSWERS

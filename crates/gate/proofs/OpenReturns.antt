@@ -18,7 +18,7 @@ use Rattle.rules.specs.declared.Refusal.{Refusal}
 use Rattle.rules.specs.declared.Refusal.the-variants.{BadSetting, ShortTable}
 use Rattle.rules.specs.declared.Answer.the-variants.{Nothing}
 use Rattle.rules.specs.declared.Outcome.{Outcome}
-use Rattle.table.specs.View.{settingsForm, guestForm, handed, countable, short}
+use Rattle.table.specs.View.{gateAt, outcomeOf, settingsForm, guestForm, handed, countable, short}
 use Rattle.moves.specs.Moves.{started}
 use Rattle.moves.specs.MovesLaws.{cleared-waiting, cleared-flight}
 use Rattle.gate.specs.Promise.{seen, settingsIn, openShort, openedBy, openingAt, opened}

@@ -17,7 +17,7 @@ use Rattle.rules.proofs.Conditions.{counted-means}
 use Rattle.rules.proofs.Opening.{fresh-sound}
 use Rattle.rules.specs.declared.Answer.the-variants.{Nothing}
 use Rattle.table.specs.View.{settingsForm, handed}
-use Rattle.step.proofs.Lens.{Room, written-shown, written-known}
+use Rattle.table.proofs.Lens.{Room, written-shown, written-known}
 use Rattle.gate.specs.Promise.{settingsIn, openShort, openedBy, openingAt, opened}
 use Rattle.gate.specs.Calls.{holds, shows, firm, taken}
 use Rattle.gate.specs.Judges.{OpenRoom}

@@ -14,7 +14,7 @@ use Rattle.rules.specs.declared.Outcome.{Outcome}
 use Rattle.table.specs.View.{Handed, countable, short, soundNumbers, Known}
 use Rattle.sound.specs.Fitting.{Fitting}
 use Rattle.sound.proofs.Fitted.{fitting}
-use Rattle.step.specs.Does.{does, refusing}
+use Rattle.table.specs.Does.{does, refusing}
 use Rattle.gate.specs.Promise.{seen, unchanged, called}
 use Rattle.gate.specs.Judges.{Judges}
 use Rattle.gate.specs.declared.numbers.Judged.{Judged}

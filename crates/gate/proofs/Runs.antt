@@ -18,9 +18,9 @@ use Rattle.rules.proofs.StepSound.{step-sound}
 use Rattle.rules.proofs.Answered.{unrefused}
 use Rattle.table.specs.View.{handed, identified, short, soundNumbers, Known}
 use Rattle.sound.proofs.SoundKnown.{known-sound}
-use Rattle.step.proofs.Ids.{Brings, choice-all, enter-all}
-use Rattle.step.proofs.Enter.{narrow as shortId}
-use Rattle.step.proofs.Lens.{Room, known-room, written-shown, written-known}
+use Rattle.enter.proofs.Ids.{Brings, choice-all, enter-all}
+use Rattle.enter.proofs.Entering.{narrow as shortId}
+use Rattle.table.proofs.Lens.{Room, known-room, written-shown, written-known}
 use Rattle.gate.specs.Calls.{Host, holds, call, held, replies, shows, firm, narrow, taken}
 use Rattle.gate.proofs.Verdicts.{firm-known, known-long, short-refused, unsound-refused, known-called}
 use Rattle.gate.proofs.Refusing.{taken-is}

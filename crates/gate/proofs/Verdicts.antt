@@ -17,8 +17,8 @@ use Rattle.table.specs.View.{tableOf, countable, short, soundNumbers, Known}
 use Rattle.sound.proofs.Judged.{judged-is}
 use Rattle.sound.proofs.SoundKnown.{known-sound, sound-known}
 use Rattle.sound.proofs.Fitted.{fitting}
-use Rattle.step.specs.Does.{does}
-use Rattle.step.proofs.Enter.{refused-same}
+use Rattle.table.specs.Does.{does}
+use Rattle.enter.proofs.Entering.{refused-same}
 use Rattle.gate.specs.Promise.{unchanged, followed, judgedAt, called}
 
 module _ (g : Gate) (gs ws fs : List ℕ) where

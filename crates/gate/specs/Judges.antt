@@ -9,7 +9,7 @@ use Rattle.rules.specs.declared.Gate.{Gate}
 use Rattle.rules.specs.declared.Answer.the-variants.{Refused}
 use Rattle.rules.specs.declared.Outcome.{Outcome}
 use Rattle.rules.specs.declared.Refusal.{Refusal}
-use Rattle.table.specs.View.{Known}
+use Rattle.table.specs.View.{gateAt, outcomeOf, Known}
 use Rattle.gate.specs.Promise.{unchanged, called, unopened, openingAt}
 use Rattle.gate.specs.declared.numbers.Judged.{Judged}
 use Rattle.gate.specs.declared.numbers.Judged.the-variants.{Good, Bad}

@@ -17,7 +17,7 @@ use Rattle.rules.specs.Run.{fresh}
 use Rattle.rules.specs.declared.Gate.{Gate}
 use Rattle.rules.specs.declared.Answer.{Answer}
 use Rattle.rules.specs.declared.Answer.the-variants.{Nothing, Refused}
-use Rattle.table.specs.View.{settingsForm, tableOf, Handed, handed, short, soundNumbers}
+use Rattle.table.specs.View.{gateAt, outcomeOf, settingsForm, tableOf, Handed, handed, short, soundNumbers}
 
 -- all that a caller sees of a call: the gate, the answer as the paper shows it, and the three tables
 abbrev pub Seen : Type 0

@@ -8,7 +8,7 @@ use Rattle.rules.specs.declared.Phase.{Phase}
 use Rattle.rules.specs.declared.Phase.the-variants.{Reservation, Weight}
 use Rattle.rules.specs.declared.Answer.{Answer}
 use Rattle.rules.specs.declared.Answer.the-variants.{Nothing, Sent, Refused}
-use Rattle.table.specs.View.{Handed}
+use Rattle.table.specs.View.{gateAt, Handed}
 use Rattle.host.specs.declared.Reply.{Reply}
 
 -- the kind of a send: 1 by reservation, 2 by weight

@@ -24,7 +24,7 @@ use Rattle.rules.specs.declared.Answer.{Answer}
 use Rattle.rules.specs.declared.Answer.the-variants.{Nothing, Refused}
 use Rattle.rules.specs.declared.Refusal.the-variants.{BadSetting, ShortTable, Unsound}
 use Rattle.table.specs.View as view
-use Rattle.table.specs.View.{guestsOf, waitingOf, flightsOf, countable, soundNumbers, identified, zeroed}
+use Rattle.table.specs.View.{outcomeOf, guestsOf, waitingOf, flightsOf, countable, soundNumbers, identified, zeroed}
 use Rattle.gate.specs.Promise as numbers
 use Rattle.rules.proofs.Conditions.{counted-means}
 use Rattle.gate.specs.Promise.{settingsIn, unopened}

@@ -9,6 +9,7 @@ use Rattle.rules.specs.declared.Guest.{Guest}
 use Rattle.rules.specs.declared.Gate.{Gate}
 use Rattle.gate.proofs.Once.{shown-once}
 use Rattle.records.specs.Promise.{Handed, Seen, seen, called, opened}
+use Rattle.table.specs.View.{outcomeOf}
 
 -- two outcomes of which a caller sees the same are equal
 pub seen-once : (h k : Handed) → seen h ≡ seen k → h ≡ k

@@ -23,7 +23,7 @@ use Rattle.rules.specs.declared.Gate.{Gate}
 use Rattle.rules.specs.declared.Outcome.{Outcome}
 use Rattle.rules.specs.declared.Answer.{Answer}
 use Rattle.rules.specs.declared.Answer.the-variants.{Nothing, Refused}
-use Rattle.table.specs.View.{requestForm, flightForm, waitingOf, flightsOf, gateOf, countable, identified, zeroed}
+use Rattle.table.specs.View.{outcomeOf, requestForm, flightForm, waitingOf, flightsOf, gateOf, countable, identified, zeroed}
 use Rattle.gate.specs.Promise.{settingsIn, unopened}
 use Rattle.records.specs.Records.{guestOf, recordOf, blank}
 

@@ -15,10 +15,10 @@ use Rattle.rules.proofs.SameSettings.{SameSettings, step-settings}
 use Rattle.rules.proofs.StepSound.{accepted-step, refused-keeps, step-sound}
 use Rattle.rules.specs.declared.Gate.{Gate}
 use Rattle.table.specs.View.{tableOf, Handed, handed, identified, Known}
-use Rattle.step.specs.Does.{does}
-use Rattle.step.proofs.Lens.{written-shown, written-known, known-room}
-use Rattle.step.proofs.Ids.{Brings, choice-all, enter-all}
-use Rattle.step.proofs.Enter.{narrow}
+use Rattle.table.specs.Does.{does}
+use Rattle.table.proofs.Lens.{written-shown, written-known, known-room}
+use Rattle.enter.proofs.Ids.{Brings, choice-all, enter-all}
+use Rattle.enter.proofs.Entering.{narrow}
 
 -- what a call handed back is known
 abbrev pub KnownAfter : Handed → Type 0

@@ -1,3 +1,4 @@
 pub mod View
 pub mod ViewLaws
+pub mod Does
 pub mod Stamp

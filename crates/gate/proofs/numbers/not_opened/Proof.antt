@@ -5,6 +5,7 @@ use Rattle.rules.specs.declared.Outcome.{Outcome}
 use borrow.Author.Needs.{needs}
 use Rattle.gate.proofs.numbers.not_opened.Statement.{statement}
 use Rattle.gate.proofs.numbers.not_opened.Tie as tie
+use Rattle.table.specs.View.{outcomeOf}
 
 fresh-gate-requires : tie.Need-fresh-gate-requires
 fresh-gate-requires c κs = search needs
