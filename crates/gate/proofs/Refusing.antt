@@ -8,14 +8,14 @@ use native.Mathlib.Omega.{arith}
 use lib.ListN.{getD}
 use borrow.Author.Tests.{not-false}
 use Rattle.lists.specs.WordsLaws.{both}
-use Rattle.rules.specs.Tables.{Flight, Table}
+use Rattle.rules.specs.Tables.{Table}
 use Rattle.rules.specs.Answers.{Printed, shown}
 use Rattle.rules.specs.Sound.{sound}
 use Rattle.rules.specs.Choice.{choice}
-use Rattle.rules.specs.Events.{Arriving, Event, arrival, completion, tick, enter}
+use Rattle.rules.specs.Events.{Event, enter}
 use Rattle.rules.specs.Refusals.{Verdict, accept, refuse, isAccept}
-use Rattle.rules.specs.Refused.{ArrivalRefused, CompletionRefused, TickRefused, OpeningRefused}
-use Rattle.rules.proofs.Refused.{Tells, arrival-refused, completion-refused, tick-refused, opening-refused}
+use Rattle.rules.specs.Refused.{RefusedExactly, callCases, openCases}
+use Rattle.rules.proofs.Refused.{Tells, exactly, call-tested, open-tested}
 use Rattle.rules.proofs.Answered.{isRefused, unrefused}
 use Rattle.rules.proofs.Trials.{X}
 use Rattle.rules.specs.declared.Gate.{Gate}
@@ -108,21 +108,14 @@ module _ (g : Gate) (gs ws fs : List ℕ) where
       both (sound t) (identified t) (b .0) .0
 
   -- Each number of an arrival, a completion and a tick is given exactly where document 01 says.
-  pub arrive-exactly : (a : Arriving) (now : ℕ) → ArrivalRefused (short g gs ws fs) (not (soundNumbers g gs ws fs)) t a now (Numbers (called (arrival a now) g gs ws fs)) (Accepts (called (arrival a now) g gs ws fs))
+  pub called-exactly : (e : Event) → RefusedExactly (callCases (short g gs ws fs) (not (soundNumbers g gs ws fs)) t e) (Numbers (called e g gs ws fs)) (Accepts (called e g gs ws fs))
   unfolding judgedAt
-  arrive-exactly a now = arrival-refused (short g gs ws fs) (not (soundNumbers g gs ws fs)) t now (Numbers (called (arrival a now) g gs ws fs)) (Accepts (called (arrival a now) g gs ws fs)) a honest (told (arrival a now))
-
-  pub complete-exactly : (f : Flight) (now : ℕ) → CompletionRefused (short g gs ws fs) (not (soundNumbers g gs ws fs)) t f now (Numbers (called (completion f now) g gs ws fs)) (Accepts (called (completion f now) g gs ws fs))
-  unfolding judgedAt
-  complete-exactly f now = completion-refused (short g gs ws fs) (not (soundNumbers g gs ws fs)) t now (Numbers (called (completion f now) g gs ws fs)) (Accepts (called (completion f now) g gs ws fs)) f (told (completion f now))
-
-  pub tick-exactly : (now : ℕ) → TickRefused (short g gs ws fs) (not (soundNumbers g gs ws fs)) t now (Numbers (called (tick now) g gs ws fs)) (Accepts (called (tick now) g gs ws fs))
-  unfolding judgedAt
-  tick-exactly now = tick-refused (short g gs ws fs) (not (soundNumbers g gs ws fs)) t now (Numbers (called (tick now) g gs ws fs)) (Accepts (called (tick now) g gs ws fs)) (told (tick now))
+  called-exactly e = exactly (call-tested (short g gs ws fs) (not (soundNumbers g gs ws fs)) t e honest) (told e)
 
 -- And of an opening.
-pub open-exactly : (d n c : ℕ) (ss gs ws fs : List ℕ) → OpeningRefused (openShort d n c ss gs ws fs) d n c (settingsIn ss n) (Numbers (opened d n c ss gs ws fs)) (Accepts (opened d n c ss gs ws fs))
+pub open-exactly : (d n c : ℕ) (ss gs ws fs : List ℕ)
+    → RefusedExactly (openCases (openShort d n c ss gs ws fs) d n c (settingsIn ss n)) (Numbers (opened d n c ss gs ws fs)) (Accepts (opened d n c ss gs ws fs))
 unfolding opened openingAt
 open-exactly d n c ss gs ws fs =
-    opening-refused (openShort d n c ss gs ws fs) d n c (settingsIn ss n) (Numbers (opened d n c ss gs ws fs)) (Accepts (opened d n c ss gs ws fs))
+    exactly (open-tested (openShort d n c ss gs ws fs) d n c (settingsIn ss n))
     (tells (λ v. openedBy v d n c ss gs ws fs) (opened-taken d n c ss gs ws fs) (λ r. refl) (openingAt d n c ss gs ws fs))

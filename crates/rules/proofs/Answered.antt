@@ -11,16 +11,16 @@ use Rattle.rules.specs.Tables.{Table}
 use Rattle.rules.specs.Answers.{Printed, shown}
 use Rattle.rules.specs.Sound.{sound}
 use Rattle.rules.specs.Choice.{choice}
-use Rattle.rules.specs.Events.{Event, arrival, completion, tick, enter}
+use Rattle.rules.specs.Events.{Event, enter}
 use Rattle.rules.specs.Refusals.{Verdict, accept, refuse, verdict, isAccept, accepted}
-use Rattle.rules.specs.Refused.{ArrivalRefused, CompletionRefused, TickRefused}
+use Rattle.rules.specs.Refused.{RefusedExactly, callCases}
 use Rattle.rules.specs.Run.{decided, step}
 use Rattle.rules.specs.declared.Phase.the-variants.{Reservation, Weight}
 use Rattle.rules.specs.declared.Answer.{Answer}
 use Rattle.rules.specs.declared.Answer.the-variants.{Nothing, Sent, Refused}
 use Rattle.rules.proofs.Trials.{X}
 use Rattle.rules.proofs.Judged.{Gives}
-use Rattle.rules.proofs.Refused.{Tells, arrival-refused, completion-refused, tick-refused}
+use Rattle.rules.proofs.Refused.{Tells, exactly, call-tested}
 use Rattle.rules.proofs.Cases.{choice-by}
 
 -- the answer is a refusal
@@ -57,20 +57,9 @@ accepted-is (refuse r) = (λ h. absurd (false≢true h), λ h. ap isAccept h)
 abbrev pub Prints : Table → Event → ℕ → Type 0
 Prints t e n = shown (step t e .answer) ≡ X n
 
--- what the refusals of an event at a table are, as they are printed
-abbrev pub RefusedExactly : Table → Event → Type 0
-RefusedExactly t (arrival a now) = ArrivalRefused false (not (sound t)) t a now (Prints t (arrival a now)) (accepted t (arrival a now) ≡ true)
-RefusedExactly t (completion f now) = CompletionRefused false (not (sound t)) t f now (Prints t (completion f now)) (accepted t (completion f now) ≡ true)
-RefusedExactly t (tick now) = TickRefused false (not (sound t)) t now (Prints t (tick now)) (accepted t (tick now) ≡ true)
-
 tells : (t : Table) (e : Event) → Tells (verdict t e) (Prints t e) (accepted t e ≡ true)
 tells t e = record { number = step-shows t e; accepting = accepted-is (verdict t e) }
 
 -- each number is printed exactly where its condition holds and no earlier one of that event's list does
-pub refused-exactly : (t : Table) (e : Event) → RefusedExactly t e
-refused-exactly t (arrival a now) =
-    arrival-refused false (not (sound t)) t now (Prints t (arrival a now)) (accepted t (arrival a now) ≡ true) a (not-false (sound t)) (tells t (arrival a now))
-refused-exactly t (completion f now) =
-    completion-refused false (not (sound t)) t now (Prints t (completion f now)) (accepted t (completion f now) ≡ true) f (tells t (completion f now))
-refused-exactly t (tick now) =
-    tick-refused false (not (sound t)) t now (Prints t (tick now)) (accepted t (tick now) ≡ true) (tells t (tick now))
+pub refused-exactly : (t : Table) (e : Event) → RefusedExactly (callCases false (not (sound t)) t e) (Prints t e) (accepted t e ≡ true)
+refused-exactly t e = exactly (call-tested false (not (sound t)) t e (not-false (sound t))) (tells t e)
