@@ -19,11 +19,12 @@ use Rattle.rules.specs.Refusals.{tests, eventTests, accepted}
 use Rattle.rules.specs.Run.{step}
 use Rattle.rules.specs.Turn.{sorted, findsRoom, atFree, sentByReservation, InTurn}
 use Rattle.rules.proofs.Judged.{passed}
+use Rattle.rules.proofs.Answered.{step-taken}
 use Rattle.rules.proofs.Demand3.{demand-3, demand-3-at}
 use Rattle.rules.specs.declared.Answer.the-variants.{Nothing}
 use Rattle.table.specs.View.{requestForm, flightForm}
 use Rattle.gate.specs.Calls.{Host, holds, call, shows, firm, narrow, taken, finds, freeReplies, standing, dueThere, aheadOf}
-use Rattle.gate.proofs.Runs.{Holds, firm-holds, holds-firm, step-taken, call-answers, call-shows, call-holds}
+use Rattle.gate.proofs.Runs.{Holds, firm-holds, holds-firm, call-answers, call-shows, call-holds}
 
 -- THE EVENTS THAT FIND A PLACE FREE
 

@@ -80,8 +80,8 @@ passed (c ∷ cs) h n = go (c .holds) refl (λ k. passed cs k n)
         let r = k (rw e at h) in
         rw (e, r) (elim (eqb (numberOf (c .refusal)) n) as (λ b. (if b then false else false) ≡ false) [ true ↦ refl | false ↦ refl ])
 
--- and none of what stands behind
-pub passed-behind : (cs : List Test) → isAccept (judged cs) ≡ true → (n : ℕ) → isAccept (judged (behind n cs)) ≡ true
+-- what stands behind is accepted
+passed-behind : (cs : List Test) → isAccept (judged cs) ≡ true → (n : ℕ) → isAccept (judged (behind n cs)) ≡ true
 passed-behind [] h n = refl
 passed-behind (c ∷ cs) h n = go (c .holds) refl (λ k. passed-behind cs k n)
   where
@@ -91,6 +91,10 @@ passed-behind (c ∷ cs) h n = go (c .holds) refl (λ k. passed-behind cs k n)
     go false e k =
         let here : isAccept (judged cs) ≡ true = rw e at h in
         elim (eqb (numberOf (c .refusal)) n) as (λ b. isAccept (judged (if b then cs else behind n cs)) ≡ true) [ true ↦ here | false ↦ k here ]
+
+-- so neither does that of the second test that has number n
+pub passed-again : (cs : List Test) → isAccept (judged cs) ≡ true → (n : ℕ) → condition n (behind n cs) ≡ false
+passed-again cs h n = passed (behind n cs) (passed-behind cs h n) n
 
 -- A LIST OF TESTS AND A LIST OF CASES
 

@@ -15,7 +15,7 @@ use Rattle.lists.specs.Tab.{tab, tab-snoc}
 use Rattle.rules.specs.Answers.{numberOf}
 use Rattle.rules.specs.Sound.{counted, settled}
 use Rattle.rules.specs.Refusals.{Verdict, accept, refuse, judged, isAccept}
-use Rattle.rules.proofs.Judged.{behind, passed, passed-behind}
+use Rattle.rules.proofs.Judged.{passed, passed-again}
 use Rattle.trace.specs.Header.{same, depthOf, guestsOf, capacityOf, body, settingsIn, headerTests, headerOf}
 use Rattle.trace.specs.declared.Header.the-variants.{Opened, Refused}
 
@@ -82,7 +82,7 @@ unfolding headerTests
 opens bs e =
     let ok : isAccept (judged (headerTests bs)) ≡ true = ap isAccept e in
     let no = passed (headerTests bs) ok in
-    let again = λ (n : ℕ). passed (behind n (headerTests bs)) (passed-behind (headerTests bs) ok n) n in
+    let again = passed-again (headerTests bs) ok in
     record {
       depthIs = refl;
       guestsIs = refl;
