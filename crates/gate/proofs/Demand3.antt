@@ -2,7 +2,7 @@
 -- of calls. Stated over a list of events and the numbers of the tables. Assumes nothing.
 use Prim.Native.Nat.{ℕ, suc, _<_}
 use mathlib.Core.Path.{_≡_, refl, sym, ap, _∙_}
-use mathlib.Core.Bool.{Bool, true, false, _&&_}
+use mathlib.Core.Bool.{Bool, true, false, not, _&&_}
 use mathlib.Core.List.{List, [], _∷_, _++_, List·Permᴰ}
 use native.Mathlib.Omega.{arith}
 use lib.Dec.{ltb}
@@ -12,20 +12,21 @@ use Rattle.lists.specs.Words.{if_then_else_, all}
 use Rattle.lists.specs.WordsLaws.{both, length-without-one}
 use Rattle.lists.specs.RowsLaws.{length-rows, row-at}
 use Rattle.rules.specs.Tables.{Request, Table, idle, same}
+use Rattle.rules.specs.Sound.{sound}
 use Rattle.rules.specs.Choice.{room}
 use Rattle.rules.specs.Events.{enter, arrive, arriveAs, placed, adjusted, complete, wait}
 use Rattle.rules.specs.declared.Event.{Event}
 use Rattle.rules.specs.declared.Event.the-variants.{Arrival, Completion, Tick}
-use Rattle.rules.specs.Refusals.{accepted}
+use Rattle.rules.specs.Refusals.{tests, eventTests, accepted}
 use Rattle.rules.specs.Run.{step}
 use Rattle.rules.specs.Turn.{sorted, findsRoom, atFree, sentByReservation, InTurn}
-use Rattle.rules.proofs.Answered.{refused-exactly}
-use Rattle.rules.proofs.Conditions.{lacking}
+use Rattle.rules.proofs.Judged.{passed}
+use Rattle.rules.proofs.Answered.{step-taken}
 use Rattle.rules.proofs.Demand3.{demand-3, demand-3-at}
 use Rattle.rules.specs.declared.Answer.the-variants.{Nothing}
 use Rattle.table.specs.View.{requestForm, flightForm}
 use Rattle.gate.specs.Calls.{Host, holds, call, shows, firm, narrow, taken, finds, freeReplies, standing, dueThere, aheadOf}
-use Rattle.gate.proofs.Runs.{Holds, firm-holds, holds-firm, step-taken, call-answers, call-shows, call-holds}
+use Rattle.gate.proofs.Runs.{Holds, firm-holds, holds-firm, call-answers, call-shows, call-holds}
 
 -- THE EVENTS THAT FIND A PLACE FREE
 
@@ -44,13 +45,12 @@ module _ (h : Host) where
 
   -- an accepted event finds a place free where the gate says so
   finds-room : (e : Event) → accepted t e ≡ true → finds e (h .gate) ≡ room (enter t e)
-  unfolding room enter arrive arriveAs placed complete wait
+  unfolding room enter arrive arriveAs placed complete wait eventTests
   finds-room (Arrival a now) c =
       let d = adjusted-flight (idle t (a .guest)) now t in
-      λ i. ltb (sym (ap length (d .0) ∙ flying) i) (sym (ap (λ s. s .setup .depth) (d .1)) i)
+      λ i. ltb (sym (ap length (d .0) ∙ flying) i) (sym (ap (λ s. s .depth) (d .1)) i)
   finds-room (Completion f now) c =
-      let m = refused-exactly t (Completion f now) .no-number .0 c .5 in
-      let l = length-without-one (same f) (t .flight) (lacking f (t .flight) .fails .1 m) in
+      let l = length-without-one (same f) (t .flight) (passed (tests false (not (sound t)) t (Completion f now)) c 10) in
       ap (λ (n : ℕ). ltb n (h .gate .setup .depth)) (omega (arith, l, flying))
   finds-room (Tick now) c = ap (λ (n : ℕ). ltb n (h .gate .setup .depth)) (sym flying)
 

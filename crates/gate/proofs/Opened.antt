@@ -6,13 +6,14 @@ use mathlib.Core.Bool.{true, false, _||_, true≢false}
 use mathlib.Core.List.{List}
 use lib.Dec.{ltb}
 use lib.ListN.{length}
-use borrow.Author.Tests.{ltb-false}
+use borrow.Author.Tests.{ltb-false, not-false}
 use Rattle.lists.specs.WordsLaws.{neither}
 use Rattle.lists.specs.RowsLaws.{length-rows}
 use Rattle.rules.specs.Tables.{Table}
 use Rattle.rules.specs.Sound.{counted, sound}
-use Rattle.rules.specs.Refusals.{Verdict, accept, refuse}
+use Rattle.rules.specs.Refusals.{Verdict, accept, refuse, isAccept, openTests}
 use Rattle.rules.specs.Run.{fresh}
+use Rattle.rules.proofs.Judged.{passed}
 use Rattle.rules.proofs.Conditions.{counted-means}
 use Rattle.rules.proofs.Opening.{fresh-sound}
 use Rattle.rules.specs.declared.Answer.the-variants.{Nothing}
@@ -22,7 +23,6 @@ use Rattle.gate.specs.Promise.{settingsIn, openShort, openedBy, openingA
 use Rattle.gate.specs.Calls.{holds, shows, firm, taken}
 use Rattle.gate.specs.Judges.{OpenRoom}
 use Rattle.gate.proofs.Beyond.{fresh-sized}
-use Rattle.gate.proofs.Refusing.{open-exactly}
 use Rattle.gate.proofs.Runs.{Holds, holds-firm}
 
 module _ (d n c : ℕ) (ss gs ws fs : List ℕ) where
@@ -67,11 +67,11 @@ module _ (d n c : ℕ) (ss gs ws fs : List ℕ) where
 
   -- what an accepted opening leaves
   pub opened-firm : taken (opened d n c ss gs ws fs .0 .answer) ≡ true → (firm (holds (opened d n c ss gs ws fs)) ≡ true) × (shows (holds (opened d n c ss gs ws fs)) ≡ fresh d c (settingsIn ss n))
-  unfolding opened
+  unfolding opened openingAt openTests
   opened-firm a =
       let ok : openingAt d n c ss gs ws fs ≡ accept = accepting (openingAt d n c ss gs ws fs) refl in
-      let f = open-exactly d n c ss gs ws fs .no-number .0 a in
-      let s = open-long (counted-means d n c .holds .1 (f .0)) (f .1) in
+      let no = passed (openTests (openShort d n c ss gs ws fs) d n c (settingsIn ss n)) (ap isAccept ok) in
+      let s = open-long (not-false (counted d n c) (no 1)) (no 2) in
       (holds-firm (holds (opened d n c ss gs ws fs)) (known-fresh ok s), shown-fresh ok s)
     where
       accepting : (v : Verdict) → openingAt d n c ss gs ws fs ≡ v → v ≡ accept

@@ -9,10 +9,11 @@ use Rattle.rules.specs.Tables.{Table}
 use Rattle.rules.specs.declared.Event.{Event}
 use Rattle.rules.specs.Order.{waits, brings, sends, left}
 use Rattle.rules.proofs.InOrder.{step-waits}
+use Rattle.rules.proofs.Answered.{step-taken}
 use Rattle.rules.specs.declared.Answer.{Answer}
 use Rattle.rules.specs.declared.Answer.the-variants.{Nothing, Sent, Refused}
 use Rattle.gate.specs.Calls.{Host, holds, call, held, replies, shows, firm, taken, took}
-use Rattle.gate.proofs.Runs.{firm-holds, step-taken, call-answers, call-shows, infirm-call}
+use Rattle.gate.proofs.Runs.{firm-holds, call-answers, call-shows, infirm-call}
 
 -- a refusal sends nothing
 refused-sends : (n : ℕ) (a : Answer) → taken a ≡ false → sends n a ≡ []

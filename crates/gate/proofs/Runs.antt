@@ -7,15 +7,14 @@ use Rattle.lists.specs.Words.{all}
 use Rattle.lists.specs.WordsLaws.{both, join}
 use Rattle.rules.specs.Tables.{Table}
 use Rattle.rules.specs.Sound.{sound}
-use Rattle.rules.specs.Choice.{Result, choice}
+use Rattle.rules.specs.Choice.{Result}
 use Rattle.rules.specs.Events.{enter}
 use Rattle.rules.specs.declared.Event.{Event}
 use Rattle.rules.specs.declared.Event.the-variants.{Arrival, Completion, Tick}
-use Rattle.rules.specs.Refusals.{Verdict, accept, refuse, verdict, isAccept, accepted}
+use Rattle.rules.specs.Refusals.{Verdict, accept, refuse, verdict}
 use Rattle.rules.specs.Run.{decided, step, after, answers}
 use Rattle.rules.proofs.SameSettings.{step-settings}
 use Rattle.rules.proofs.StepSound.{step-sound}
-use Rattle.rules.proofs.Answered.{unrefused}
 use Rattle.table.specs.View.{handed, identified, short, soundNumbers, Known}
 use Rattle.sound.proofs.SoundKnown.{known-sound}
 use Rattle.enter.proofs.Ids.{Brings, choice-all, enter-all}
@@ -23,7 +22,6 @@ use Rattle.enter.proofs.Entering.{narrow as shortId}
 use Rattle.table.proofs.Lens.{Room, known-room, written-shown, written-known}
 use Rattle.gate.specs.Calls.{Host, holds, call, held, replies, shows, firm, narrow, taken}
 use Rattle.gate.proofs.Verdicts.{firm-known, known-long, short-refused, unsound-refused, known-called}
-use Rattle.gate.proofs.Refusing.{taken-is}
 
 -- what a host holds is known
 abbrev pub Holds : Host → Type 0
@@ -39,15 +37,6 @@ pub holds-firm : (h : Host) → Holds h → firm h ≡ true
 holds-firm h k = join (ap not (known-long (h .gate) (h .guests) (h .waiting) (h .flight) k)) (known-sound (h .gate) (h .guests) (h .waiting) (h .flight) k)
 
 -- ONE STEP
-
--- the event is accepted exactly where the answer is no refusal
-pub step-taken : (t : Table) (e : Event) → taken (step t e .answer) ≡ accepted t e
-unfolding step decided
-step-taken t e = go (verdict t e)
-  where
-    go : (v : Verdict) → taken (decided v t e .answer) ≡ isAccept v
-    go accept = taken-is (choice (enter t e) .answer) (unrefused (enter t e))
-    go (refuse r) = refl
 
 -- an id of 32 bits is brought
 narrow-brings : (e : Event) → narrow e ≡ true → Brings shortId e

@@ -1,19 +1,19 @@
 -- A run of calls, each handed what the last one left, in the calls' own numbers: what proofs/Runs.antt, Order.antt and Demand3.antt speak of.
 use Prim.Native.Nat.{ℕ, suc, _-_}
-use mathlib.Core.Bool.{Bool, true, false, not, _&&_}
+use mathlib.Core.Bool.{Bool, true, not, _&&_}
 use mathlib.Core.List.{List, [], _∷_, _++_}
 use lib.Dec.{ltb}
 use lib.ListN.{take, drop}
 use Rattle.lists.specs.Words.{if_then_else_}
 use Rattle.lists.specs.Lines.{lineAt}
 use Rattle.rules.specs.Tables.{Request, Table}
+pub use Rattle.rules.specs.Answers.{taken}
 use Rattle.rules.specs.declared.Event.{Event}
 use Rattle.rules.specs.declared.Event.the-variants.{Arrival, Completion, Tick}
 use Rattle.rules.specs.Order.{brings}
 use Rattle.rules.specs.Turn.{isDue, ahead}
 use Rattle.rules.specs.declared.Gate.{Gate}
 use Rattle.rules.specs.declared.Answer.{Answer}
-use Rattle.rules.specs.declared.Answer.the-variants.{Nothing, Sent, Refused}
 use Rattle.table.specs.View.{requestForm, tableOf, Handed, short, soundNumbers}
 use Rattle.gate.specs.Promise.{called}
 
@@ -55,12 +55,6 @@ abbrev pub narrow : Event → Bool
 narrow (Arrival a now) = ltb (a .id) 4294967296
 narrow (Completion f now) = true
 narrow (Tick now) = true
-
--- the answer is no refusal
-abbrev pub taken : Answer → Bool
-taken Nothing = true
-taken (Sent p n i) = true
-taken (Refused r) = false
 
 -- ORDER of acceptance, read off the events and the answers alone
 
