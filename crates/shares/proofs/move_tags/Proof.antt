@@ -4,13 +4,14 @@ use mathlib.Core.Path.{_≡_, refl, ap, _∙_}
 use native.Mathlib.Omega.{arith}
 use lib.ListN.{length, length-set}
 use Rattle.lists.specs.Stores.{stores}
+use Rattle.table.specs.Columns.{mostGuests}
 use Rattle.shares.specs.Shares.{Marked, movedTags}
 use Rattle.shares.specs.SharesLaws.{marked-none, marked-next, tags-guest, tags-read, tags-next}
 use Rattle.shares.proofs.move_tags.Statement.{statement}
 use Rattle.shares.proofs.move_tags.Tie as tie
 
 abbrev Inv-loop : tie.InvT-loop
-Inv-loop waiting₀ count time m busy₀ i₀ waiting busy i = (i ≤ count) × (length waiting ≡ length waiting₀) × (64 ≤ length busy) × (waiting ≡ movedTags time m waiting₀ i) × Marked waiting₀ i busy₀ busy
+Inv-loop waiting₀ count time m busy₀ i₀ waiting busy i = (i ≤ count) × (length waiting ≡ length waiting₀) × (mostGuests ≤ length busy) × (waiting ≡ movedTags time m waiting₀ i) × Marked waiting₀ i busy₀ busy
 
 abbrev μ-loop : tie.MeasureT-loop
 μ-loop waiting₀ count time m busy₀ i₀ waiting busy i = count - i
