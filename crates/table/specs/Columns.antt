@@ -1,4 +1,4 @@
--- Where each number stands in its row, how many numbers a row has, and how many rows a table has at most: the names of src/columns.rt.
+-- Where each number stands in its row, how many numbers a row has, and how large a table may be: the constants of src/columns.rt.
 use Prim.Native.Nat.{ℕ, _+_, _*_}
 use mathlib.Core.List.{List}
 use lib.ListN.{getD}
@@ -33,7 +33,7 @@ SNEXT = 5
 abbrev pub guestWide : ℕ
 guestWide = 6
 
--- how many its settings have in a list of settings: the first of a guest's
+-- how many its settings have in a list of settings
 abbrev pub settingsWide : ℕ
 settingsWide = 3
 
@@ -80,6 +80,22 @@ mostDepth = 64
 -- the most waiting places
 abbrev pub mostCapacity : ℕ
 mostCapacity = 1024
+
+-- how many numbers the largest guest table has
+abbrev pub guestsLong : ℕ
+guestsLong = mostGuests * guestWide
+
+-- the largest list of settings
+abbrev pub settingsLong : ℕ
+settingsLong = mostGuests * settingsWide
+
+-- the largest waiting table
+abbrev pub waitingLong : ℕ
+waitingLong = mostCapacity * waitingWide
+
+-- the largest flight table
+abbrev pub flightLong : ℕ
+flightLong = mostDepth * flightWide
 
 -- A NUMBER of a row
 

@@ -28,7 +28,7 @@ abbrev pub guestForm : Form Guest
 guestForm =
     record {
       wide = guestWide;
-      read = λ v. record { settings = settingsForm .read v; rnext = getD v RNEXT 0; lnext = getD v LNEXT 0; snext = getD v SNEXT 0 };
+      read = λ v. record { settings = record { reservation = getD v RESERVATION 0; limit = getD v LIMIT 0; shares = getD v SHARES 0 }; rnext = getD v RNEXT 0; lnext = getD v LNEXT 0; snext = getD v SNEXT 0 };
       line = λ h. h .settings .reservation ∷ h .settings .limit ∷ h .settings .shares ∷ h .rnext ∷ h .lnext ∷ h .snext ∷ [];
     }
 

@@ -1,5 +1,5 @@
-// Where each number stands in its row, how many numbers a row has, and how many rows a table has at most. Columns.antt in specs/ has the same
-// names for the contracts.
+// Where each number stands in its row, how many numbers a row has, and how large a table may be. Columns.antt in specs/ has these names for the
+// contracts.
 
 // A guest's reservation.
 pub const RESERVATION: usize = 0;
@@ -22,7 +22,7 @@ pub const SNEXT: usize = 5;
 // The numbers of a guest.
 pub const GUEST_WIDE: usize = 6;
 
-// The numbers of a guest's settings in a list of settings: the first of a guest's.
+// The numbers of a guest's settings in a list of settings.
 pub const SETTINGS_WIDE: usize = 3;
 
 // Whose a request is, waiting or in flight.
@@ -46,11 +46,23 @@ pub const STAG: usize = 4;
 // The numbers of a waiting request.
 pub const WAITING_WIDE: usize = 5;
 
-// The most guests, and so the most rows of a guest table.
+// The most guests.
 pub const MOST_GUESTS: usize = 64;
 
-// The most places at the array, and so the most rows of a flight table.
+// The most places at the array.
 pub const MOST_DEPTH: usize = 64;
 
-// The most waiting places, and so the most rows of a waiting table.
+// The most waiting places.
 pub const MOST_CAPACITY: usize = 1024;
+
+// The numbers of the largest guest table.
+pub const GUESTS_LONG: usize = MOST_GUESTS * GUEST_WIDE;
+
+// The numbers of the largest list of settings.
+pub const SETTINGS_LONG: usize = MOST_GUESTS * SETTINGS_WIDE;
+
+// The numbers of the largest waiting table.
+pub const WAITING_LONG: usize = MOST_CAPACITY * WAITING_WIDE;
+
+// The numbers of the largest flight table.
+pub const FLIGHT_LONG: usize = MOST_DEPTH * FLIGHT_WIDE;
