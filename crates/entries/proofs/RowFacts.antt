@@ -18,7 +18,6 @@ use Rattle.table.specs.Columns.{RESERVATION, LIMIT, SHARES, GUEST, ID, RTAG, gu
 use Rattle.table.specs.View.{guestForm, requestForm, guestsOf, waitingOf}
 use Rattle.entries.specs.Tests.{settingsAre, settledGuest, named}
 use Rattle.entries.specs.Kinds.{Tested}
-use Rattle.entries.proofs.Records.{guest-is, waiting-is}
 
 -- the tag of a kind of a request
 abbrev pub tagOf : ℕ → Request → ℕ
@@ -47,7 +46,7 @@ module _ (gs : List ℕ) (known : ℕ) (ws : List ℕ) (count : ℕ) (t : Tested
   pub in-range : (g : ℕ) → g < known → Good (settingsAre (guestAt gs g RESERVATION) (guestAt gs g LIMIT) (guestAt gs g SHARES))
   in-range g h =
       settled-good (settingsAre (guestAt gs g RESERVATION) (guestAt gs g LIMIT) (guestAt gs g SHARES)) .0
-      (sym (guest-is gs known g h) ∙ all-at settledGuest (guestsOf gs known) (guestForm .read []) (t .isSettled) g (omega (arith, length-rows guestForm gs known)))
+      (sym (ap settledGuest (row-at guestForm gs known g h)) ∙ all-at settledGuest (guestsOf gs known) (guestForm .read []) (t .isSettled) g (omega (arith, length-rows guestForm gs known)))
 
   -- each is small
   pub setting-low : (kind g : ℕ) → kind ≤ SHARES → g < known → guestAt gs g kind ≤ 1000000
@@ -61,7 +60,7 @@ module _ (gs : List ℕ) (known : ℕ) (ws : List ℕ) (count : ℕ) (t : Tested
   guest-known i h =
       ltb-true (waitingAt ws i GUEST) known
       (both (ltb (waitingAt ws i GUEST) known) (ltb (waitingAt ws i ID) 4294967296)
-      (sym (waiting-is ws count i h known) ∙ all-at (λ q. named known (name q)) (waitingOf ws count) (requestForm .read []) (t .isNamed) i (omega (arith, length-rows requestForm ws count)))
+      (sym (ap (λ (q : Request). named known (name q)) (row-at requestForm ws count i h)) ∙ all-at (λ q. named known (name q)) (waitingOf ws count) (requestForm .read []) (t .isNamed) i (omega (arith, length-rows requestForm ws count)))
       .0)
 
   -- its tags are at most the ceiling

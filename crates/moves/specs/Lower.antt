@@ -1,6 +1,6 @@
 -- The pass that lowers the reservation tags of a guest: what one turn reads and leaves, and that nothing drops without a reservation.
 -- Assumes nothing.
-use Prim.Native.Nat.{ℕ, zero, suc, _+_, _-_, _*_, _≤_, _<_}
+use Prim.Native.Nat.{ℕ, zero, suc, _+_, _-_, _*_, _≤_}
 use mathlib.Core.Path.{_≡_, refl, sym, ap, _∙_}
 use mathlib.Core.Bool.{Bool, true, false}
 use mathlib.Core.List.{List}
@@ -17,18 +17,18 @@ use Rattle.moves.specs.Moves.{spacingOf, nextDropped, tagDropped, tagsDr
 -- w is xs after i turns
 module _ (g d : ℕ) (xs w : List ℕ) (i : ℕ) (e : w ≡ tagsDropped g d xs i) where
   -- row i is as it was
-  read : (j : ℕ) → j < waitingWide → waitingAt w i j ≡ waitingAt xs i j
-  read j l = ap (λ (ws : List ℕ). waitingAt ws i j) e ∙ stores-other (λ k. k * waitingWide + RTAG) (tagDropped g d xs) xs i (i * waitingWide + j) (λ k m f. omega arith)
+  read : (j : ℕ) → waitingAt w i j ≡ waitingAt xs i j
+  read j = ap (λ (ws : List ℕ). waitingAt ws i j) e ∙ stores-other (λ k. k * waitingWide + RTAG) (tagDropped g d xs) xs i (i * waitingWide + j) (λ k m f. omega arith)
 
   -- so its tag does not fall below zero
   pub lower-fits : (waitingAt xs i GUEST ≡ g → d ≤ waitingAt xs i RTAG) → waitingAt w i GUEST ≡ g → d ≤ waitingAt w i RTAG
-  lower-fits h f = let l : d ≤ waitingAt xs i RTAG = h (sym (read GUEST (omega arith)) ∙ f) in omega (arith, read RTAG (omega arith))
+  lower-fits h f = let l : d ≤ waitingAt xs i RTAG = h (sym (read GUEST) ∙ f) in omega (arith, read RTAG)
 
   -- and the store of turn i makes one turn more
   pub lower-next : (q : ℕ) → q ≡ tagDropped g d w i → set w (i * waitingWide + RTAG) q ≡ tagsDropped g d xs (i + 1)
   lower-next q f =
       stores-next (λ k. k * waitingWide + RTAG) (tagDropped g d xs) xs w i (i * waitingWide + RTAG) q e refl
-      (f ∙ rw (read GUEST (omega arith), read RTAG (omega arith)))
+      (f ∙ rw (read GUEST, read RTAG))
 
 -- a tag dropped by nothing
 same-tag : (b : Bool) (x : ℕ) → whether b (x - 0) x ≡ x

@@ -51,17 +51,13 @@ marked-idle ws marks n m g h =
 -- EVERY SHARE TAG, a row to a turn
 
 module _ (time m : ℕ) (ws w : List ℕ) (k : ℕ) (so : w ≡ movedTags time m ws k) where
-  -- the guest of the row is as it was
-  pub tags-guest : waitingAt w k GUEST ≡ waitingAt ws k GUEST
-  tags-guest = ap (λ (v : List ℕ). waitingAt v k GUEST) so ∙ stores-other (λ k. k * waitingWide + STAG) (λ k. tagOf ws k + time - m) ws k (k * waitingWide + GUEST) (λ i l e. omega arith)
-
-  -- and so is its tag
-  pub tags-read : tagOf w k ≡ tagOf ws k
-  tags-read = ap (λ (v : List ℕ). tagOf v k) so ∙ stores-other (λ k. k * waitingWide + STAG) (λ k. tagOf ws k + time - m) ws k (k * waitingWide + STAG) (λ i l e. omega arith)
+  -- the row of the turn is as it was
+  pub tags-row : (j : ℕ) → waitingAt w k j ≡ waitingAt ws k j
+  tags-row j = ap (λ (v : List ℕ). waitingAt v k j) so ∙ stores-other (λ k. k * waitingWide + STAG) (λ k. tagOf ws k + time - m) ws k (k * waitingWide + j) (λ i l e. omega arith)
 
   -- the store of the turn makes one row more
   pub tags-next : (x : ℕ) → x ≡ tagOf w k + time - m → set w (k * waitingWide + STAG) x ≡ movedTags time m ws (k + 1)
-  tags-next x e = stores-next (λ k. k * waitingWide + STAG) (λ k. tagOf ws k + time - m) ws w k (k * waitingWide + STAG) x so refl (e ∙ ap (λ (x : ℕ). x + time - m) tags-read)
+  tags-next x e = stores-next (λ k. k * waitingWide + STAG) (λ k. tagOf ws k + time - m) ws w k (k * waitingWide + STAG) x so refl (e ∙ ap (λ (x : ℕ). x + time - m) (tags-row STAG))
 
 -- THE NEXT SHARE NUMBERS, a guest to a turn
 

@@ -19,6 +19,7 @@ use Rattle.rules.specs.Tables.{Request, of, name, same, lacks}
 use Rattle.table.specs.Columns.{GUEST, ID, waitingWide, waitingAt}
 use Rattle.table.specs.View.{requestForm, waitingOf, nameIs}
 use Rattle.walks.specs.Survey.{idleIn, tagOf, highest}
+use Rattle.walks.specs.WalksRows.{row-from}
 
 -- THE GUEST'S OWN ROWS
 
@@ -101,13 +102,9 @@ module _ (ws : List ℕ) (count g id : ℕ) where
   search-start = record { row = 0; begins = refl; inside = omega arith; lacking = lacks-none ws g id; idling = idle-none ws g }
 
   module _ {waits : Bool} {from : ℕ} (s : Searched ws count g id waits from) (more : from < count * waitingWide) where
-    -- the number n places into the row, as the code reads it
-    number-here : (n : ℕ) → waitingAt ws (s .row) n ≡ getD ws (from + n) 0
-    number-here n = ap (λ (k : ℕ). getD ws (k + n) 0) (sym (s .begins))
-
     -- the row is this request
     pub search-hit : getD ws (from + GUEST) 0 ≡ g → getD ws (from + ID) 0 ≡ id → lacksIn ws count g id ≡ false
-    search-hit e i = lacks-not ws g id count (s .row) (omega (arith, s .begins)) (number-here GUEST ∙ e) (number-here ID ∙ i)
+    search-hit e i = lacks-not ws g id count (s .row) (omega (arith, s .begins)) (sym (row-from ws GUEST (s .begins)) ∙ e) (sym (row-from ws ID (s .begins)) ∙ i)
 
     -- another request of the guest
     pub search-own : getD ws (from + GUEST) 0 ≡ g → (getD ws (from + ID) 0 ≡ id → ⊥) → Searched ws count g id true (from + waitingWide)
@@ -116,14 +113,14 @@ module _ (ws : List ℕ) (count g id : ℕ) where
           row = s .row + 1;
           begins = omega (arith, s .begins);
           inside = omega (arith, s .begins);
-          lacking = lacks-id ws g id (s .row) (s .lacking) (λ q. i (sym (number-here ID) ∙ q));
-          idling = idle-not ws g (s .row) (number-here GUEST ∙ e);
+          lacking = lacks-id ws g id (s .row) (s .lacking) (λ q. i (row-from ws ID (s .begins) ∙ q));
+          idling = idle-not ws g (s .row) (sym (row-from ws GUEST (s .begins)) ∙ e);
         }
 
     -- another guest's
     pub search-other : (getD ws (from + GUEST) 0 ≡ g → ⊥) → Searched ws count g id waits (from + waitingWide)
     search-other d =
-        let h : waitingAt ws (s .row) GUEST ≡ g → ⊥ = λ q. d (sym (number-here GUEST) ∙ q) in
+        let h : waitingAt ws (s .row) GUEST ≡ g → ⊥ = λ q. d (row-from ws GUEST (s .begins) ∙ q) in
         record {
           row = s .row + 1;
           begins = omega (arith, s .begins);

@@ -13,7 +13,7 @@ use Rattle.lists.specs.WordsLaws.{both, join, places-all, place-not, without-at
 use Rattle.rules.specs.Tables.{Guest, Request, settingsOf, same}
 use Rattle.rules.specs.Choice.{dueAt}
 use Rattle.rules.specs.Chosen.{at}
-use Rattle.table.specs.Columns.{RESERVATION, GUEST, ID, RTAG, LTAG, STAG, guestAt, waitingAt, flightAt}
+use Rattle.table.specs.Columns.{RESERVATION, GUEST, ID, RTAG, LTAG, STAG, waitingWide, guestAt, waitingAt, flightAt}
 use Rattle.table.specs.View.{guestForm, requestForm, flightForm, guestsOf, waitingOf, flightsOf, nameIs, nameless}
 use Rattle.walks.specs.Walks.{Owned, Rising, Finds}
 use Rattle.walks.specs.declared.Found.the-variants.{At, Nothing}
@@ -27,6 +27,10 @@ abbrev pub openIn : (time : ℕ) → Request → Bool
 openIn time q = leb (q .ltag) time
 
 -- THE WAITING ROWS
+
+-- where row k begins at `from`, its number j stands j places on
+pub row-from : (ws : List ℕ) {from k : ℕ} (j : ℕ) → from ≡ k * waitingWide → getD ws (from + j) 0 ≡ waitingAt ws k j
+row-from ws j e = ap (λ (i : ℕ). getD ws (i + j) 0) e
 
 module _ (ws : List ℕ) (count k : ℕ) (here : k < count) where
   -- a request's reservation tag is a number of its row
