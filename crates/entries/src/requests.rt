@@ -6,7 +6,7 @@ use table::columns::LTAG;
 use table::columns::RTAG;
 use table::columns::STAG;
 use table::columns::WAITING_WIDE;
-use table::numbers::CEILING;
+use table::numbers::stamp_fits;
 ghost use mathlib.Core.Path.{_≡_};
 ghost use Prim.Native.Nat.{_*_, _≤_};
 ghost use lib.ListN.{length};
@@ -15,7 +15,6 @@ ghost use Rattle.rules.specs.Tables.{name};
 ghost use Rattle.rules.specs.Sound.{lawful};
 ghost use Rattle.table.specs.Columns.{flightWide, waitingWide};
 ghost use Rattle.table.specs.View.{waitingOf, flightsOf, nameIs};
-ghost use Rattle.table.specs.Stamp.{lawfulTags};
 ghost use Rattle.entries.specs.Tests.{named};
 
 // One request's name: of `known` guests its guest exists, and its id has 32 bits.
@@ -26,19 +25,6 @@ fn is_named(guest: u64, id: u64, known: u64) -> bool
         return false;
     }
     id < 4294967296
-}
-
-// The tags of one request are at most the ceiling.
-fn is_lawful(r: u64, l: u64, s: u64) -> bool
-    ensures { λ b. ⌜ b ≡ lawfulTags r l s ⌝ }
-{
-    if CEILING < r {
-        return false;
-    }
-    if CEILING < l {
-        return false;
-    }
-    s <= CEILING
 }
 
 // Every waiting request's guest exists, and its id has 32 bits.
@@ -86,7 +72,7 @@ pub fn all_lawful(waiting: &[u64], count: usize) -> bool
         let r = waiting[i * WAITING_WIDE + RTAG];
         let l = waiting[i * WAITING_WIDE + LTAG];
         let s = waiting[i * WAITING_WIDE + STAG];
-        if !is_lawful(r, l, s) {
+        if !stamp_fits(r, l, s) {
             return false;
         }
     }

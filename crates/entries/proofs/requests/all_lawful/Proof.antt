@@ -56,15 +56,15 @@ mul-s-2 c = omega arith
 shared-slice-read-s : tie.Need-shared-slice-read-s Inv-loop μ-loop
 shared-slice-read-s c = omega arith
 
-is-lawful-requires : tie.Need-is-lawful-requires Inv-loop μ-loop
-is-lawful-requires c κs = tt
+stamp-fits-requires : tie.Need-stamp-fits-requires Inv-loop μ-loop
+stamp-fits-requires c κs = tt
 
 returns : tie.Need-returns Inv-loop μ-loop
 unfolding lawful
 returns c =
     let a = c .before .before .before .before .before .before .before .before .args in
     let s = c .before .before .before .before .before .before .loop in
-    rows-fail requestForm lawful (a .waiting .now) (a .count) (s .i) (s .inv) (c .before .before .before .before .before .loop-test .taken) (sym (c .before .is-lawful .ensures) ∙ not-true _ (c .if1 .taken))
+    rows-fail requestForm lawful (a .waiting .now) (a .count) (s .i) (s .inv) (c .before .before .before .before .before .loop-test .taken) (sym (c .before .stamp-fits .ensures) ∙ not-true _ (c .if1 .taken))
 
 loop-less : tie.Need-loop-less Inv-loop μ-loop
 loop-less c = omega arith
@@ -74,7 +74,7 @@ unfolding lawful
 loop-again c =
     let a = c .before .before .before .before .before .before .before .before .args in
     let s = c .before .before .before .before .before .before .loop in
-    rows-next requestForm lawful (a .waiting .now) (a .count) (s .i) (s .inv) (c .before .before .before .before .before .loop-test .taken) (sym (c .before .is-lawful .ensures) ∙ not-false _ (c .if1 .left))
+    rows-next requestForm lawful (a .waiting .now) (a .count) (s .i) (s .inv) (c .before .before .before .before .before .loop-test .taken) (sym (c .before .stamp-fits .ensures) ∙ not-false _ (c .if1 .left))
 
 returns-2 : tie.Need-returns-2 Inv-loop μ-loop
 returns-2 c =
@@ -102,7 +102,7 @@ all-lawful-spec =
     add-s
     mul-s-2
     shared-slice-read-s
-    is-lawful-requires
+    stamp-fits-requires
     returns
     loop-less
     loop-again
