@@ -78,7 +78,7 @@ module _ (gs ws : List ℕ) (known count time : ℕ) where
 
     -- the guest of the row, as the code reads it
     pub guest-here : getD ws (from + GUEST) 0 ≡ waitingAt ws (l .row) GUEST
-    guest-here = row-from ws GUEST (l .begins)
+    guest-here = row-from ws (l .row) GUEST (l .begins)
 
     -- the guest of the row exists
     pub known-here : Owned ws count known → getD ws (from + GUEST) 0 < known
@@ -90,7 +90,7 @@ module _ (gs ws : List ℕ) (known count time : ℕ) where
     due-take owned e =
         let b = both (ltb (getD ws (from + RTAG) 0) soonest) (ltb 0 (guestAt gs (getD ws (from + GUEST) 0) RESERVATION)) e in
         let low = ltb-true (getD ws (from + RTAG) 0) soonest (b .0) in
-        let tag = row-from ws RTAG (l .begins) in
+        let tag = row-from ws (l .row) RTAG (l .begins) in
         let has : ltb 0 (guestAt gs (waitingAt ws (l .row) GUEST) RESERVATION) ≡ true = rw guest-here at (b .1) in
         let soon = le-leb (waitingAt ws (l .row) RTAG) time (omega (arith, low, tag, l .byTag .walk .low)) in
         told-take (l .byTag) (l .begins) (due-at ws count (l .row) here gs known time owned ∙ join has soon) (rtag-at ws count (l .row) here ∙ sym tag) low
@@ -104,7 +104,7 @@ module _ (gs ws : List ℕ) (known count time : ℕ) where
         go has =
             let h : ltb 0 (guestAt gs (getD ws (from + GUEST) 0) RESERVATION) ≡ true = rw guest-here has in
             let f : ltb (getD ws (from + RTAG) 0) soonest ≡ false = sym (and-true _) ∙ rw h at e in
-            omega (arith, ltb-false (getD ws (from + RTAG) 0) soonest f, rtag-at ws count (l .row) here, row-from ws RTAG (l .begins))
+            omega (arith, ltb-false (getD ws (from + RTAG) 0) soonest f, rtag-at ws count (l .row) here, row-from ws (l .row) RTAG (l .begins))
 
     -- the row's share tag is below the bound and its limit tag at or before the time: it is open, and taken
     pub open-take : (ltb (getD ws (from + STAG) 0) smallest && leb (getD ws (from + LTAG) 0) time) ≡ true
@@ -112,8 +112,8 @@ module _ (gs ws : List ℕ) (known count time : ℕ) where
     open-take e =
         let b = both (ltb (getD ws (from + STAG) 0) smallest) (leb (getD ws (from + LTAG) 0) time) e in
         let within = leb-true (getD ws (from + LTAG) 0) time (b .1) in
-        told-take (l .byShare) (l .begins) (open-is ws count (l .row) here time (omega (arith, within, row-from ws LTAG (l .begins))))
-        (stag-at ws count (l .row) here ∙ sym (row-from ws STAG (l .begins))) (ltb-true (getD ws (from + STAG) 0) smallest (b .0))
+        told-take (l .byShare) (l .begins) (open-is ws count (l .row) here time (omega (arith, within, row-from ws (l .row) LTAG (l .begins))))
+        (stag-at ws count (l .row) here ∙ sym (row-from ws (l .row) STAG (l .begins))) (ltb-true (getD ws (from + STAG) 0) smallest (b .0))
 
     -- else it is no open row with a smaller tag
     pub open-pass : (ltb (getD ws (from + STAG) 0) smallest && leb (getD ws (from + LTAG) 0) time) ≡ false
@@ -123,9 +123,9 @@ module _ (gs ws : List ℕ) (known count time : ℕ) where
         go : openIn time (at (waitingOf ws count) (l .row)) ≡ true → smallest ≤ (at (waitingOf ws count) (l .row)) .stag
         go o =
             let z = leb-true (waitingAt ws (l .row) LTAG) time (sym (open-at ws count (l .row) here time) ∙ o) in
-            let h = le-leb (getD ws (from + LTAG) 0) time (omega (arith, z, row-from ws LTAG (l .begins))) in
+            let h = le-leb (getD ws (from + LTAG) 0) time (omega (arith, z, row-from ws (l .row) LTAG (l .begins))) in
             let f : ltb (getD ws (from + STAG) 0) smallest ≡ false = sym (and-true _) ∙ rw h at e in
-            omega (arith, ltb-false (getD ws (from + STAG) 0) smallest f, stag-at ws count (l .row) here, row-from ws STAG (l .begins))
+            omega (arith, ltb-false (getD ws (from + STAG) 0) smallest f, stag-at ws count (l .row) here, row-from ws (l .row) STAG (l .begins))
 
     -- a row whose guest is marked
     pub line-skip : Owned ws count known → known ≤ mostGuests → Rising ws count → (getD seen (getD ws (from + GUEST) 0) 0 ≡ 0 → ⊥)

@@ -104,7 +104,7 @@ module _ (ws : List ℕ) (count g id : ℕ) where
   module _ {waits : Bool} {from : ℕ} (s : Searched ws count g id waits from) (more : from < count * waitingWide) where
     -- the row is this request
     pub search-hit : getD ws (from + GUEST) 0 ≡ g → getD ws (from + ID) 0 ≡ id → lacksIn ws count g id ≡ false
-    search-hit e i = lacks-not ws g id count (s .row) (omega (arith, s .begins)) (sym (row-from ws GUEST (s .begins)) ∙ e) (sym (row-from ws ID (s .begins)) ∙ i)
+    search-hit e i = lacks-not ws g id count (s .row) (omega (arith, s .begins)) (sym (row-from ws (s .row) GUEST (s .begins)) ∙ e) (sym (row-from ws (s .row) ID (s .begins)) ∙ i)
 
     -- another request of the guest
     pub search-own : getD ws (from + GUEST) 0 ≡ g → (getD ws (from + ID) 0 ≡ id → ⊥) → Searched ws count g id true (from + waitingWide)
@@ -113,14 +113,14 @@ module _ (ws : List ℕ) (count g id : ℕ) where
           row = s .row + 1;
           begins = omega (arith, s .begins);
           inside = omega (arith, s .begins);
-          lacking = lacks-id ws g id (s .row) (s .lacking) (λ q. i (row-from ws ID (s .begins) ∙ q));
-          idling = idle-not ws g (s .row) (sym (row-from ws GUEST (s .begins)) ∙ e);
+          lacking = lacks-id ws g id (s .row) (s .lacking) (λ q. i (row-from ws (s .row) ID (s .begins) ∙ q));
+          idling = idle-not ws g (s .row) (sym (row-from ws (s .row) GUEST (s .begins)) ∙ e);
         }
 
     -- another guest's
     pub search-other : (getD ws (from + GUEST) 0 ≡ g → ⊥) → Searched ws count g id waits (from + waitingWide)
     search-other d =
-        let h : waitingAt ws (s .row) GUEST ≡ g → ⊥ = λ q. d (row-from ws GUEST (s .begins) ∙ q) in
+        let h : waitingAt ws (s .row) GUEST ≡ g → ⊥ = λ q. d (row-from ws (s .row) GUEST (s .begins) ∙ q) in
         record {
           row = s .row + 1;
           begins = omega (arith, s .begins);

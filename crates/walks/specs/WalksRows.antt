@@ -29,8 +29,8 @@ openIn time q = leb (q .ltag) time
 -- THE WAITING ROWS
 
 -- where row k begins at `from`, its number j stands j places on
-pub row-from : (ws : List ℕ) {from k : ℕ} (j : ℕ) → from ≡ k * waitingWide → getD ws (from + j) 0 ≡ waitingAt ws k j
-row-from ws j e = ap (λ (i : ℕ). getD ws (i + j) 0) e
+pub row-from : (ws : List ℕ) {from : ℕ} (k j : ℕ) → from ≡ k * waitingWide → getD ws (from + j) 0 ≡ waitingAt ws k j
+row-from ws k j e = ap (λ (i : ℕ). getD ws (i + j) 0) e
 
 module _ (ws : List ℕ) (count k : ℕ) (here : k < count) where
   -- a request's reservation tag is a number of its row
