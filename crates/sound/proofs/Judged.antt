@@ -15,6 +15,7 @@ use Rattle.rules.specs.declared.Flight.{Flight}
 use Rattle.rules.specs.Sound.{counted, ranges, lawful, distinct, orderly, sound}
 use Rattle.rules.specs.declared.Gate.{Gate}
 use Rattle.rules.proofs.Facts.{sound-is, is-sound}
+use Rattle.table.specs.Columns.{flightWide, waitingWide}
 use Rattle.table.specs.View.{guestForm, requestForm, flightForm, guestsOf, waitingOf, flightsOf, tableOf, countable, identified, zeroed, soundNumbers}
 use Rattle.entries.specs.Tests.{settledGuest, named}
 use Rattle.sound.specs.Names.{namesOf}
@@ -35,7 +36,7 @@ pub record Judged (gate : Gate) (gs ws fs : List ℕ) : Type 0 where
   pub once : distinct (namesOf ws (gate .waiting) fs (gate .flight)) ≡ true
   pub isLawful : all lawful (waitingOf ws (gate .waiting)) ≡ true
   pub isOrderly : below (gate .guests) (inOrder gate gs ws) ≡ true
-  pub isClear : zeroed 5 (gate .setup .capacity) (gate .waiting) ws && zeroed 2 (gate .setup .depth) (gate .flight) fs ≡ true
+  pub isClear : zeroed waitingWide (gate .setup .capacity) (gate .waiting) ws && zeroed flightWide (gate .setup .depth) (gate .flight) fs ≡ true
 
 -- a name's guest exists and its id has 32 bits
 named-is : (n : ℕ) (l : List Flight) → all (λ f. ltb (f .guest) n) l ≡ true → all (λ f. ltb (f .id) 4294967296) l ≡ true → all (named n) l ≡ true
@@ -66,8 +67,8 @@ module _ (gate : Gate) (gs ws fs : List ℕ) where
   pub judged-is : soundNumbers gate gs ws fs ≡ true → Judged gate gs ws fs
   unfolding soundNumbers ranges
   judged-is h =
-      let h4 = both (sound t && identified t && zeroed 5 (gate .setup .capacity) (gate .waiting) ws) (zeroed 2 (gate .setup .depth) (gate .flight) fs) h in
-      let h3 = both (sound t && identified t) (zeroed 5 (gate .setup .capacity) (gate .waiting) ws) (h4 .0) in
+      let h4 = both (sound t && identified t && zeroed waitingWide (gate .setup .capacity) (gate .waiting) ws) (zeroed flightWide (gate .setup .depth) (gate .flight) fs) h in
+      let h3 = both (sound t && identified t) (zeroed waitingWide (gate .setup .capacity) (gate .waiting) ws) (h4 .0) in
       let h2 = both (sound t) (identified t) (h3 .0) in
       let s = sound-is t (h2 .0) in
       let r = both (counted (gate .setup .depth) (length (t .guests)) (gate .setup .capacity)) (all settledGuest (t .guests)) (s .in-range) in
@@ -107,7 +108,7 @@ module _ (gate : Gate) (gs ws fs : List ℕ) where
         guests-orderly = λ g k. below-at (gate .guests) (inOrder gate gs ws) (j .isOrderly) g (rw size at k);
       })
       in
-      let z = both (zeroed 5 (gate .setup .capacity) (gate .waiting) ws) (zeroed 2 (gate .setup .depth) (gate .flight) fs) (j .isClear) in
+      let z = both (zeroed waitingWide (gate .setup .capacity) (gate .waiting) ws) (zeroed flightWide (gate .setup .depth) (gate .flight) fs) (j .isClear) in
       join (join (join s (m .1)) (z .0)) (z .1)
 
   -- a test that fails

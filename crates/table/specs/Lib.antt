@@ -1,3 +1,4 @@
+pub mod Columns
 pub mod View
 pub mod ViewLaws
 pub mod Does

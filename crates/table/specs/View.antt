@@ -1,4 +1,4 @@
--- The lent numbers as a table of document 01, and a table written over the numbers. Six numbers a guest, five a waiting request, two a request in flight.
+-- The lent numbers as a table of document 01, and a table written over the numbers. Where each number stands in its row, Columns says.
 use Prim.Native.Nat.{ℕ, _*_, _-_, _≤_}
 use mathlib.Core.Path.{_≡_}
 use mathlib.Core.Bool.{Bool, true, _&&_, _||_}
@@ -17,37 +17,38 @@ use Rattle.rules.specs.Choice.{Result}
 use Rattle.rules.specs.declared.Gate.{Gate}
 use Rattle.rules.specs.declared.Answer.{Answer}
 use Rattle.rules.specs.declared.Outcome.{Outcome}
+use Rattle.table.specs.Columns.{RESERVATION, LIMIT, SHARES, RNEXT, LNEXT, SNEXT, GUEST, ID, RTAG, LTAG, STAG, guestWide, settingsWide, waitingWide, flightWide}
 
--- a guest's settings as three numbers
+-- a guest's settings as numbers
 abbrev pub settingsForm : Form Settings
 settingsForm =
     record {
-      wide = 3;
-      read = λ v. record { reservation = getD v 0 0; limit = getD v 1 0; shares = getD v 2 0 };
+      wide = settingsWide;
+      read = λ v. record { reservation = getD v RESERVATION 0; limit = getD v LIMIT 0; shares = getD v SHARES 0 };
       line = λ s. s .reservation ∷ s .limit ∷ s .shares ∷ [];
     }
 
--- a guest as six numbers: its settings, then its next numbers
+-- a guest as numbers: its settings, then its next numbers
 abbrev pub guestForm : Form Guest
 guestForm =
     record {
-      wide = 6;
-      read = λ v. record { settings = record { reservation = getD v 0 0; limit = getD v 1 0; shares = getD v 2 0 }; rnext = getD v 3 0; lnext = getD v 4 0; snext = getD v 5 0 };
+      wide = guestWide;
+      read = λ v. record { settings = record { reservation = getD v RESERVATION 0; limit = getD v LIMIT 0; shares = getD v SHARES 0 }; rnext = getD v RNEXT 0; lnext = getD v LNEXT 0; snext = getD v SNEXT 0 };
       line = λ h. h .settings .reservation ∷ h .settings .limit ∷ h .settings .shares ∷ h .rnext ∷ h .lnext ∷ h .snext ∷ [];
     }
 
--- a waiting request as five numbers
+-- a waiting request as numbers
 abbrev pub requestForm : Form Request
 requestForm =
     record {
-      wide = 5;
-      read = λ v. record { guest = getD v 0 0; id = getD v 1 0; rtag = getD v 2 0; ltag = getD v 3 0; stag = getD v 4 0 };
+      wide = waitingWide;
+      read = λ v. record { guest = getD v GUEST 0; id = getD v ID 0; rtag = getD v RTAG 0; ltag = getD v LTAG 0; stag = getD v STAG 0 };
       line = λ q. q .guest ∷ q .id ∷ q .rtag ∷ q .ltag ∷ q .stag ∷ [];
     }
 
--- a request in flight as two numbers
+-- a request in flight as numbers
 abbrev pub flightForm : Form Flight
-flightForm = record { wide = 2; read = λ v. record { guest = getD v 0 0; id = getD v 1 0 }; line = λ f. f .guest ∷ f .id ∷ [] }
+flightForm = record { wide = flightWide; read = λ v. record { guest = getD v GUEST 0; id = getD v ID 0 }; line = λ f. f .guest ∷ f .id ∷ [] }
 
 -- the first n guests of the guest table
 abbrev pub guestsOf : List ℕ → ℕ → List Guest
@@ -112,7 +113,7 @@ countable g = counted (g .setup .depth) (g .guests) (g .setup .capacity)
 -- refusal 2: "a lent table .. is shorter than the settings need"; where the counts are out of range nothing is needed, and 3 is given
 unfoldable pub short : Gate → (gs ws fs : List ℕ) → Bool
 short g gs ws fs =
-    countable g && (ltb (length gs) (g .guests * 6) || ltb (length ws) (g .setup .capacity * 5) || ltb (length fs) (g .setup .depth * 2))
+    countable g && (ltb (length gs) (g .guests * guestWide) || ltb (length ws) (g .setup .capacity * waitingWide) || ltb (length fs) (g .setup .depth * flightWide))
 
 -- every id is a number of 32 bits: document 01's ids are, and another number in a place for one is no request
 abbrev pub identified : Table → Bool
@@ -126,7 +127,7 @@ zeroed s cap n xs = all (λ x. eqb x 0) (take (cap * s - n * s) (drop (n * s) xs
 unfoldable pub soundNumbers : Gate → (gs ws fs : List ℕ) → Bool
 soundNumbers g gs ws fs =
     sound (tableOf g gs ws fs) && identified (tableOf g gs ws fs)
-    && zeroed 5 (g .setup .capacity) (g .waiting) ws && zeroed 2 (g .setup .depth) (g .flight) fs
+    && zeroed waitingWide (g .setup .capacity) (g .waiting) ws && zeroed flightWide (g .setup .depth) (g .flight) fs
 
 -- the unused places of the waiting table and of the flight table are zero
 pub record Whole (g : Gate) (ws fs : List ℕ) : Type 0 where
@@ -135,9 +136,9 @@ pub record Whole (g : Gate) (ws fs : List ℕ) : Type 0 where
 
 -- what a call may rely on once lengths and soundness were judged
 pub record Known (g : Gate) (gs ws fs : List ℕ) : Type 0 where
-  pub guestRoom : g .guests * 6 ≤ length gs
-  pub waitingRoom : g .setup .capacity * 5 ≤ length ws
-  pub flightRoom : g .setup .depth * 2 ≤ length fs
+  pub guestRoom : g .guests * guestWide ≤ length gs
+  pub waitingRoom : g .setup .capacity * waitingWide ≤ length ws
+  pub flightRoom : g .setup .depth * flightWide ≤ length fs
   pub isSound : sound (tableOf g gs ws fs) ≡ true
   pub isIdentified : identified (tableOf g gs ws fs) ≡ true
   pub whole : Whole g ws fs
