@@ -33,8 +33,8 @@ chosen-sized g gs ws fs e =
     let b = enter-settings t e in
     record {
       guests = same-count (choice (enter t e) .table) (enter t e) a ∙ same-count (enter t e) t b ∙ length-rows guestForm gs (g .guests);
-      capacity = ap (λ s. s .setup .capacity) (a .setup ∙ b .setup);
-      depth = ap (λ s. s .setup .depth) (a .setup ∙ b .setup);
+      capacity = ap (λ s. s .capacity) (a .setup ∙ b .setup);
+      depth = ap (λ s. s .depth) (a .setup ∙ b .setup);
     }
 
 pub fresh-sized : (d n c : ℕ) (ss : List ℕ) → Sized n c d (fresh d c (settingsIn ss n))
@@ -56,8 +56,8 @@ handed-beyond n c d gs ws fs r s =
       waiting-length = length-over-rows requestForm request-exact (t .setup .capacity) (t .waiting) ws;
       flight-length = length-over-rows flightForm flight-exact (t .setup .depth) (t .flight) fs;
       guests = rw (sym (s .guests)) (rows-beyond guestForm guest-exact (length (t .guests)) (t .guests) gs);
-      waiting = rw (sym (s .setup .capacity)) (rows-beyond requestForm request-exact (t .setup .capacity) (t .waiting) ws);
-      flight = rw (sym (s .setup .depth)) (rows-beyond flightForm flight-exact (t .setup .depth) (t .flight) fs);
+      waiting = rw (sym (s .capacity)) (rows-beyond requestForm request-exact (t .setup .capacity) (t .waiting) ws);
+      flight = rw (sym (s .depth)) (rows-beyond flightForm flight-exact (t .setup .depth) (t .flight) fs);
     }
 
 -- a refusal changes nothing

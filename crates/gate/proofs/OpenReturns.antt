@@ -93,12 +93,12 @@ module _ (d n c : ℕ) (ss gs ws fs : List ℕ) (g : Gate) (e : g ≡ freshGate 
 
     -- and what the moves leave is the fresh table
     pub opened-returns : (hs vs es : List ℕ) → hs ≡ started ss n gs → vs ≡ zeros ws (c * 5) → es ≡ zeros fs (d * 2)
-        → seen (outcomeOf g Nothing, hs, vs, es) ≡ seen (opened d n c ss gs ws fs)
+        → (o : Outcome) → o ≡ outcomeOf g Nothing → seen (o, hs, vs, es) ≡ seen (opened d n c ss gs ws fs)
     unfolding opened handed fresh
-    opened-returns hs vs es x y z =
+    opened-returns hs vs es x y z o q =
         let m : length (map newcomer (settingsIn ss n)) ≡ n = length-map (settingsIn ss n) newcomer ∙ length-rows settingsForm ss n in
         let pg : hs ≡ overRows guestForm (length (map newcomer (settingsIn ss n))) (map newcomer (settingsIn ss n)) gs = x ∙ ap (λ (k : ℕ). overRows guestForm k (map newcomer (settingsIn ss n)) gs) (sym m) in
         let pw = y ∙ cleared-waiting c ws (open-room .waiting) in
         let pf = z ∙ cleared-flight d fs (open-room .flight) in
         let pe : g ≡ gateAt (record { depth = d; capacity = c }) (length (map newcomer (settingsIn ss n))) 0 0 0 = e ∙ ap (λ (k : ℕ). freshGate d k c) (sym m) in
-        (λ i. seen (outcomeOf (pe i) Nothing, pg i, pw i, pf i)) ∙ sym (ap (λ (v : Verdict). seen (openedBy v d n c ss gs ws fs)) (good .0))
+        ap (λ (o : Outcome). seen (o, hs, vs, es)) q ∙ (λ i. seen (outcomeOf (pe i) Nothing, pg i, pw i, pf i)) ∙ sym (ap (λ (v : Verdict). seen (openedBy v d n c ss gs ws fs)) (good .0))

@@ -38,8 +38,8 @@ handed-alike n c d gs ws fs hs vs es a r s =
       outcome = refl;
       needed = record {
         guests = rw (s .guests) (rows-alike guestForm n gs hs (a .guests) guest-exact (t .guests));
-        waiting = rw (s .setup .capacity) (rows-alike requestForm c ws vs (a .waiting) request-exact (t .waiting));
-        flight = rw (s .setup .depth) (rows-alike flightForm d fs es (a .flight) flight-exact (t .flight));
+        waiting = rw (s .capacity) (rows-alike requestForm c ws vs (a .waiting) request-exact (t .waiting));
+        flight = rw (s .depth) (rows-alike flightForm d fs es (a .flight) flight-exact (t .flight));
       };
     }
 

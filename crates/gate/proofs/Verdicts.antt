@@ -18,7 +18,7 @@ use Rattle.sound.proofs.Judged.{judged-is}
 use Rattle.sound.proofs.SoundKnown.{known-sound, sound-known}
 use Rattle.sound.proofs.Fitted.{fitting}
 use Rattle.table.specs.Does.{does}
-use Rattle.enter.proofs.Entering.{refused-same}
+use Rattle.step.proofs.Moves.{refused-same}
 use Rattle.gate.specs.Promise.{unchanged, followed, judgedAt, called}
 
 module _ (g : Gate) (gs ws fs : List ℕ) where

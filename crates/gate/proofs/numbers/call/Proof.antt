@@ -1,8 +1,8 @@
-use Rattle.rules.specs.declared.Event.{Event}
-use Rattle.gate.proofs.Returns.{good-known, good-returns, bad-returns}
+-- The function meets its contract, by what its callees promise. Assumes nothing.
 use borrow.Author.Needs.{needs}
-use Rattle.gate.proofs.numbers.tick.Statement.{statement}
-use Rattle.gate.proofs.numbers.tick.Tie as tie
+use Rattle.gate.proofs.Returns.{good-known, good-returns, bad-returns}
+use Rattle.gate.proofs.numbers.call.Statement.{statement}
+use Rattle.gate.proofs.numbers.call.Tie as tie
 
 judge-requires : tie.Need-judge-requires
 judge-requires c κs = search needs
@@ -16,8 +16,8 @@ refused-requires c κs = search needs
 enum-told : tie.Need-enum-told
 enum-told c = search needs
 
-tick-requires : tie.Need-tick-requires
-tick-requires c κs =
+step-requires : tie.Need-step-requires
+step-requires c κs =
     let s = c .before .before .before .before .before .before .before .before .before .before .before .before in
     good-known (s .args .gate) (s .args .guests .now) (s .args .waiting .now) (s .args .flight .now) _ (c .before .before .before .before .before .judge .ensures) (c .before .before .before .enum-told .given .1)
 
@@ -33,7 +33,7 @@ same-length-3 c = search needs
 returns : tie.Need-returns
 returns c =
     let s = c .before .before .before .before .before .before .before .before .before .before .before in
-    bad-returns (s .args .gate) (s .args .guests .now) (s .args .waiting .now) (s .args .flight .now) _ (c .before .before .before .before .judge .ensures) (Tick (s .args .time)) _ (c .before .before .found .given .1) _ (c .refused .ensures)
+    bad-returns (s .args .gate) (s .args .guests .now) (s .args .waiting .now) (s .args .flight .now) _ (c .before .before .before .before .judge .ensures) (s .args .event) _ (c .before .before .found .given .1) _ (c .refused .ensures)
 
 same-length-4 : tie.Need-same-length-4
 same-length-4 c = search needs
@@ -47,17 +47,17 @@ same-length-6 c = search needs
 returns-2 : tie.Need-returns-2
 returns-2 c =
     let s = c .before .before .before .before .before .before .before .before .before .before .before .before .before .before .before .before .before .before .before in
-    good-returns (s .args .gate) (s .args .guests .now) (s .args .waiting .now) (s .args .flight .now) _ (c .before .before .before .before .before .before .before .before .before .before .before .before .judge .ensures) (Tick (s .args .time)) (c .before .before .before .before .before .before .before .before .before .before .enum-told .given .1) _ (c .before .before .before .before .before .before .tick .ensures)
+    good-returns (s .args .gate) (s .args .guests .now) (s .args .waiting .now) (s .args .flight .now) _ (c .before .before .before .before .before .before .before .before .before .before .before .before .judge .ensures) (s .args .event) (c .before .before .before .before .before .before .before .before .before .before .enum-told .given .1) _ (c .before .before .before .before .before .before .step .ensures)
 
-pub tick-spec : {M : Type 1} → statement M
-tick-spec =
+pub call-spec : {M : Type 1} → statement M
+call-spec =
     tie.close
     (tie.spec
     judge-requires
     enum-known-found
     refused-requires
     enum-told
-    tick-requires
+    step-requires
     same-length
     same-length-2
     same-length-3
