@@ -33,7 +33,7 @@ module _ (g : Gate) (gs ws fs : List ℕ) (x : Read) where
   bad-answers k p o q =
       let s : _≡_ {A = Handed} (o, gs, ws, fs) (refusing BadEvent g, gs, ws, fs) = λ i. (q i, gs, ws, fs) in (
         s ∙ handed-written gs ws fs g gs ws fs (record { table = tableOf g gs ws fs; answer = Refused BadEvent }) (Refused BadEvent) (known-written g gs ws fs k) refl
-        ∙ ap (λ (y : Read). does (λ t. answered t y) g gs ws fs) (sym p),
+            ∙ ap (λ (y : Read). does (λ t. answered t y) g gs ws fs) (sym p),
         subst KnownAfter (sym s) k,
       )
 
