@@ -25,7 +25,7 @@ use denote.Triple.Clauses.{ensured, lasts}
 use denote.Triple.Spec.{tripleOf}
 use denote.Triple.Statement.{Contract, Triple}
 use Rattle.records.specs.Records.{inUse}
-use Rattle.records.proofs.Steps.{silent}
+use Rattle.lent.proofs.Steps.{silent}
 use Rattle.records.proofs.guests.used as used
 use Rattle.records.proofs.guests.used.Symbol.{name as #records·guests·used}
 

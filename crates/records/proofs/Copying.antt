@@ -41,9 +41,9 @@ use Rattle.rules.specs.declared.Guest.{Guest}
 use Rattle.rules.proofs.Guest.Laws as G′
 use Rattle.records.proofs.Copier.{τ₁, τ₃, τ₈, τ₉, turn, ending, copier}
 use Rattle.records.proofs.Rec.{typed}
-use Rattle.records.proofs.Steps.{gone}
+use Rattle.lent.proofs.Steps.{gone}
 use Rattle.records.proofs.Thin.{Get, Put, Lent-at, calls-get, calls-put}
-use Rattle.records.proofs.Turn.{tests, Upto, Nearer, nearer-wf}
+use Rattle.lent.proofs.Turn.{tests, Upto, Nearer, nearer-wf}
 
 module _ (R R′ : RattleType) (may-get : List (R .Denot) → ℕ → Type 0) (got : List (R .Denot) → ℕ → Guest) (may-put : List (R′ .Denot) → ℕ → Type 0) (put : List (R′ .Denot) → ℕ → Guest → List (R′ .Denot))
     (asked : List (R .Denot) → ℕ → List (R′ .Denot) → Type 0) (out : List (R .Denot) → ℕ → List (R′ .Denot) → List (R′ .Denot)) where

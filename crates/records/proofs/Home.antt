@@ -23,6 +23,7 @@ use Rattle.rules.specs.declared.Outcome.{Outcome}
 use Rattle.rules.specs.declared.Answer.{Answer}
 use Rattle.rules.specs.declared.Answer.the-variants.{Nothing, Refused}
 use Rattle.rules.specs.declared.Refusal.the-variants.{BadSetting, ShortTable, Unsound}
+use Rattle.table.specs.Columns.{guestWide, settingsWide, waitingWide, flightWide, mostGuests}
 use Rattle.table.specs.View as view
 use Rattle.table.specs.View.{outcomeOf, guestsOf, waitingOf, flightsOf, countable, soundNumbers, identified, zeroed}
 use Rattle.gate.specs.Promise as numbers
@@ -37,20 +38,20 @@ use Rattle.records.proofs.Copies.{count, rows, part, brought, homed, le
 -- COUNTS
 
 -- counts in range leave at most 64 guests
-counted-few : (d n c : ℕ) → counted d n c ≡ true → n ≤ 64
+counted-few : (d n c : ℕ) → counted d n c ≡ true → n ≤ mostGuests
 counted-few d n c h = counted-means d n c .holds .0 h .guest-count .1
 
 -- then all guests' records are in use, or the slice has too few
-in-use : (n : ℕ) (rs : List Guest) → n ≤ 64 → n ≤ length rs → count n rs ≡ n
+in-use : (n : ℕ) (rs : List Guest) → n ≤ mostGuests → n ≤ length rs → count n rs ≡ n
 in-use n rs few le = omega arith
 
 -- the part that is handed on is too short exactly where the slice is
-too-few : (n : ℕ) (rs : List Guest) → n ≤ 64 → ltb (length (part n rs)) (n * 6) ≡ ltb (length rs) n
+too-few : (n : ℕ) (rs : List Guest) → n ≤ mostGuests → ltb (length (part n rs)) (n * guestWide) ≡ ltb (length rs) n
 too-few n rs few = go (lt-or-le (length rs) n)
   where
-    go : (length rs < n) ⊎ (n ≤ length rs) → ltb (length (part n rs)) (n * 6) ≡ ltb (length rs) n
-    go (inl lt) = lt-ltb (length (part n rs)) (n * 6) (omega (arith, length-part n rs, lt, few)) ∙ sym (lt-ltb (length rs) n lt)
-    go (inr le) = le-ltb (length (part n rs)) (n * 6) (omega (arith, length-part n rs, le, few)) ∙ sym (le-ltb (length rs) n le)
+    go : (length rs < n) ⊎ (n ≤ length rs) → ltb (length (part n rs)) (n * guestWide) ≡ ltb (length rs) n
+    go (inl lt) = lt-ltb (length (part n rs)) (n * guestWide) (omega (arith, length-part n rs, lt, few)) ∙ sym (lt-ltb (length rs) n lt)
+    go (inr le) = le-ltb (length (part n rs)) (n * guestWide) (omega (arith, length-part n rs, le, few)) ∙ sym (le-ltb (length rs) n le)
 
 -- a table whose counts are out of range is not sound
 unranged : (t : Table) → counted (t .setup .depth) (length (t .guests)) (t .setup .capacity) ≡ false → sound t ≡ false
@@ -81,12 +82,12 @@ module _ (g : Gate) (rs : List Guest) (ws fs : List ℕ) where
   out-of-range h = (rw h refl, rw (unranged (tableOf g rs ws fs) (ap (λ (m : ℕ). counted (g .setup .depth) m (g .setup .capacity)) (length-guests rs n) ∙ h)) refl)
 
   module _ (h : countable g ≡ true) where
-    few : n ≤ 64
+    few : n ≤ mostGuests
     few = counted-few (g .setup .depth) n (g .setup .capacity) h
 
     same-short : view.short g xs ws fs ≡ short g rs ws fs
     unfolding view.short short
-    same-short = ap (λ (b : Bool). countable g && (b || ltb (length ws) (g .setup .capacity * 5) || ltb (length fs) (g .setup .depth * 2))) (too-few n rs few)
+    same-short = ap (λ (b : Bool). countable g && (b || ltb (length ws) (g .setup .capacity * waitingWide) || ltb (length fs) (g .setup .depth * flightWide))) (too-few n rs few)
 
     module _ (le : n ≤ length rs) where
       all : count n rs ≡ n
@@ -100,7 +101,7 @@ module _ (g : Gate) (rs : List Guest) (ws fs : List ℕ) where
       same-sound : soundNumbers g xs ws fs ≡ soundRecords g rs ws fs
       unfolding soundNumbers soundRecords
       same-sound =
-          ap (λ (t : Table). sound t && identified t && zeroed 5 (g .setup .capacity) (g .waiting) ws && zeroed 2 (g .setup .depth) (g .flight) fs) same-table
+          ap (λ (t : Table). sound t && identified t && zeroed waitingWide (g .setup .capacity) (g .waiting) ws && zeroed flightWide (g .setup .depth) (g .flight) fs) same-table
 
       same-verdict : (e : Event) → numbers.judgedAt e g xs ws fs ≡ judgedAt e g rs ws fs
       unfolding numbers.judgedAt judgedAt
@@ -157,9 +158,9 @@ module _ (d n c : ℕ) (ss : List ℕ) (rs : List Guest) (ws fs : List ℕ) wher
   abbrev ys : List ℕ
   ys = part n rs
 
-  same-open-short : n ≤ 64 → numbers.openShort d n c ss ys ws fs ≡ openShort d n c ss rs ws fs
+  same-open-short : n ≤ mostGuests → numbers.openShort d n c ss ys ws fs ≡ openShort d n c ss rs ws fs
   unfolding numbers.openShort openShort
-  same-open-short few = ap (λ (b : Bool). ltb (length ss) (n * 3) || b || ltb (length ws) (c * 5) || ltb (length fs) (d * 2)) (too-few n rs few)
+  same-open-short few = ap (λ (b : Bool). ltb (length ss) (n * settingsWide) || b || ltb (length ws) (c * waitingWide) || ltb (length fs) (d * flightWide)) (too-few n rs few)
 
   -- counts out of range: 1 at once
   same-opening : numbers.openingAt d n c ss ys ws fs ≡ openingAt d n c ss rs ws fs
@@ -180,7 +181,7 @@ module _ (d n c : ℕ) (ss : List ℕ) (rs : List Guest) (ws fs : List ℕ) wher
       go true p true q = let e : openingAt d n c ss rs ws fs ≡ refuse ShortTable = rw (p, q) refl in absurd (true≢false (ap isAccept (sym h ∙ e)))
       go true p false q =
           in-use n rs (counted-few d n c p)
-          (ltb-false (length rs) n (second (ltb (length ss) (n * 3)) (ltb (length rs) n) (ltb (length ws) (c * 5)) (ltb (length fs) (d * 2)) q))
+          (ltb-false (length rs) n (second (ltb (length ss) (n * settingsWide)) (ltb (length rs) n) (ltb (length ws) (c * waitingWide)) (ltb (length fs) (d * flightWide)) q))
 
   opened-by-home : (v : Verdict) → openingAt d n c ss rs ws fs ≡ v → homed n rs (numbers.openedBy v d n c ss ys ws fs) ≡ openedBy v d n c ss rs ws fs
   opened-by-home accept h = result-home n rs ws fs (open-all h) (record { table = fresh d c (settingsIn ss n); answer = Nothing }) (fresh-sized d n c ss .guests)

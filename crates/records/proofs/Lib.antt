@@ -1,4 +1,3 @@
-pub mod Again
 pub mod ByValue
 pub mod CallCopies
 pub mod CallUsed
@@ -6,13 +5,11 @@ pub mod Copier
 pub mod Copies
 pub mod Copying
 pub mod Home
-pub mod Lent
 pub mod Once
 pub mod Parts
 pub mod Rec
+pub mod Rows
 pub mod Statements
-pub mod Steps
 pub mod Thin
-pub mod Turn
 pub mod Untouched
 pub mod Words

@@ -2,9 +2,7 @@
 use Prim.Native.Nat.{ℕ}
 use mathlib.Core.Path.{_≡_, sym, ap, _∙_}
 use mathlib.Core.List.{List}
-use Rattle.rules.specs.declared.Flight.{Flight}
-use Rattle.rules.specs.declared.Arriving.{Arriving}
-use Rattle.rules.specs.declared.Event.the-variants.{Arrival, Completion, Tick}
+use Rattle.rules.specs.declared.Event.{Event}
 use Rattle.rules.specs.declared.Guest.{Guest}
 use Rattle.rules.specs.declared.Gate.{Gate}
 use Rattle.gate.proofs.Once.{shown-once}
@@ -22,15 +20,9 @@ admits : (s : Seen) (h k : Handed) → seen h ≡ s → seen k ≡ s → h ≡ k
 admits s h k p q = seen-once h k (p ∙ sym q)
 
 module _ (h k : Handed) (rs : List Guest) (ws fs : List ℕ) where
-  -- of an arrival, a completion, a tick and an opening
-  pub arrive-once : (a : Arriving) (now : ℕ) (g : Gate) → seen h ≡ seen (called (Arrival a now) g rs ws fs) → seen k ≡ seen (called (Arrival a now) g rs ws fs) → h ≡ k
-  arrive-once a now g = admits (seen (called (Arrival a now) g rs ws fs)) h k
-
-  pub complete-once : (f : Flight) (now : ℕ) (g : Gate) → seen h ≡ seen (called (Completion f now) g rs ws fs) → seen k ≡ seen (called (Completion f now) g rs ws fs) → h ≡ k
-  complete-once f now g = admits (seen (called (Completion f now) g rs ws fs)) h k
-
-  pub tick-once : (now : ℕ) (g : Gate) → seen h ≡ seen (called (Tick now) g rs ws fs) → seen k ≡ seen (called (Tick now) g rs ws fs) → h ≡ k
-  tick-once now g = admits (seen (called (Tick now) g rs ws fs)) h k
+  -- of an event and an opening
+  pub call-once : (e : Event) (g : Gate) → seen h ≡ seen (called e g rs ws fs) → seen k ≡ seen (called e g rs ws fs) → h ≡ k
+  call-once e g = admits (seen (called e g rs ws fs)) h k
 
   pub open-once : (d n c : ℕ) (ss : List ℕ) → seen h ≡ seen (opened d n c ss rs ws fs) → seen k ≡ seen (opened d n c ss rs ws fs) → h ≡ k
   open-once d n c ss = admits (seen (opened d n c ss rs ws fs)) h k

@@ -38,7 +38,7 @@ use denote.Triple.Statement.{Contract, Triple}
 use denote.Triple.Walked.{says}
 use Rattle.rules.specs.declared.Guest.{Guest}
 use Rattle.records.proofs.Rec.{Rec, vals, val, tells, makes}
-use Rattle.records.proofs.Again.{LentAgain, lends-again, comes-back}
+use Rattle.lent.proofs.Again.{LentAgain, lends-again, comes-back}
 
 -- READING
 

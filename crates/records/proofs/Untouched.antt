@@ -14,14 +14,15 @@ use Rattle.rules.specs.declared.Guest.{Guest}
 use Rattle.rules.specs.declared.Gate.{Gate}
 use Rattle.rules.specs.declared.Refusal.{Refusal}
 use Rattle.rules.specs.declared.Answer.the-variants.{Refused}
+use Rattle.table.specs.Columns.{guestWide, settingsWide, guestsLong}
 use Rattle.table.specs.View as view
+use Rattle.table.specs.View.{guestForm}
 use Rattle.gate.specs.Promise as numbers
 use Rattle.gate.specs.Promise.{unopened}
 use Rattle.gate.specs.Needs as needs
 use Rattle.gate.proofs.Beyond as beyond
 use Rattle.gate.proofs.Unread as unread
 use Rattle.gate.proofs.Refusing as refusing
-use Rattle.records.specs.Records.{recordForm}
 use Rattle.records.specs.Promise.{Handed, unchanged, called, opened}
 use Rattle.records.specs.Needs.{Beyond, Alike, Same}
 use Rattle.records.proofs.Copies.{count, part, left, brought, homed, count-lent, length-part, length-brought}
@@ -33,8 +34,8 @@ use Rattle.records.proofs.Home.{refusal-home, called-home, opened-home}
 records-beyond : (n : ℕ) (rs : List Guest) (zs : List ℕ) → drop n (brought n rs zs) ≡ drop n rs
 records-beyond n rs zs =
     let k = count n rs in
-    let front : List Guest = rowsOf recordForm zs k in
-    let size : length front ≡ k = length-rows recordForm zs k in
+    let front : List Guest = rowsOf guestForm zs k in
+    let size : length front ≡ k = length-rows guestForm zs k in
     let here : n ≡ length front + (n - k) = omega (arith, size) in
     let past : k + (n - k) ≡ n = omega arith in
     ap (λ (m : ℕ). drop m (front ++ drop k rs)) here ∙ drop-append-add front (drop k rs) (n - k) ∙ drop-drop (n - k) k rs ∙ ap (λ (m : ℕ). drop m rs) past
@@ -78,7 +79,7 @@ module _ (n : ℕ) (rs os : List Guest) (same : take n rs ≡ take n os) where
 
   -- so the same numbers
   same-part : part n rs ≡ part n os
-  same-part = λ i. take (same-count i * 6) (overRows recordForm (same-count i) (same-first i) (replicate 384 0))
+  same-part = λ i. take (same-count i * guestWide) (overRows guestForm (same-count i) (same-first i) (replicate guestsLong 0))
 
   -- the rest of the first n records
   rest : (l : List Guest) → count n rs ≤ length l → take (n - count n rs) (drop (count n rs) l) ≡ drop (count n rs) (take n l)
@@ -91,13 +92,13 @@ module _ (n : ℕ) (rs os : List Guest) (same : take n rs ≡ take n os) where
   brought-alike : (zs : List ℕ) → take n (brought n rs zs) ≡ take n (brought n os zs)
   brought-alike zs =
       let k = count n rs in
-      let front : List Guest = rowsOf recordForm zs k in
-      let size : length front ≡ k = length-rows recordForm zs k in
+      let front : List Guest = rowsOf guestForm zs k in
+      let size : length front ≡ k = length-rows guestForm zs k in
       let here : n ≡ length front + (n - k) = omega (arith, size) in
       let lent : k ≤ length os = omega (arith, same-count) in
       let first : (l : List Guest) → take n (front ++ drop k l) ≡ front ++ take (n - k) (drop k l) = λ l. ap (λ (m : ℕ). take m (front ++ drop k l)) here ∙ take-append-add front (drop k l) (n - k) in
       first rs ∙ ap (front ++_) (rest rs (count-lent n rs) ∙ ap (drop k) same ∙ sym (rest os lent)) ∙ sym (first os)
-      ∙ ap (λ (m : ℕ). take n (rowsOf recordForm zs m ++ drop m os)) same-count
+      ∙ ap (λ (m : ℕ). take n (rowsOf guestForm zs m ++ drop m os)) same-count
 
 -- what two calls over numbers give alike, brought home
 same-home : (n c d : ℕ) (rs os : List Guest) (ws fs vs es : List ℕ) → take n rs ≡ take n os → (h k : view.Handed) → needs.Beyond n c d (part n rs) ws fs h → needs.Beyond n c d (part n rs) vs es k
@@ -107,16 +108,16 @@ same-home n c d rs os ws fs vs es same h k b b′ s = record {
   needed = record { records = alike; waiting = s .needed .waiting; flight = s .needed .flight };
 }
   where
-    short : length (part n rs) ≤ n * 6
+    short : length (part n rs) ≤ n * guestWide
     short = omega (arith, length-part n rs)
 
     -- the part that is handed on holds no number beyond what the settings need
     numbers-same : h .1 ≡ k .1
     numbers-same =
-        sym (take-all (n * 6) (h .1) (omega (arith, b .guest-length, short))) ∙ s .needed .guests ∙ take-all (n * 6) (k .1) (omega (arith, b′ .guest-length, short))
+        sym (take-all (n * guestWide) (h .1) (omega (arith, b .guest-length, short))) ∙ s .needed .guests ∙ take-all (n * guestWide) (k .1) (omega (arith, b′ .guest-length, short))
 
     lefts : left n rs (h .1) ≡ left n os (k .1)
-    lefts = λ i. numbers-same i ++ drop (same-count n rs os same i * 6) (overRows recordForm (same-count n rs os same i) (same-first n rs os same i) (replicate 384 0))
+    lefts = λ i. numbers-same i ++ drop (same-count n rs os same i * guestWide) (overRows guestForm (same-count n rs os same i) (same-first n rs os same i) (replicate guestsLong 0))
 
     alike : take n (brought n rs (left n rs (h .1))) ≡ take n (brought n os (left n os (k .1)))
     alike = brought-alike n rs os same (left n rs (h .1)) ∙ ap (λ (zs : List ℕ). take n (brought n os zs)) lefts
@@ -134,7 +135,7 @@ called-unread e g rs ws fs os vs es a =
     (unread.called-unread e g x ws fs x vs es (record { guests = refl; waiting = a .waiting; flight = a .flight })))
 
 -- Nor does an opening, of the settings too.
-pub opened-unread : (d n c : ℕ) (ss ts : List ℕ) (rs : List Guest) (ws fs : List ℕ) (os : List Guest) (vs es : List ℕ) → take (n * 3) ss ≡ take (n * 3) ts → Alike n c d rs ws fs os vs es
+pub opened-unread : (d n c : ℕ) (ss ts : List ℕ) (rs : List Guest) (ws fs : List ℕ) (os : List Guest) (vs es : List ℕ) → take (n * settingsWide) ss ≡ take (n * settingsWide) ts → Alike n c d rs ws fs os vs es
     → Same n c d (opened d n c ss rs ws fs) (opened d n c ts os vs es)
 opened-unread d n c ss ts rs ws fs os vs es o a =
     let x = part n rs in

@@ -4,13 +4,12 @@
 -- proofs/Once.antt shows that it admits one outcome only.
 use Prim.Native.Nat.{ℕ, _*_}
 use mathlib.Core.Bool.{Bool, not, _&&_, _||_}
-use mathlib.Core.List.{List, _++_, map}
+use mathlib.Core.List.{List, _++_}
 use lib.Dec.{ltb}
 use lib.ListN.{length, getD, drop}
 use Rattle.lists.specs.Tab.{tab}
 use Rattle.lists.specs.Rows.{overRows}
 use Rattle.rules.specs.Answers.{Printed, shown}
-use Rattle.rules.specs.Tables as tables
 use Rattle.rules.specs.Tables.{Table}
 use Rattle.rules.specs.Sound.{sound}
 use Rattle.rules.specs.Choice.{Result, choice}
@@ -23,15 +22,16 @@ use Rattle.rules.specs.declared.Gate.{Gate}
 use Rattle.rules.specs.declared.Outcome.{Outcome}
 use Rattle.rules.specs.declared.Answer.{Answer}
 use Rattle.rules.specs.declared.Answer.the-variants.{Nothing, Refused}
+use Rattle.table.specs.Columns.{settingsWide, waitingWide, flightWide}
 use Rattle.table.specs.View.{outcomeOf, requestForm, flightForm, waitingOf, flightsOf, gateOf, countable, identified, zeroed}
 use Rattle.gate.specs.Promise.{settingsIn, unopened}
-use Rattle.records.specs.Records.{guestOf, recordOf, blank}
+use Rattle.records.specs.Records.{blank}
 
 -- THE VIEW AND THE WAY BACK
 
 -- the first n guests of the lent records; a place past the end shows a blank one, and is refused before it is looked at
-unfoldable pub guestsIn : List Guest → ℕ → List tables.Guest
-guestsIn rs n = tab n (λ k. guestOf (getD rs k blank))
+unfoldable pub guestsIn : List Guest → ℕ → List Guest
+guestsIn rs n = tab n (λ k. getD rs k blank)
 
 -- the table that a gate, lent records and two lent lists show
 abbrev pub tableOf : Gate → List Guest → (ws fs : List ℕ) → Table
@@ -45,8 +45,8 @@ tableOf g rs ws fs =
     }
 
 -- guests written over lent records: those past them stay as they were
-abbrev pub overRecords : List tables.Guest → List Guest → List Guest
-overRecords hs rs = map recordOf hs ++ drop (length hs) rs
+abbrev pub overRecords : (hs rs : List Guest) → List Guest
+overRecords hs rs = hs ++ drop (length hs) rs
 
 -- an outcome, the lent records and the two lent lists as a call hands them back
 abbrev pub Handed : Type 0
@@ -74,13 +74,13 @@ seen h = (h .0 .gate, shown (h .0 .answer), h .1, h .2, h .3)
 -- refusal 2: the slice has fewer records than guests, or a list is "shorter than the settings need"; where the counts are out of range
 -- nothing is needed, and 3 is given
 unfoldable pub short : Gate → List Guest → (ws fs : List ℕ) → Bool
-short g rs ws fs = countable g && (ltb (length rs) (g .guests) || ltb (length ws) (g .setup .capacity * 5) || ltb (length fs) (g .setup .depth * 2))
+short g rs ws fs = countable g && (ltb (length rs) (g .guests) || ltb (length ws) (g .setup .capacity * waitingWide) || ltb (length fs) (g .setup .depth * flightWide))
 
 -- refusal 3, of lent tables that suffice: the table is sound, every id has 32 bits, and "unused places are zero"
 unfoldable pub soundRecords : Gate → List Guest → (ws fs : List ℕ) → Bool
 soundRecords g rs ws fs =
     sound (tableOf g rs ws fs) && identified (tableOf g rs ws fs)
-    && zeroed 5 (g .setup .capacity) (g .waiting) ws && zeroed 2 (g .setup .depth) (g .flight) fs
+    && zeroed waitingWide (g .setup .capacity) (g .waiting) ws && zeroed flightWide (g .setup .depth) (g .flight) fs
 
 -- "Every refusal changes no lent number and not the time."
 abbrev pub unchanged : Gate → List Guest → (ws fs : List ℕ) → Answer → Handed
@@ -104,7 +104,7 @@ called e g rs ws fs = followed (judgedAt e g rs ws fs) e g rs ws fs
 -- refusal 2 at opening: "a lent table, or at opening the lent list of guest settings, is shorter than the settings need"
 unfoldable pub openShort : (d n c : ℕ) (ss : List ℕ) → List Guest → (ws fs : List ℕ) → Bool
 openShort d n c ss rs ws fs =
-    ltb (length ss) (n * 3) || ltb (length rs) n || ltb (length ws) (c * 5) || ltb (length fs) (d * 2)
+    ltb (length ss) (n * settingsWide) || ltb (length rs) n || ltb (length ws) (c * waitingWide) || ltb (length fs) (d * flightWide)
 
 -- what follows from a verdict on an opening: "A fresh table", or nothing moves
 abbrev pub openedBy : Verdict → (d n c : ℕ) (ss : List ℕ) → List Guest → (ws fs : List ℕ) → Handed

@@ -12,8 +12,9 @@ use Rattle.lists.specs.Lines.{lineAt}
 use Rattle.lists.specs.Rows.{rowsOf}
 use Rattle.rules.specs.declared.Guest.{Guest}
 use Rattle.rules.proofs.Guest.Laws as G′
-use Rattle.records.specs.Records.{recordForm}
-use Rattle.records.specs.RecordsLaws.{packed, packed-none, length-packed, packed-next}
+use Rattle.table.specs.Columns.{guestWide}
+use Rattle.table.specs.View.{guestForm}
+use Rattle.records.proofs.Rows.{packed, packed-none, length-packed, packed-next}
 use Rattle.records.proofs.Rec.{Rec}
 use Rattle.records.proofs.Thin.{Get, Put}
 use Rattle.records.proofs.Copying.{Turns, copies-meets}
@@ -30,19 +31,19 @@ use Rattle.records.proofs.guests.pack.Code as code
 
 -- what `row_at` and `write` ask and do, and what `pack` does
 abbrev may-get : List ℕ → ℕ → Type 0
-may-get rows i = i * 6 + 6 ≤ length rows
+may-get rows i = i * guestWide + guestWide ≤ length rows
 
 abbrev row : List ℕ → ℕ → Guest
-row rows i = recordForm .read (lineAt 6 rows i)
+row rows i = guestForm .read (lineAt guestWide rows i)
 
 abbrev may-write : List Guest → ℕ → Type 0
 may-write gs i = i < length gs
 
 abbrev asked : List ℕ → ℕ → List Guest → Type 0
-asked rows count gs = (count ≤ length gs) × (count * 6 ≤ length rows)
+asked rows count gs = (count ≤ length gs) × (count * guestWide ≤ length rows)
 
 abbrev out : List ℕ → ℕ → List Guest → List Guest
-out rows count gs = rowsOf recordForm rows count ++ drop count gs
+out rows count gs = rowsOf guestForm rows count ++ drop count gs
 
 turned : (rows : List ℕ) (count : ℕ) (gs : List Guest) → asked rows count gs → Turns u64 Rec may-get row may-write set asked out rows count gs
 turned rows count gs ok = record {

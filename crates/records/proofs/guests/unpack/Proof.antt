@@ -12,8 +12,10 @@ use denote.Triple.Table.{entered, cited}
 use Rattle.lists.specs.Stores.{stores}
 use Rattle.lists.specs.Rows.{overRows}
 use Rattle.rules.specs.declared.Guest.{Guest}
-use Rattle.records.specs.Records.{blank, recordForm}
-use Rattle.records.specs.RecordsLaws.{unpacked, unpacked-none, length-unpacked, unpacked-next}
+use Rattle.table.specs.Columns.{guestWide}
+use Rattle.table.specs.View.{guestForm}
+use Rattle.records.specs.Records.{blank}
+use Rattle.records.proofs.Rows.{unpacked, unpacked-none, length-unpacked, unpacked-next}
 use Rattle.records.proofs.Rec.{Rec}
 use Rattle.records.proofs.Thin.{Get, Put}
 use Rattle.records.proofs.Copying.{Turns, copies-meets}
@@ -36,16 +38,16 @@ abbrev read : List Guest → ℕ → Guest
 read gs i = getD gs i blank
 
 abbrev may-put : List ℕ → ℕ → Type 0
-may-put rows i = i * 6 + 6 ≤ length rows
+may-put rows i = i * guestWide + guestWide ≤ length rows
 
 abbrev put : List ℕ → ℕ → Guest → List ℕ
-put rows i g = stores (λ j. i * 6 + j) (λ j. getD (recordForm .line g) j 0) 6 rows
+put rows i g = stores (λ j. i * guestWide + j) (λ j. getD (guestForm .line g) j 0) guestWide rows
 
 abbrev asked : List Guest → ℕ → List ℕ → Type 0
-asked gs count rows = (count ≤ length gs) × (count * 6 ≤ length rows)
+asked gs count rows = (count ≤ length gs) × (count * guestWide ≤ length rows)
 
 abbrev out : List Guest → ℕ → List ℕ → List ℕ
-out gs count rows = overRows recordForm count (take count gs) rows
+out gs count rows = overRows guestForm count (take count gs) rows
 
 turned : (gs : List Guest) (count : ℕ) (rows : List ℕ) → asked gs count rows → Turns Rec u64 may-read read may-put put asked out gs count rows
 turned gs count rows ok = record {
