@@ -83,13 +83,13 @@ module _ (h : Host) (es : List Event) (f : firm h ≡ true) (n : all narrow es �
       split-at (shows h .waiting) i (requestForm .read []) (omega (arith, length-rows requestForm (h .waiting) (h .gate .waiting)))
       ∙ ap (λ (x : Request). take i (shows h .waiting) ++ x ∷ drop (suc i) (shows h .waiting)) (row-at requestForm (h .waiting) (h .gate .waiting) i here)
 
-  -- "the accepted events that find a place free at the array .. send exactly those k first, then this request at the (k+1)th, each by reservation"
+  -- demand 3: "the accepted events that find a place free at the array .. send exactly those k first, then this request at the (k+1)th, each by reservation"
   pub calls-demand-3 : (those : List Request) × (those ≡ sorted (aheadOf h i)) × List·Permᴰ those (aheadOf h i) × (length those ≡ length (aheadOf h i)) × InTurn those (standing h i) (freeReplies h es)
   calls-demand-3 =
       let d = demand-3 (shows h) (take i (shows h .waiting)) (drop (suc i) (shows h .waiting)) (standing h i) es (firm-holds h f .isSound) parted due in
       (d .0, d .1, d .2, d .3, rw (free-run es h f n) (d .4))
 
-  -- "then this request at the (k+1)th": the answer at place k, counted from 0
+  -- demand 3, "then this request at the (k+1)th": the answer at place k, counted from 0
   pub calls-demand-3-at : (k : ℕ) → k ≡ length (aheadOf h i) → k < length (freeReplies h es) → getD (freeReplies h es) k Nothing ≡ sentByReservation (standing h i)
   calls-demand-3-at k e l =
       rw (free-run es h f n)
