@@ -17,6 +17,7 @@ use Rattle.rules.proofs.Judged.{passed}
 use Rattle.rules.proofs.Conditions.{counted-means}
 use Rattle.rules.proofs.Opening.{fresh-sound}
 use Rattle.rules.specs.declared.Answer.the-variants.{Nothing}
+use Rattle.table.specs.Columns.{guestWide, waitingWide, flightWide, settingsWide}
 use Rattle.table.specs.View.{settingsForm, handed}
 use Rattle.table.proofs.Lens.{Room, written-shown, written-known}
 use Rattle.gate.specs.Promise.{settingsIn, openShort, openedBy, openingAt, opened}
@@ -33,14 +34,14 @@ module _ (d n c : ℕ) (ss gs ws fs : List ℕ) where
   pub open-long : counted d n c ≡ true → openShort d n c ss gs ws fs ≡ false → OpenRoom d n c ss gs ws fs
   unfolding openShort
   open-long k s =
-      let x = neither (ltb (length ss) (n * 3) || ltb (length gs) (n * 6) || ltb (length ws) (c * 5)) (ltb (length fs) (d * 2)) s in
-      let y = neither (ltb (length ss) (n * 3) || ltb (length gs) (n * 6)) (ltb (length ws) (c * 5)) (x .0) in
-      let z = neither (ltb (length ss) (n * 3)) (ltb (length gs) (n * 6)) (y .0) in
+      let x = neither (ltb (length ss) (n * settingsWide) || ltb (length gs) (n * guestWide) || ltb (length ws) (c * waitingWide)) (ltb (length fs) (d * flightWide)) s in
+      let y = neither (ltb (length ss) (n * settingsWide) || ltb (length gs) (n * guestWide)) (ltb (length ws) (c * waitingWide)) (x .0) in
+      let z = neither (ltb (length ss) (n * settingsWide)) (ltb (length gs) (n * guestWide)) (y .0) in
       record {
-        settings = ltb-false (length ss) (n * 3) (z .0);
-        guests = ltb-false (length gs) (n * 6) (z .1);
-        waiting = ltb-false (length ws) (c * 5) (y .1);
-        flight = ltb-false (length fs) (d * 2) (x .1);
+        settings = ltb-false (length ss) (n * settingsWide) (z .0);
+        guests = ltb-false (length gs) (n * guestWide) (z .1);
+        waiting = ltb-false (length ws) (c * waitingWide) (y .1);
+        flight = ltb-false (length fs) (d * flightWide) (x .1);
         most = let m = counted-means d n c .holds .0 k in (m .depths .1, m .guest-count .1, m .capacities .1);
       }
 

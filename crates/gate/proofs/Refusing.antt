@@ -19,6 +19,7 @@ use Rattle.rules.proofs.Trials.{X}
 use Rattle.rules.specs.declared.Gate.{Gate}
 use Rattle.rules.specs.declared.Refusal.{Refusal}
 use Rattle.rules.specs.declared.Answer.the-variants.{Refused}
+use Rattle.table.specs.Columns.{waitingWide, flightWide}
 use Rattle.table.specs.View.{tableOf, Handed, handed, short, identified, zeroed, soundNumbers}
 use Rattle.gate.specs.Promise.{unchanged, followed, judgedAt, called, settingsIn, openShort, unopened, openedBy, openingAt, opened}
 use Rattle.gate.specs.Calls.{taken}
@@ -75,8 +76,8 @@ module _ (g : Gate) (gs ws fs : List ℕ) where
   unfolding soundNumbers
   honest h =
       let n = not-false (soundNumbers g gs ws fs) h in
-      let a = both (sound t && identified t && zeroed 5 (g .setup .capacity) (g .waiting) ws) (zeroed 2 (g .setup .depth) (g .flight) fs) n in
-      let b = both (sound t && identified t) (zeroed 5 (g .setup .capacity) (g .waiting) ws) (a .0) in
+      let a = both (sound t && identified t && zeroed waitingWide (g .setup .capacity) (g .waiting) ws) (zeroed flightWide (g .setup .depth) (g .flight) fs) n in
+      let b = both (sound t && identified t) (zeroed waitingWide (g .setup .capacity) (g .waiting) ws) (a .0) in
       both (sound t) (identified t) (b .0) .0
 
   -- Each number of an arrival, a completion and a tick is given exactly where document 01 says.

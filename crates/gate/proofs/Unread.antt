@@ -21,6 +21,7 @@ use Rattle.rules.specs.declared.Gate.{Gate}
 use Rattle.rules.specs.declared.Answer.{Answer}
 use Rattle.rules.specs.declared.Answer.the-variants.{Nothing, Refused}
 use Rattle.rules.specs.declared.Refusal.the-variants.{ShortTable, Unsound}
+use Rattle.table.specs.Columns.{guestWide, waitingWide, flightWide, settingsWide}
 use Rattle.table.specs.View.{settingsForm, guestForm, requestForm, flightForm, guestsOf, waitingOf, flightsOf, tableOf, Handed, handed, short, identified, zeroed, soundNumbers}
 use Rattle.table.specs.ViewLaws.{guest-exact, request-exact, flight-exact}
 use Rattle.sound.proofs.Judged.{judged-is}
@@ -48,22 +49,22 @@ module _ (g : Gate) (gs ws fs hs vs es : List ℕ) (a : Alike (g .guests) (g .se
   short-alike : short g gs ws fs ≡ short g hs vs es
   unfolding short
   short-alike =
-      rw (alike-short (g .guests * 6) gs hs (a .guests), alike-short (g .setup .capacity * 5) ws vs (a .waiting), alike-short (g .setup .depth * 2) fs es (a .flight)) refl
+      rw (alike-short (g .guests * guestWide) gs hs (a .guests), alike-short (g .setup .capacity * waitingWide) ws vs (a .waiting), alike-short (g .setup .depth * flightWide) fs es (a .flight)) refl
 
   -- where the counts do not exceed capacity and depth, they show the same table
   module _ (waits : g .waiting ≤ g .setup .capacity) (flies : g .flight ≤ g .setup .depth) where
     table-alike : tableOf g gs ws fs ≡ tableOf g hs vs es
     table-alike =
         let pg : guestsOf gs (g .guests) ≡ guestsOf hs (g .guests) = alike-rows guestForm (g .guests) gs hs (a .guests) in
-        let pw : waitingOf ws (g .waiting) ≡ waitingOf vs (g .waiting) = alike-rows requestForm (g .waiting) ws vs (alike-fewer (g .setup .capacity * 5) ws vs (a .waiting) (g .waiting * 5) (mul-le-mul-right 5 waits)) in
-        let pf : flightsOf fs (g .flight) ≡ flightsOf es (g .flight) = alike-rows flightForm (g .flight) fs es (alike-fewer (g .setup .depth * 2) fs es (a .flight) (g .flight * 2) (mul-le-mul-right 2 flies)) in
+        let pw : waitingOf ws (g .waiting) ≡ waitingOf vs (g .waiting) = alike-rows requestForm (g .waiting) ws vs (alike-fewer (g .setup .capacity * waitingWide) ws vs (a .waiting) (g .waiting * waitingWide) (mul-le-mul-right waitingWide waits)) in
+        let pf : flightsOf fs (g .flight) ≡ flightsOf es (g .flight) = alike-rows flightForm (g .flight) fs es (alike-fewer (g .setup .depth * flightWide) fs es (a .flight) (g .flight * flightWide) (mul-le-mul-right flightWide flies)) in
         λ i. record { setup = g .setup; time = g .time; guests = pg i; waiting = pw i; flight = pf i }
 
     numbers-alike : soundNumbers g gs ws fs ≡ soundNumbers g hs vs es
     unfolding soundNumbers
     numbers-alike =
-        let zw : zeroed 5 (g .setup .capacity) (g .waiting) ws ≡ zeroed 5 (g .setup .capacity) (g .waiting) vs = ap (all (λ x. eqb x 0)) (alike-part (g .setup .capacity * 5) ws vs (a .waiting) (g .waiting * 5) (mul-le-mul-right 5 waits)) in
-        let zf : zeroed 2 (g .setup .depth) (g .flight) fs ≡ zeroed 2 (g .setup .depth) (g .flight) es = ap (all (λ x. eqb x 0)) (alike-part (g .setup .depth * 2) fs es (a .flight) (g .flight * 2) (mul-le-mul-right 2 flies)) in
+        let zw : zeroed waitingWide (g .setup .capacity) (g .waiting) ws ≡ zeroed waitingWide (g .setup .capacity) (g .waiting) vs = ap (all (λ x. eqb x 0)) (alike-part (g .setup .capacity * waitingWide) ws vs (a .waiting) (g .waiting * waitingWide) (mul-le-mul-right waitingWide waits)) in
+        let zf : zeroed flightWide (g .setup .depth) (g .flight) fs ≡ zeroed flightWide (g .setup .depth) (g .flight) es = ap (all (λ x. eqb x 0)) (alike-part (g .setup .depth * flightWide) fs es (a .flight) (g .flight * flightWide) (mul-le-mul-right flightWide flies)) in
         λ i. sound (table-alike i) && identified (table-alike i) && zw i && zf i
 
     -- an event is judged alike
@@ -115,7 +116,7 @@ called-unread e g gs ws fs hs vs es a = go (short g gs ws fs) refl (soundNumbers
     go false s true h = let j = judged-is g gs ws fs h in called-alike g gs ws fs hs vs es a (j .waits) (j .flies) e
 
 -- Nor does an opening, of the settings too.
-pub opened-unread : (d n c : ℕ) (ss ts gs ws fs hs vs es : List ℕ) → take (n * 3) ss ≡ take (n * 3) ts → Alike n c d gs ws fs hs vs es
+pub opened-unread : (d n c : ℕ) (ss ts gs ws fs hs vs es : List ℕ) → take (n * settingsWide) ss ≡ take (n * settingsWide) ts → Alike n c d gs ws fs hs vs es
     → Same n c d (opened d n c ss gs ws fs) (opened d n c ts hs vs es)
 unfolding opened openingAt openShort
 opened-unread d n c ss ts gs ws fs hs vs es o a = rw (sym verdicts) (go (openingAt d n c ss gs ws fs))
@@ -124,7 +125,7 @@ opened-unread d n c ss ts gs ws fs hs vs es o a = rw (sym verdicts) (go (opening
     settings = alike-rows settingsForm n ss ts o
 
     lengths : openShort d n c ss gs ws fs ≡ openShort d n c ts hs vs es
-    lengths = rw (alike-short (n * 3) ss ts o, alike-short (n * 6) gs hs (a .guests), alike-short (c * 5) ws vs (a .waiting), alike-short (d * 2) fs es (a .flight)) refl
+    lengths = rw (alike-short (n * settingsWide) ss ts o, alike-short (n * guestWide) gs hs (a .guests), alike-short (c * waitingWide) ws vs (a .waiting), alike-short (d * flightWide) fs es (a .flight)) refl
 
     verdicts : openingAt d n c ss gs ws fs ≡ openingAt d n c ts hs vs es
     verdicts = λ i. judged (openTests (lengths i) d n c (settings i))

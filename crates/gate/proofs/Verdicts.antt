@@ -13,6 +13,7 @@ use Rattle.rules.specs.Run.{decided, step}
 use Rattle.rules.specs.declared.Gate.{Gate}
 use Rattle.rules.specs.declared.Refusal.the-variants.{ShortTable, Unsound}
 use Rattle.rules.specs.declared.Answer.the-variants.{Refused}
+use Rattle.table.specs.Columns.{guestWide, waitingWide, flightWide}
 use Rattle.table.specs.View.{tableOf, countable, short, soundNumbers, Known}
 use Rattle.sound.proofs.Judged.{judged-is}
 use Rattle.sound.proofs.SoundKnown.{known-sound, sound-known}
@@ -39,7 +40,7 @@ module _ (g : Gate) (gs ws fs : List ℕ) where
   pub known-long : Known g gs ws fs → short g gs ws fs ≡ false
   unfolding short
   known-long k =
-      rw (le-ltb (length gs) (g .guests * 6) (k .guestRoom), le-ltb (length ws) (g .setup .capacity * 5) (k .waitingRoom), le-ltb (length fs) (g .setup .depth * 2) (k .flightRoom))
+      rw (le-ltb (length gs) (g .guests * guestWide) (k .guestRoom), le-ltb (length ws) (g .setup .capacity * waitingWide) (k .waitingRoom), le-ltb (length fs) (g .setup .depth * flightWide) (k .flightRoom))
       (and-false (countable g))
 
   -- counts out of range "give 3 at once"

@@ -14,6 +14,7 @@ use Rattle.rules.specs.Order.{brings}
 use Rattle.rules.specs.Turn.{isDue, ahead}
 use Rattle.rules.specs.declared.Gate.{Gate}
 use Rattle.rules.specs.declared.Answer.{Answer}
+use Rattle.table.specs.Columns.{waitingWide}
 use Rattle.table.specs.View.{requestForm, tableOf, Handed, short, soundNumbers}
 use Rattle.gate.specs.Promise.{called}
 
@@ -82,7 +83,7 @@ freeReplies h (e ∷ es) =
 
 -- the waiting request at place i, from its five numbers
 abbrev pub standing : Host → ℕ → Request
-standing h i = requestForm .read (lineAt 5 (h .waiting) i)
+standing h i = requestForm .read (lineAt waitingWide (h .waiting) i)
 
 -- in demand 3's words, the request at place i is "a waiting request whose reservation tag is at or before that time"
 abbrev pub dueThere : Host → ℕ → Bool

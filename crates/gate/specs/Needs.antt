@@ -4,6 +4,7 @@ use Prim.Native.Nat.{ℕ, _*_}
 use mathlib.Core.Path.{_≡_}
 use mathlib.Core.List.{List}
 use lib.ListN.{length, take, drop}
+use Rattle.table.specs.Columns.{guestWide, waitingWide, flightWide}
 use Rattle.table.specs.View.{Handed}
 
 -- a call left what stands beyond as it was: the tables are as long as before, and hold the same past what is needed
@@ -11,15 +12,15 @@ pub record Beyond (n c d : ℕ) (gs ws fs : List ℕ) (h : Handed) : Type 0 wher
   pub guest-length : length (h .1) ≡ length gs
   pub waiting-length : length (h .2) ≡ length ws
   pub flight-length : length (h .3) ≡ length fs
-  pub guests : drop (n * 6) (h .1) ≡ drop (n * 6) gs
-  pub waiting : drop (c * 5) (h .2) ≡ drop (c * 5) ws
-  pub flight : drop (d * 2) (h .3) ≡ drop (d * 2) fs
+  pub guests : drop (n * guestWide) (h .1) ≡ drop (n * guestWide) gs
+  pub waiting : drop (c * waitingWide) (h .2) ≡ drop (c * waitingWide) ws
+  pub flight : drop (d * flightWide) (h .3) ≡ drop (d * flightWide) fs
 
 -- two sets of lent tables differ at most in what stands beyond. Where one is too short the other is the same list: then nothing stands beyond.
 pub record Alike (n c d : ℕ) (gs ws fs hs vs es : List ℕ) : Type 0 where
-  pub guests : take (n * 6) gs ≡ take (n * 6) hs
-  pub waiting : take (c * 5) ws ≡ take (c * 5) vs
-  pub flight : take (d * 2) fs ≡ take (d * 2) es
+  pub guests : take (n * guestWide) gs ≡ take (n * guestWide) hs
+  pub waiting : take (c * waitingWide) ws ≡ take (c * waitingWide) vs
+  pub flight : take (d * flightWide) fs ≡ take (d * flightWide) es
 
 -- two calls gave the same outcome, and the same numbers at every place needed
 pub record Same (n c d : ℕ) (h k : Handed) : Type 0 where

@@ -17,6 +17,7 @@ use Rattle.rules.specs.Run.{fresh}
 use Rattle.rules.specs.declared.Gate.{Gate}
 use Rattle.rules.specs.declared.Answer.{Answer}
 use Rattle.rules.specs.declared.Answer.the-variants.{Nothing, Refused}
+use Rattle.table.specs.Columns.{guestWide, waitingWide, flightWide, settingsWide}
 use Rattle.table.specs.View.{gateAt, outcomeOf, settingsForm, tableOf, Handed, handed, short, soundNumbers}
 
 -- all that a caller sees of a call: the gate, the answer as the paper shows it, and the three tables
@@ -47,7 +48,7 @@ called e g gs ws fs = followed (judgedAt e g gs ws fs) e g gs ws fs
 -- refusal 2 at opening: "a lent table, or at opening the lent list of guest settings, is shorter than the settings need"
 unfoldable pub openShort : (d n c : ℕ) (ss gs ws fs : List ℕ) → Bool
 openShort d n c ss gs ws fs =
-    ltb (length ss) (n * 3) || ltb (length gs) (n * 6) || ltb (length ws) (c * 5) || ltb (length fs) (d * 2)
+    ltb (length ss) (n * settingsWide) || ltb (length gs) (n * guestWide) || ltb (length ws) (c * waitingWide) || ltb (length fs) (d * flightWide)
 
 -- the settings of n guests, three numbers each
 abbrev pub settingsIn : List ℕ → ℕ → List Settings

@@ -15,6 +15,7 @@ use Rattle.rules.specs.Refusals.{Verdict, accept, refuse, judged}
 use Rattle.trace.specs.Little.{byteAt}
 use Rattle.trace.specs.Header.{mark, same, versionOf, depthOf, guestsOf, capacityOf, body, numberAt, settingsAt, settingsIn, headerTests, headerBy, headerOf}
 use Rattle.rules.proofs.Conditions.{counted-means}
+use Rattle.table.specs.Columns.{settingsWide, LIMIT, SHARES}
 
 -- the most bytes of a header
 abbrev pub longest : ℕ
@@ -32,9 +33,9 @@ module _ (xs ys : List ℕ) (long : longest ≤ length xs) where
   -- a record
   one-guest : (k : ℕ) → k < 64 → settingsAt (xs ++ ys) k ≡ settingsAt xs k
   one-guest k h =
-      let r = number (k * 3) (omega arith) in
-      let l = number (k * 3 + 1) (omega arith) in
-      let s = number (k * 3 + 2) (omega arith) in
+      let r = number (k * settingsWide) (omega arith) in
+      let l = number (k * settingsWide + LIMIT) (omega arith) in
+      let s = number (k * settingsWide + SHARES) (omega arith) in
       λ i. record { reservation = r i; limit = l i; shares = s i }
 
   -- how many guests there are
