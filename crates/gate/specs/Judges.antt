@@ -11,7 +11,7 @@ use Rattle.rules.specs.declared.Outcome.{Outcome}
 use Rattle.rules.specs.declared.Refusal.{Refusal}
 use Rattle.table.specs.Columns.{guestWide, waitingWide, flightWide, settingsWide, mostGuests, mostDepth, mostCapacity}
 use Rattle.table.specs.View.{gateAt, outcomeOf, Known}
-use Rattle.gate.specs.Promise.{unchanged, called, unopened, openingAt}
+use Rattle.gate.specs.Promise.{numbers, unchanged, called, unopened, openingIn}
 use Rattle.gate.specs.declared.numbers.Judged.{Judged}
 use Rattle.gate.specs.declared.numbers.Judged.the-variants.{Good, Bad}
 
@@ -30,8 +30,8 @@ pub record OpenRoom (d n c : ℕ) (ss gs ws fs : List ℕ) : Type 0 where
 
 -- what `judge_opening` finds is true: the opening is accepted, or it is refused so
 abbrev pub JudgesOpening : (d n c : ℕ) (ss gs ws fs : List ℕ) → Judged → Type 0
-JudgesOpening d n c ss gs ws fs Good = (openingAt d n c ss gs ws fs ≡ accept) × OpenRoom d n c ss gs ws fs
-JudgesOpening d n c ss gs ws fs (Bad r) = openingAt d n c ss gs ws fs ≡ refuse r
+JudgesOpening d n c ss gs ws fs Good = (openingIn numbers d n c ss gs ws fs ≡ accept) × OpenRoom d n c ss gs ws fs
+JudgesOpening d n c ss gs ws fs (Bad r) = openingIn numbers d n c ss gs ws fs ≡ refuse r
 
 -- the gate of a fresh table with depth d, n guests and capacity c
 abbrev pub freshGate : (d n c : ℕ) → Gate

@@ -5,11 +5,10 @@ pub mod Copier
 pub mod Copies
 pub mod Copying
 pub mod Home
-pub mod Once
+pub mod Lawful
 pub mod Parts
 pub mod Rec
 pub mod Rows
 pub mod Statements
 pub mod Thin
-pub mod Untouched
 pub mod Words
