@@ -18,6 +18,7 @@ use Rattle.rules.specs.declared.Refusal.{Refusal}
 use Rattle.rules.specs.declared.Refusal.the-variants.{BadSetting, ShortTable}
 use Rattle.rules.specs.declared.Answer.the-variants.{Nothing}
 use Rattle.rules.specs.declared.Outcome.{Outcome}
+use Rattle.table.specs.Columns.{waitingWide, flightWide, settingsWide, mostGuests}
 use Rattle.table.specs.View.{gateAt, outcomeOf, settingsForm, guestForm, countable, short}
 use Rattle.moves.specs.Moves.{started}
 use Rattle.moves.specs.MovesLaws.{cleared-waiting, cleared-flight}
@@ -30,7 +31,7 @@ use Rattle.gate.proofs.Opened.{open-long}
 -- THE JUDGEMENT, of a gate with these counts
 
 -- not many guests
-pub known-few : (g : Gate) (b : Bool) → b ≡ countable g → not b ≡ false → g .guests ≤ 64
+pub known-few : (g : Gate) (b : Bool) → b ≡ countable g → not b ≡ false → g .guests ≤ mostGuests
 known-few g b p n = counted-means (g .setup .depth) (g .guests) (g .setup .capacity) .holds .0 (sym p ∙ not-false b n) .guest-count .1
 
 module _ (g : Gate) (ss gs ws fs : List ℕ) (b : Bool) (p : b ≡ countable g) where
@@ -47,15 +48,15 @@ module _ (g : Gate) (ss gs ws fs : List ℕ) (b : Bool) (p : b ≡ countable g) 
     counts-good = sym p ∙ not-false b n
 
     -- the list of settings is short
-    pub list-short : length ss < g .guests * 3 → Judges (Bad ShortTable)
+    pub list-short : length ss < g .guests * settingsWide → Judges (Bad ShortTable)
     unfolding openingIn openTests openShortIn
-    list-short l = rw (counts-good, lt-ltb (length ss) (g .guests * 3) l) refl
+    list-short l = rw (counts-good, lt-ltb (length ss) (g .guests * settingsWide) l) refl
 
-    module _ (l : g .guests * 3 ≤ length ss) (a : Bool) (q : a ≡ short g gs ws fs) where
+    module _ (l : g .guests * settingsWide ≤ length ss) (a : Bool) (q : a ≡ short g gs ws fs) where
       -- the tables then decide
       short-is : openShortIn numbers (g .setup .depth) (g .guests) (g .setup .capacity) ss gs ws fs ≡ short g gs ws fs
       unfolding openShortIn short
-      short-is = rw (counts-good, le-ltb (length ss) (g .guests * 3) l) refl
+      short-is = rw (counts-good, le-ltb (length ss) (g .guests * settingsWide) l) refl
 
       pub tables-short : a ≡ true → Judges (Bad ShortTable)
       unfolding openingIn openTests
@@ -92,7 +93,7 @@ module _ (d n c : ℕ) (ss gs ws fs : List ℕ) (g : Gate) (e : g ≡ freshGate 
     open-room = good .1
 
     -- and what the moves leave is the fresh table
-    pub opened-returns : (hs vs es : List ℕ) → hs ≡ started ss n gs → vs ≡ zeros ws (c * 5) → es ≡ zeros fs (d * 2)
+    pub opened-returns : (hs vs es : List ℕ) → hs ≡ started ss n gs → vs ≡ zeros ws (c * waitingWide) → es ≡ zeros fs (d * flightWide)
         → (o : Outcome) → o ≡ outcomeOf g Nothing → seen (o, hs, vs, es) ≡ seen (opened d n c ss gs ws fs)
     unfolding openedIn handedIn fresh
     opened-returns hs vs es x y z o q =

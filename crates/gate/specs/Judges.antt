@@ -9,6 +9,7 @@ use Rattle.rules.specs.declared.Gate.{Gate}
 use Rattle.rules.specs.declared.Answer.the-variants.{Refused}
 use Rattle.rules.specs.declared.Outcome.{Outcome}
 use Rattle.rules.specs.declared.Refusal.{Refusal}
+use Rattle.table.specs.Columns.{guestWide, waitingWide, flightWide, settingsWide, mostGuests, mostDepth, mostCapacity}
 use Rattle.table.specs.View.{gateAt, outcomeOf, Known}
 use Rattle.gate.specs.Promise.{numbers, unchanged, called, unopened, openingIn}
 use Rattle.gate.specs.declared.numbers.Judged.{Judged}
@@ -21,11 +22,11 @@ Judges g gs ws fs (Bad r) = (e : Event) → called e g gs ws fs ≡ unchanged g 
 
 -- the lent lists of an opening are as long as depth d, n guests and capacity c need, and these lie in their ranges
 pub record OpenRoom (d n c : ℕ) (ss gs ws fs : List ℕ) : Type 0 where
-  pub settings : n * 3 ≤ length ss
-  pub guests : n * 6 ≤ length gs
-  pub waiting : c * 5 ≤ length ws
-  pub flight : d * 2 ≤ length fs
-  pub most : (d ≤ 64) × (n ≤ 64) × (c ≤ 1024)
+  pub settings : n * settingsWide ≤ length ss
+  pub guests : n * guestWide ≤ length gs
+  pub waiting : c * waitingWide ≤ length ws
+  pub flight : d * flightWide ≤ length fs
+  pub most : (d ≤ mostDepth) × (n ≤ mostGuests) × (c ≤ mostCapacity)
 
 -- what `judge_opening` finds is true: the opening is accepted, or it is refused so
 abbrev pub JudgesOpening : (d n c : ℕ) (ss gs ws fs : List ℕ) → Judged → Type 0

@@ -19,6 +19,7 @@ pub fn step(
 ) -> Outcome
     requires { ⌜ Known gate (now guests) (now waiting) (now flight) ⌝ }
     ensures { λ r. ⌜ (r, now (guests .exit), now (waiting .exit), now (flight .exit)) ≡ does (λ t. stepAt t event) gate (now (guests .entry)) (now (waiting .entry)) (now (flight .entry)) ⌝ }
+    ensures { λ r. ⌜ Known (r .gate) (now (guests .exit)) (now (waiting .exit)) (now (flight .exit)) ⌝ }
 {
     let entered = enter::enter(gate, guests, waiting, flight, event);
     match entered {

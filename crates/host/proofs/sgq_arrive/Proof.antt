@@ -1,4 +1,4 @@
-use Rattle.rules.specs.declared.Event.{Event}
+use Rattle.rules.specs.declared.Event.the-variants.{Arrival}
 use Rattle.host.proofs.Returns.{call-returned}
 use borrow.Author.Needs.{needs}
 use Rattle.host.proofs.sgq_arrive.Statement.{statement}

@@ -1,5 +1,4 @@
 -- `step` meets its contract, by what its callees promise. Assumes nothing.
-use mathlib.Core.Path.{_∙_}
 use Rattle.step.proofs.Moves.{refused-moves, entered-known, entered-moves}
 use borrow.Author.Needs.{needs}
 use Rattle.step.proofs.step.Statement.{statement}
@@ -51,7 +50,7 @@ returns-2 : tie.Need-returns-2
 returns-2 c =
     let s = c .before .before .before .before .before .before .before .before .before .before .before .before .before .before .before .before .before .before .before .before .before .before .before .before .before .before in
     let x = c .before .before .before .before .before .before .before .before .before .before .before .before .before .before .before .before .before .before .before .enter in
-    c .before .before .before .before .before .before .choose .ensures ∙ entered-moves (s .args .gate) (s .args .guests .now) (s .args .waiting .now) (s .args .flight .now) (s .pre) (s .args .event) (x .result) _ _ _ (x .ensures) _ (c .before .before .before .before .before .before .before .before .before .before .before .entered2 .given .1)
+    entered-moves (s .args .gate) (s .args .guests .now) (s .args .waiting .now) (s .args .flight .now) (s .pre) (s .args .event) (x .result) _ _ _ (x .ensures) _ (c .before .before .before .before .before .before .before .before .before .before .before .entered2 .given .1) _ (c .before .before .before .before .before .before .choose .ensures)
 
 pub step-spec : {M : Type 1} → statement M
 step-spec =

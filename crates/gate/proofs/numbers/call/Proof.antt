@@ -47,7 +47,7 @@ same-length-6 c = search needs
 returns-2 : tie.Need-returns-2
 returns-2 c =
     let s = c .before .before .before .before .before .before .before .before .before .before .before .before .before .before .before .before .before .before .before in
-    good-returns (s .args .gate) (s .args .guests .now) (s .args .waiting .now) (s .args .flight .now) _ (c .before .before .before .before .before .before .before .before .before .before .before .before .judge .ensures) (s .args .event) (c .before .before .before .before .before .before .before .before .before .before .enum-told .given .1) _ (c .before .before .before .before .before .before .step .ensures)
+    good-returns (s .args .gate) (s .args .guests .now) (s .args .waiting .now) (s .args .flight .now) _ (c .before .before .before .before .before .before .before .before .before .before .before .before .judge .ensures) (s .args .event) (c .before .before .before .before .before .before .before .before .before .before .enum-told .given .1) _ (c .before .before .before .before .before .before .step .ensures .0)
 
 pub call-spec : {M : Type 1} → statement M
 call-spec =
