@@ -20,6 +20,7 @@ use Rattle.rules.specs.Chosen.{blank, at}
 use Rattle.rules.proofs.Facts.{orderly-is, any-orderly}
 use Rattle.rules.proofs.WeightFits.{weight-fits}
 use Rattle.rules.specs.declared.Gate.{Gate}
+use Rattle.table.specs.Columns.{guestWide, waitingWide, flightWide, mostGuests, mostCapacity, RNEXT, GUEST, RTAG, mostDepth}
 use Rattle.table.specs.View.{guestForm, requestForm, guestsOf, tableOf, Known}
 use Rattle.walks.specs.LeastLaws.{least-ext, open-by-tag}
 use Rattle.moves.specs.Moves.{spacingOf}
@@ -39,7 +40,7 @@ module _ (g : Gate) (gs ws fs : List ℕ) (k : Known g gs ws fs) where
   f = facts g gs ws fs k
 
   -- what the walk asks
-  pub line-asks : ((g .waiting ≤ 1024) × (g .waiting * 5 ≤ length ws) × (g .guests ≤ 64) × (g .guests * 6 ≤ length gs))
+  pub line-asks : ((g .waiting ≤ mostCapacity) × (g .waiting * waitingWide ≤ length ws) × (g .guests ≤ mostGuests) × (g .guests * guestWide ≤ length gs))
       × ((Owned ws (g .waiting) (g .guests) × Rising ws (g .waiting) × SharesFit ws (g .waiting)) × (g .time ≤ ceiling))
   line-asks = (
     (rows-ask g gs ws fs k .0, rows-ask g gs ws fs k .1, f .counts .guest-count .1, k .guestRoom),
@@ -77,10 +78,10 @@ module _ (g : Gate) (gs ws fs : List ℕ) (k : Known g gs ws fs) where
 
   module _ (free : g .flight < g .setup .depth) (place : ℕ) (here : place < g .waiting) where
     -- what a send asks
-    pub send-asks : (place < g .waiting) × (g .waiting * 5 ≤ length ws) × (g .flight * 2 + 2 ≤ length fs)
+    pub send-asks : (place < g .waiting) × (g .waiting * waitingWide ≤ length ws) × (g .flight * flightWide + flightWide ≤ length fs)
     send-asks = (here, rows-ask g gs ws fs k .1, omega (arith, k .flightRoom))
 
-    pub sent-asks : (0 < g .waiting) × (g .flight < g .setup .depth) × (g .setup .depth ≤ 64)
+    pub sent-asks : (0 < g .waiting) × (g .flight < g .setup .depth) × (g .setup .depth ≤ mostDepth)
     sent-asks = (omega arith, free, f .counts .depths .1)
 
     abbrev n : ℕ
@@ -91,24 +92,24 @@ module _ (g : Gate) (gs ws fs : List ℕ) (k : Known g gs ws fs) where
 
     -- what the drop asks: nothing falls below zero
     pub drop-asks : Picks (open? t) Request.stag (t .waiting) (At place)
-        → ((n * 6 + 6 ≤ length gs) × ((g .waiting - 1) * 5 ≤ length ws1)) × ((spacingOf n gs ≤ getD gs (n * 6 + 3) 0)
-        × ((j : ℕ) → j < g .waiting - 1 → getD ws1 (j * 5 + 0) 0 ≡ n → spacingOf n gs ≤ getD ws1 (j * 5 + 2) 0))
+        → ((n * guestWide + guestWide ≤ length gs) × ((g .waiting - 1) * waitingWide ≤ length ws1)) × ((spacingOf n gs ≤ getD gs (n * guestWide + RNEXT) 0)
+        × ((j : ℕ) → j < g .waiting - 1 → getD ws1 (j * waitingWide + GUEST) 0 ≡ n → spacingOf n gs ≤ getD ws1 (j * waitingWide + RTAG) 0))
     drop-asks h =
         let q = goes g gs ws fs k free place here in
         let v = stay g gs ws fs k free place here in
         let eq : q .guest ≡ n = guest-goes g gs ws fs k free place here in
         let w = weight-fits t (k .isSound) q v (h .pick) in
         let own : n < g .guests = f .owners place here in
-        let at-n : owner (t .guests) (q .guest) ≡ guestForm .read (lineAt 6 gs n) = ap (owner (t .guests)) eq ∙ guest-is g gs ws fs k n own in
+        let at-n : owner (t .guests) (q .guest) ≡ guestForm .read (lineAt guestWide gs n) = ap (owner (t .guests)) eq ∙ guest-is g gs ws fs k n own in
         let d : dropOf t q ≡ spacingOf n gs = ap (λ (h : Guest). down (h .settings .reservation)) at-n in
-        let e : (owner (t .guests) (q .guest)) .rnext ≡ getD gs (n * 6 + 3) 0 = ap Guest.rnext at-n in
+        let e : (owner (t .guests) (q .guest)) .rnext ≡ getD gs (n * guestWide + RNEXT) 0 = ap Guest.rnext at-n in
         let rows = left-rows g gs ws fs k free place here in
-        let size : (g .waiting - 1) * 5 ≤ length ws1 = omega (arith, left-room g gs ws fs k free place here, f .waits) in (
+        let size : (g .waiting - 1) * waitingWide ≤ length ws1 = omega (arith, left-room g gs ws fs k free place here, f .waits) in (
           (omega (arith, own, k .guestRoom), size),
           (
             omega (arith, w .next),
             λ j l i.
-                let p : at v j ≡ requestForm .read (lineAt 5 ws1 j) = ap (λ (x : List Request). at x j) (sym rows) ∙ row-at requestForm ws1 (g .waiting - 1) j l in
+                let p : at v j ≡ requestForm .read (lineAt waitingWide ws1 j) = ap (λ (x : List Request). at x j) (sym rows) ∙ row-at requestForm ws1 (g .waiting - 1) j l in
                 let m : dropOf t q ≤ (at v j) .rtag = w .tags blank j (omega (arith, length-stay g gs ws fs k free place here)) (ap Request.guest p ∙ i ∙ sym eq) in
                 omega (arith, m, ap Request.rtag p, d),
           ),

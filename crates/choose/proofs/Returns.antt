@@ -11,6 +11,7 @@ use Rattle.rules.specs.declared.Gate.{Gate}
 use Rattle.rules.specs.declared.Outcome.{Outcome}
 use Rattle.rules.specs.declared.Answer.the-variants.{Nothing, Sent}
 use Rattle.rules.specs.declared.Phase.the-variants.{Reservation, Weight}
+use Rattle.table.specs.Columns.{guestWide, waitingWide, RESERVATION, RNEXT, GUEST, RTAG}
 use Rattle.table.specs.View.{outcomeOf, guestsOf, tableOf, Known}
 use Rattle.moves.specs.Moves.{gone, joined, Named, spacingOf, nextDropped, tagsDropped}
 use Rattle.walks.specs.Walks.{Picks}
@@ -62,14 +63,14 @@ module _ (g : Gate) (gs ws fs : List ℕ) (k : Known g gs ws fs) where
 
     abbrev Asks : ℕ → List ℕ → Type 0
     Asks n vs =
-        ((n * 6 + 6 ≤ length gs) × ((g .waiting - 1) * 5 ≤ length vs)) × ((spacingOf n gs ≤ getD gs (n * 6 + 3) 0)
-        × ((j : ℕ) → j < g .waiting - 1 → getD vs (j * 5 + 0) 0 ≡ n → spacingOf n gs ≤ getD vs (j * 5 + 2) 0))
+        ((n * guestWide + guestWide ≤ length gs) × ((g .waiting - 1) * waitingWide ≤ length vs)) × ((spacingOf n gs ≤ getD gs (n * guestWide + RNEXT) 0)
+        × ((j : ℕ) → j < g .waiting - 1 → getD vs (j * waitingWide + GUEST) 0 ≡ n → spacingOf n gs ≤ getD vs (j * waitingWide + RTAG) 0))
 
     -- what the drop asks of the tables after the send
     pub drop-asked : (x : Found) (place : ℕ) → Open x → x ≡ At place → (n : Name) (vs : List ℕ) → vs ≡ gone place (g .waiting) ws → Named place ws n → Asks (n .guest) vs
     drop-asked x place p e n vs ew en =
         let f = found-at g gs ws fs k x place (open-picks g gs ws fs k x p) e in
-        subst (λ (y : ℕ). Asks y vs) (sym (en .0)) (subst (Asks (getD ws (place * 5 + 0) 0)) (sym ew) (drop-asks g gs ws fs k free place (f .1) (f .0)))
+        subst (λ (y : ℕ). Asks y vs) (sym (en .0)) (subst (Asks (getD ws (place * waitingWide + GUEST) 0)) (sym ew) (drop-asks g gs ws fs k free place (f .1) (f .0)))
 
     pub weight-returns : (x : Found) (place : ℕ) → Open x → x ≡ At place → (n : Name) (hs vs us es : List ℕ) (o : Outcome)
         → vs ≡ gone place (g .waiting) ws → es ≡ joined place (g .flight) ws fs → Named place ws n

@@ -17,6 +17,7 @@ use Rattle.rules.specs.Chosen.{blank, at}
 use Rattle.rules.proofs.Chains.{rising, kept-rising}
 use Rattle.rules.proofs.Facts.{orderly-is, any-orderly}
 use Rattle.rules.specs.declared.Gate.{Gate}
+use Rattle.table.specs.Columns.{waitingWide, GUEST}
 use Rattle.table.specs.View.{requestForm, tableOf, Known}
 use Rattle.walks.specs.Walks.{Rising}
 use Rattle.table.proofs.Facts.{facts, row-is}
@@ -51,7 +52,7 @@ module _ (g : Gate) (gs ws fs : List ℕ) (k : Known g gs ws fs) where
 
   pub rising-rows : Rising ws (g .waiting)
   rising-rows j i l h e =
-      let n = getD ws (i * 5 + 0) 0 in
+      let n = getD ws (i * waitingWide + GUEST) 0 in
       let s = (owner (t .guests) n) .settings in
       let o = orderly-is (owner (t .guests) n) (mine n (t .waiting)) (any-orderly t (facts g gs ws fs k .firm) n) in
       let m : j < g .waiting = omega arith in

@@ -15,6 +15,7 @@ use Rattle.rules.specs.Chosen.{at}
 use Rattle.rules.specs.declared.Gate.{Gate}
 use Rattle.rules.specs.declared.Answer.the-variants.{Nothing, Sent}
 use Rattle.rules.specs.declared.Phase.the-variants.{Reservation}
+use Rattle.table.specs.Columns.{waitingWide, GUEST, ID}
 use Rattle.table.specs.View.{gateAt, outcomeOf, guestForm, requestForm, flightForm, tableOf, handed, Known}
 use Rattle.table.specs.ViewLaws.{guest-exact}
 use Rattle.moves.specs.Moves.{gone, joined}
@@ -70,10 +71,10 @@ module _ (g : Gate) (gs ws fs : List ℕ) (k : Known g gs ws fs) where
 
     -- its guest and its id, as numbers
     abbrev pub goesGuest : ℕ
-    goesGuest = getD ws (place * 5 + 0) 0
+    goesGuest = getD ws (place * waitingWide + GUEST) 0
 
     abbrev pub goesId : ℕ
-    goesId = getD ws (place * 5 + 1) 0
+    goesId = getD ws (place * waitingWide + ID) 0
 
     pub guest-goes : goes .guest ≡ goesGuest
     guest-goes = ap Request.guest (row-is g gs ws fs k place here)

@@ -12,6 +12,7 @@ use Rattle.rules.specs.Choice.{open?, sending, earlier, sooner, dropOf, dropped
 use Rattle.rules.specs.declared.Gate.{Gate}
 use Rattle.rules.specs.declared.Answer.the-variants.{Sent}
 use Rattle.rules.specs.declared.Phase.the-variants.{Weight}
+use Rattle.table.specs.Columns.{waitingWide}
 use Rattle.table.specs.View.{gateAt, outcomeOf, guestForm, requestForm, waitingOf, tableOf, Known}
 use Rattle.table.specs.ViewLaws.{request-exact}
 use Rattle.moves.specs.Moves.{gone, joined, spacingOf, nextDropped, tagsDropped}
@@ -58,7 +59,7 @@ module _ (g : Gate) (gs ws fs : List ℕ) (k : Known g gs ws fs) (free : g .flig
       subst (λ (m : ℕ). Unused requestForm (g .setup .capacity) m left) (length-stay g gs ws fs k free place here)
       (subst (λ (xs : List ℕ). Unused requestForm (g .setup .capacity) (length v) xs) (sym left-is) (over-unused requestForm request-exact (g .setup .capacity) v ws (k .waitingRoom) fit))
 
-  pub left-room : g .setup .capacity * 5 ≤ length left
+  pub left-room : g .setup .capacity * waitingWide ≤ length left
   left-room = omega (arith, k .waitingRoom, ap length left-is, length-over-rows requestForm request-exact (g .setup .capacity) v ws)
 
   -- the numbers once its guest's tags have dropped show the table that it is sent from, dropped

@@ -18,6 +18,7 @@ use Rattle.rules.specs.Refusals.{Verdict, accept, openTests}
 use Rattle.rules.specs.Run.{fresh}
 use Rattle.rules.specs.declared.Outcome.{Outcome}
 use Rattle.rules.specs.declared.Answer.the-variants.{Nothing}
+use Rattle.table.specs.Columns.{guestWide, waitingWide, flightWide, settingsWide}
 use Rattle.table.specs.View.{settingsForm, tableOf, Handed, handed, short, soundNumbers, Known}
 use Rattle.gate.specs.Promise.{Seen, seen, openShort, openedBy, openingAt, opened}
 use Rattle.gate.specs.Calls.{taken}
@@ -34,7 +35,7 @@ use Rattle.decide.proofs.Begins.{Sizes, sizes}
 module _ (bs old gs ws fs : List ℕ) (d n c : ℕ) (h : headerOf bs ≡ Opened d n c) (large : Largest old gs ws fs) where
   -- the settings as they were read from the header
   abbrev ss : List ℕ
-  ss = sets old 0 (tab (n * 3) (numberAt bs))
+  ss = sets old 0 (tab (n * settingsWide) (numberAt bs))
 
   o : Opens bs d n c
   o = header-opens bs d n c h
@@ -48,7 +49,7 @@ module _ (bs old gs ws fs : List ℕ) (d n c : ℕ) (h : headerOf bs ≡ Opened 
   long : openShort d n c ss gs ws fs ≡ false
   unfolding openShort
   long =
-      rw (le-ltb (length ss) (n * 3) (omega (arith, z .guests, large .settings, length-sets old 0 (tab (n * 3) (numberAt bs)))), le-ltb (length gs) (n * 6) (omega (arith, z .guests, large .guests)), le-ltb (length ws) (c * 5) (omega (arith, z .capacity, large .waiting)), le-ltb (length fs) (d * 2) (omega (arith, z .depth, large .flight)))
+      rw (le-ltb (length ss) (n * settingsWide) (omega (arith, z .guests, large .settings, length-sets old 0 (tab (n * settingsWide) (numberAt bs)))), le-ltb (length gs) (n * guestWide) (omega (arith, z .guests, large .guests)), le-ltb (length ws) (c * waitingWide) (omega (arith, z .capacity, large .waiting)), le-ltb (length fs) (d * flightWide) (omega (arith, z .depth, large .flight)))
       refl
 
   accepts : openingAt d n c ss gs ws fs ≡ accept

@@ -22,6 +22,7 @@ use Rattle.rules.specs.Refusals.{eventTests, passing, accept, refuse, judged, v
 use Rattle.rules.proofs.SameSettings.{adjusted-settings, same-count}
 use Rattle.rules.specs.declared.Gate.{Gate}
 use Rattle.rules.specs.declared.Refusal.the-variants.{IdInUse, NoRoom, TagAboveCeiling}
+use Rattle.table.specs.Columns.{guestWide, waitingWide}
 use Rattle.table.specs.View.{gateAt, guestForm, requestForm, flightForm, guestsOf, waitingOf, tableOf, Known}
 use Rattle.table.specs.ViewLaws.{guest-exact, request-exact, flight-exact}
 use Rattle.moves.specs.Moves.{appended, followed}
@@ -117,10 +118,10 @@ module _ (g : Gate) (gs ws fs : List ℕ) (k : Known g gs ws fs) (a : Arriving) 
                 subst (λ (m : ℕ). Unused requestForm (g .setup .capacity) m vs) count
                 (subst (λ (x : List ℕ). Unused requestForm (g .setup .capacity) (length (s .waiting)) x) (sym pv) (over-unused requestForm request-exact (g .setup .capacity) (s .waiting) ws (k .waitingRoom) (omega (arith, count, fit))))
 
-            room-v : g .setup .capacity * 5 ≤ length vs
+            room-v : g .setup .capacity * waitingWide ≤ length vs
             room-v = omega (arith, k .waitingRoom, ap length pv, length-over-rows requestForm request-exact (g .setup .capacity) (s .waiting) ws)
 
-            room-h : g .guests * 6 ≤ length hs
+            room-h : g .guests * guestWide ≤ length hs
             room-h = omega (arith, k .guestRoom, ap length ph, length-over-rows guestForm guest-exact (g .guests) (s .guests) gs)
 
             -- the request placed last

@@ -21,6 +21,7 @@ use Rattle.rules.proofs.Facts.{lawful-is}
 use Rattle.rules.proofs.SameSettings.{adjusted-settings, same-count, same-owner}
 use Rattle.rules.specs.declared.Gate.{Gate}
 use Rattle.rules.specs.declared.Refusal.the-variants.{TagAboveCeiling}
+use Rattle.table.specs.Columns.{guestWide, LIMIT}
 use Rattle.table.specs.View.{guestForm, requestForm, guestsOf, tableOf, Known}
 use Rattle.table.specs.ViewLaws.{guest-exact, request-exact}
 use Rattle.moves.specs.Moves.{appended, followed}
@@ -49,11 +50,11 @@ module _ (g : Gate) (gs ws fs : List ℕ) (k : Known g gs ws fs) (a : Arriving) 
   known = ready .timely .known
 
   -- the guest's row is there
-  pub row-asks : a .guest * 6 + 6 ≤ length gs
+  pub row-asks : a .guest * guestWide + guestWide ≤ length gs
   row-asks = omega (arith, known, k .guestRoom)
 
   -- the tags by the numbers are the request's
-  module _ (s : Stamp) (es : s ≡ stampOf i now (guestForm .read (lineAt 6 gs (a .guest)))) where
+  module _ (s : Stamp) (es : s ≡ stampOf i now (guestForm .read (lineAt guestWide gs (a .guest)))) where
     stamp-is : s ≡ stampOf i now (owner (t .guests) (a .guest))
     stamp-is = es ∙ ap (stampOf i now) (sym (guest-is g gs ws fs k (a .guest) known))
 
@@ -115,8 +116,8 @@ module _ (g : Gate) (gs ws fs : List ℕ) (k : Known g gs ws fs) (a : Arriving) 
             ap (λ (m : ℕ). guestsOf hs m) (sym n) ∙ ap (λ (x : List ℕ). guestsOf x (length ((adjusted i now t) .guests))) ph
             ∙ rows-over guestForm guest-exact (g .guests) ((adjusted i now t) .guests) gs (k .guestRoom) (omega (arith, n)) in
             let own : (owner ((adjusted i now t) .guests) (a .guest)) .settings ≡ (owner (t .guests) (a .guest)) .settings = same-owner (adjusted i now t) t (adjusted-settings i now t) (a .guest) in
-            let at : owner (guestsOf hs (g .guests)) (a .guest) ≡ guestForm .read (lineAt 6 hs (a .guest)) = row-at guestForm hs (g .guests) (a .guest) known in
-            let limits : getD hs (a .guest * 6 + 1) 0 ≡ (owner (t .guests) (a .guest)) .settings .limit =
+            let at : owner (guestsOf hs (g .guests)) (a .guest) ≡ guestForm .read (lineAt guestWide hs (a .guest)) = row-at guestForm hs (g .guests) (a .guest) known in
+            let limits : getD hs (a .guest * guestWide + LIMIT) 0 ≡ (owner (t .guests) (a .guest)) .settings .limit =
             sym (ap (λ (x : Guest). x .settings .limit) at) ∙ ap (λ (x : List Guest). (owner x (a .guest)) .settings .limit) rows ∙ ap Settings.limit own in
             let free : g .waiting ≡ g .setup .capacity → ⊥ = ready .free in
             let fit : g .waiting < g .setup .capacity = let w = z .waits in omega arith in

@@ -11,6 +11,7 @@ use Rattle.rules.specs.declared.Event.the-variants.{Completion, Tick}
 use Rattle.rules.specs.Refusals.{refuse, verdict}
 use Rattle.rules.specs.declared.Gate.{Gate}
 use Rattle.rules.specs.declared.Refusal.the-variants.{NotInFlight}
+use Rattle.table.specs.Columns.{flightWide}
 use Rattle.table.specs.View.{tableOf, Known}
 use Rattle.moves.specs.Moves.{freed}
 use Rattle.walks.specs.Walks.{Finds}
@@ -39,7 +40,7 @@ module _ (g : Gate) (gs ws fs : List ℕ) (k : Known g gs ws fs) where
         at-place : Finds a (t .flight) (At place)
         at-place = subst (Finds a (t .flight)) e found
 
-        pub out-asks : (place < g .flight) × (g .flight * 2 ≤ length fs)
+        pub out-asks : (place < g .flight) × (g .flight * flightWide ≤ length fs)
         out-asks = (out-here g gs ws fs k now a known l h place at-place, omega (arith, facts g gs ws fs k .flies, k .flightRoom))
 
         -- a completion enters

@@ -21,6 +21,7 @@ use Rattle.rules.specs.Refusals.{refuse, verdict}
 use Rattle.rules.proofs.Facts.{any-orderly}
 use Rattle.rules.specs.declared.Gate.{Gate}
 use Rattle.rules.specs.declared.Refusal.the-variants.{IdInUse, NoRoom}
+use Rattle.table.specs.Columns.{guestWide, waitingWide, mostGuests, mostCapacity, GUEST}
 use Rattle.table.specs.View.{guestForm, requestForm, tableOf, Known}
 use Rattle.table.specs.ViewLaws.{guest-exact, request-exact}
 use Rattle.table.specs.Stamp.{movesFit}
@@ -78,8 +79,8 @@ module _ (g : Gate) (gs ws fs : List ℕ) (k : Known g gs ws fs) (now : ℕ) (la
 
   -- what the settling asks
   pub settle-asks : (m : ℕ) → m ≡ smallest t
-      → ((g .guests ≤ 64) × (g .guests * 6 ≤ length gs) × (g .waiting ≤ 1024) × (g .waiting * 5 ≤ length ws))
-      × (((j : ℕ) → j < g .waiting → getD ws (j * 5 + 0) 0 < g .guests) × (TagsMove now m ws (g .waiting) × NextsMove now m (idleIn ws (g .waiting)) gs (g .guests)))
+      → ((g .guests ≤ mostGuests) × (g .guests * guestWide ≤ length gs) × (g .waiting ≤ mostCapacity) × (g .waiting * waitingWide ≤ length ws))
+      × (((j : ℕ) → j < g .waiting → getD ws (j * waitingWide + GUEST) 0 < g .guests) × (TagsMove now m ws (g .waiting) × NextsMove now m (idleIn ws (g .waiting)) gs (g .guests)))
   settle-asks m em =
       let f = facts g gs ws fs k in
       let fit = f .firm .tags-fit in (

@@ -10,6 +10,7 @@ use Rattle.rules.specs.declared.Guest.{Guest}
 use Rattle.rules.specs.declared.Arriving.{Arriving}
 use Rattle.rules.specs.Events.{calledBy, tagIf, shareTag}
 use Rattle.rules.specs.declared.Gate.{Gate}
+use Rattle.table.specs.Columns.{guestWide, waitingWide, mostCapacity, LIMIT}
 use Rattle.table.specs.View.{tableOf}
 use Rattle.moves.specs.Moves.{appended, followed}
 use Rattle.table.specs.Does.{placedGate}
@@ -42,10 +43,10 @@ pub record Ready (g : Gate) (gs ws fs : List ℕ) (a : Arriving) (now : ℕ) : T
 
 -- there is room for it, and its next numbers fit
 pub record Placeable (g : Gate) (gs ws : List ℕ) (guest : ℕ) (s : Stamp) : Type 0 where
-  pub waits : g .waiting ≤ 1024
-  pub row : g .waiting * 5 + 5 ≤ length ws
-  pub owner : guest * 6 + 6 ≤ length gs
-  pub limit : getD gs (guest * 6 + 1) 0 ≤ 1000000
+  pub waits : g .waiting ≤ mostCapacity
+  pub row : g .waiting * waitingWide + waitingWide ≤ length ws
+  pub owner : guest * guestWide + guestWide ≤ length gs
+  pub limit : getD gs (guest * guestWide + LIMIT) 0 ≤ 1000000
   pub rtag : s .rtag ≤ ceiling
   pub ltag : s .ltag ≤ ceiling
   pub stag : s .stag ≤ ceiling

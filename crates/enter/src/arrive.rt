@@ -4,6 +4,7 @@ use crate::Entered;
 use rules::Arriving;
 use rules::Gate;
 use rules::Refusal;
+use table::columns::GUEST_WIDE;
 use table::columns::LIMIT;
 use table::columns::LNEXT;
 use table::columns::RESERVATION;
@@ -22,6 +23,7 @@ ghost use Rattle.lists.specs.Lines.{lineAt};
 ghost use Rattle.rules.specs.Tables.{idle as idleAt, lacks, name};
 ghost use Rattle.rules.specs.Events.{calledBy};
 ghost use Rattle.rules.specs.declared.Event.the-variants.{Arrival};
+ghost use Rattle.table.specs.Columns.{guestWide};
 ghost use Rattle.table.specs.View.{guestForm, waitingOf, tableOf, Known};
 ghost use Rattle.enter.specs.Enters.{Enters};
 ghost use Rattle.enter.specs.Arrive.{stampOf, Timely, Ready, Placeable, Placed};
@@ -35,15 +37,15 @@ pub struct Stamp {
 
 // The tags of a request of `guest`: of each kind it has, the larger of the next number and the time.
 fn tags_of(guests: &[u64], guest: u64, time: u64, idle: bool) -> Stamp
-    requires { ⌜ guest * 6 + 6 ≤ length (now guests) ⌝ }
-    ensures { λ r. ⌜ r ≡ stampOf idle time (guestForm .read (lineAt 6 (now (guests .entry)) guest)) ⌝ }
+    requires { ⌜ guest * guestWide + guestWide ≤ length (now guests) ⌝ }
+    ensures { λ r. ⌜ r ≡ stampOf idle time (guestForm .read (lineAt guestWide (now (guests .entry)) guest)) ⌝ }
 {
     let g = guest as usize;
-    let reservation = guests[g * 6 + RESERVATION];
-    let limit = guests[g * 6 + LIMIT];
-    let rnext = guests[g * 6 + RNEXT];
-    let lnext = guests[g * 6 + LNEXT];
-    let snext = guests[g * 6 + SNEXT];
+    let reservation = guests[g * GUEST_WIDE + RESERVATION];
+    let limit = guests[g * GUEST_WIDE + LIMIT];
+    let rnext = guests[g * GUEST_WIDE + RNEXT];
+    let lnext = guests[g * GUEST_WIDE + LNEXT];
+    let snext = guests[g * GUEST_WIDE + SNEXT];
     let rtag = table::numbers::tag_if(0 < reservation, time, rnext);
     let ltag = table::numbers::tag_if(0 < limit, time, lnext);
     let stag = table::numbers::share_tag(idle, time, snext);

@@ -2,13 +2,10 @@
 -- and no earlier one of that call's list does. Assumes nothing.
 use Prim.Native.Nat.{ℕ}
 use mathlib.Core.Path.{_≡_, refl, sym, ap, _∙_}
-use mathlib.Core.Bool.{true, false, not, _&&_, true≢false}
+use mathlib.Core.Bool.{true, not, true≢false}
 use mathlib.Core.List.{List}
 use borrow.Author.Tests.{not-false}
-use Rattle.lists.specs.WordsLaws.{both}
-use Rattle.rules.specs.Tables.{Table}
 use Rattle.rules.specs.Answers.{shown}
-use Rattle.rules.specs.Sound.{sound}
 use Rattle.rules.specs.Events.{enter}
 use Rattle.rules.specs.declared.Event.{Event}
 use Rattle.rules.specs.Refusals.{Verdict, accept, refuse}
@@ -19,77 +16,67 @@ use Rattle.rules.proofs.Trials.{X}
 use Rattle.rules.specs.declared.Gate.{Gate}
 use Rattle.rules.specs.declared.Refusal.{Refusal}
 use Rattle.rules.specs.declared.Answer.the-variants.{Refused}
-use Rattle.table.specs.View.{tableOf, Handed, handed, short, identified, zeroed, soundNumbers}
-use Rattle.gate.specs.Promise.{unchanged, followed, judgedAt, called, settingsIn, openShort, unopened, openedBy, openingAt, opened}
+use Rattle.gate.specs.Promise.{Lending, HandedIn, tableIn, handedIn, shortIn, soundIn, unchangedIn, followedIn, judgedIn, calledIn, settingsIn, openShortIn, unopened, openedByIn, openingIn, openedIn}
 use Rattle.gate.specs.Calls.{taken}
+use Rattle.gate.proofs.Lending.{Lawful, sound-shown}
 
 -- THE ANSWER AND THE VERDICT
 
--- what a call answers follows from its verdict
-called-follows : (g : Gate) (gs ws fs : List ℕ) (e : Event) (v : Verdict) → Follows v (followed v e g gs ws fs .0 .answer)
-unfolding handed
-called-follows g gs ws fs e accept = unrefused (enter (tableOf g gs ws fs) e)
-called-follows g gs ws fs e (refuse r) = refl
+module _ (v : Lending) where
+  -- what a call answers follows from its verdict
+  called-follows : (g : Gate) (gs : List (v .Cell)) (ws fs : List ℕ) (e : Event) (w : Verdict) → Follows w (followedIn v w e g gs ws fs .0 .answer)
+  unfolding handedIn
+  called-follows g gs ws fs e accept = unrefused (enter (tableIn v g gs ws fs) e)
+  called-follows g gs ws fs e (refuse r) = refl
 
-opened-follows : (d n c : ℕ) (ss gs ws fs : List ℕ) (v : Verdict) → Follows v (openedBy v d n c ss gs ws fs .0 .answer)
-unfolding handed
-opened-follows d n c ss gs ws fs accept = refl
-opened-follows d n c ss gs ws fs (refuse r) = refl
+  opened-follows : (d n c : ℕ) (ss : List ℕ) (gs : List (v .Cell)) (ws fs : List ℕ) (w : Verdict) → Follows w (openedByIn v w d n c ss gs ws fs .0 .answer)
+  unfolding handedIn
+  opened-follows d n c ss gs ws fs accept = refl
+  opened-follows d n c ss gs ws fs (refuse r) = refl
 
--- REFUSAL KEEPS
+  -- REFUSAL KEEPS
 
--- a call that answers with a refusal hands back what it was handed
-pub refusal-keeps : (e : Event) (g : Gate) (gs ws fs : List ℕ) (r : Refusal) → called e g gs ws fs .0 .answer ≡ Refused r → called e g gs ws fs ≡ unchanged g gs ws fs (Refused r)
-unfolding called
-refusal-keeps e g gs ws fs r = go (judgedAt e g gs ws fs)
-  where
-    go : (v : Verdict) → followed v e g gs ws fs .0 .answer ≡ Refused r → followed v e g gs ws fs ≡ unchanged g gs ws fs (Refused r)
-    go accept h = absurd (true≢false (sym (called-follows g gs ws fs e accept) ∙ ap taken h))
-    go (refuse s) h = ap (unchanged g gs ws fs) h
+  -- a call that answers with a refusal hands back what it was handed
+  pub refusal-keeps : (e : Event) (g : Gate) (gs : List (v .Cell)) (ws fs : List ℕ) (r : Refusal) → calledIn v e g gs ws fs .0 .answer ≡ Refused r → calledIn v e g gs ws fs ≡ unchangedIn v g gs ws fs (Refused r)
+  unfolding calledIn
+  refusal-keeps e g gs ws fs r = go (judgedIn v e g gs ws fs)
+    where
+      go : (w : Verdict) → followedIn v w e g gs ws fs .0 .answer ≡ Refused r → followedIn v w e g gs ws fs ≡ unchangedIn v g gs ws fs (Refused r)
+      go accept h = absurd (true≢false (sym (called-follows g gs ws fs e accept) ∙ ap taken h))
+      go (refuse s) h = ap (unchangedIn v g gs ws fs) h
 
--- an opening that is refused opens nothing
-pub opening-keeps : (d n c : ℕ) (ss gs ws fs : List ℕ) (r : Refusal) → opened d n c ss gs ws fs .0 .answer ≡ Refused r → opened d n c ss gs ws fs ≡ unchanged unopened gs ws fs (Refused r)
-unfolding opened
-opening-keeps d n c ss gs ws fs r = go (openingAt d n c ss gs ws fs)
-  where
-    go : (v : Verdict) → openedBy v d n c ss gs ws fs .0 .answer ≡ Refused r → openedBy v d n c ss gs ws fs ≡ unchanged unopened gs ws fs (Refused r)
-    go accept h = absurd (true≢false (sym (opened-follows d n c ss gs ws fs accept) ∙ ap taken h))
-    go (refuse s) h = ap (unchanged unopened gs ws fs) h
+  -- an opening that is refused opens nothing
+  pub opening-keeps : (d n c : ℕ) (ss : List ℕ) (gs : List (v .Cell)) (ws fs : List ℕ) (r : Refusal) → openedIn v d n c ss gs ws fs .0 .answer ≡ Refused r → openedIn v d n c ss gs ws fs ≡ unchangedIn v unopened gs ws fs (Refused r)
+  unfolding openedIn
+  opening-keeps d n c ss gs ws fs r = go (openingIn v d n c ss gs ws fs)
+    where
+      go : (w : Verdict) → openedByIn v w d n c ss gs ws fs .0 .answer ≡ Refused r → openedByIn v w d n c ss gs ws fs ≡ unchangedIn v unopened gs ws fs (Refused r)
+      go accept h = absurd (true≢false (sym (opened-follows d n c ss gs ws fs accept) ∙ ap taken h))
+      go (refuse s) h = ap (unchangedIn v unopened gs ws fs) h
 
--- REFUSED EXACTLY
+  -- REFUSED EXACTLY
 
--- what a caller sees of a call is a refusal with number n
-abbrev pub Numbers : Handed → ℕ → Type 0
-Numbers h n = shown (h .0 .answer) ≡ X n
+  -- what a caller sees of a call is a refusal with number n
+  abbrev pub Numbers : HandedIn v → ℕ → Type 0
+  Numbers h n = shown (h .0 .answer) ≡ X n
 
--- a call is accepted
-abbrev pub Accepts : Handed → Type 0
-Accepts h = taken (h .0 .answer) ≡ true
-
-module _ (g : Gate) (gs ws fs : List ℕ) where
-  abbrev t : Table
-  t = tableOf g gs ws fs
-
-  -- sound numbers show a sound table
-  honest : not (soundNumbers g gs ws fs) ≡ false → sound t ≡ true
-  unfolding soundNumbers
-  honest h =
-      let n = not-false (soundNumbers g gs ws fs) h in
-      let a = both (sound t && identified t && zeroed 5 (g .setup .capacity) (g .waiting) ws) (zeroed 2 (g .setup .depth) (g .flight) fs) n in
-      let b = both (sound t && identified t) (zeroed 5 (g .setup .capacity) (g .waiting) ws) (a .0) in
-      both (sound t) (identified t) (b .0) .0
+  -- a call is accepted
+  abbrev pub Accepts : HandedIn v → Type 0
+  Accepts h = taken (h .0 .answer) ≡ true
 
   -- Each number of an arrival, a completion and a tick is given exactly where document 01 says.
-  pub called-exactly : (e : Event) → RefusedExactly (callCases (short g gs ws fs) (not (soundNumbers g gs ws fs)) t e) (Numbers (called e g gs ws fs)) (Accepts (called e g gs ws fs))
-  unfolding called judgedAt
-  called-exactly e =
-      exactly (call-tested (short g gs ws fs) (not (soundNumbers g gs ws fs)) t e honest)
-      (shown-tells (judgedAt e g gs ws fs) (called e g gs ws fs .0 .answer) (called-follows g gs ws fs e (judgedAt e g gs ws fs)))
+  pub called-exactly : Lawful v → (g : Gate) (gs : List (v .Cell)) (ws fs : List ℕ) (e : Event)
+      → RefusedExactly (callCases (shortIn v g gs ws fs) (not (soundIn v g gs ws fs)) (tableIn v g gs ws fs) e) (Numbers (calledIn v e g gs ws fs)) (Accepts (calledIn v e g gs ws fs))
+  unfolding calledIn judgedIn
+  called-exactly lawful g gs ws fs e =
+      exactly
+      (call-tested (shortIn v g gs ws fs) (not (soundIn v g gs ws fs)) (tableIn v g gs ws fs) e (λ h. sound-shown v lawful g gs ws fs (not-false (soundIn v g gs ws fs) h) .0))
+      (shown-tells (judgedIn v e g gs ws fs) (calledIn v e g gs ws fs .0 .answer) (called-follows g gs ws fs e (judgedIn v e g gs ws fs)))
 
--- And of an opening.
-pub open-exactly : (d n c : ℕ) (ss gs ws fs : List ℕ)
-    → RefusedExactly (openCases (openShort d n c ss gs ws fs) d n c (settingsIn ss n)) (Numbers (opened d n c ss gs ws fs)) (Accepts (opened d n c ss gs ws fs))
-unfolding opened openingAt
-open-exactly d n c ss gs ws fs =
-    exactly (open-tested (openShort d n c ss gs ws fs) d n c (settingsIn ss n))
-    (shown-tells (openingAt d n c ss gs ws fs) (opened d n c ss gs ws fs .0 .answer) (opened-follows d n c ss gs ws fs (openingAt d n c ss gs ws fs)))
+  -- And of an opening.
+  pub open-exactly : (d n c : ℕ) (ss : List ℕ) (gs : List (v .Cell)) (ws fs : List ℕ)
+      → RefusedExactly (openCases (openShortIn v d n c ss gs ws fs) d n c (settingsIn ss n)) (Numbers (openedIn v d n c ss gs ws fs)) (Accepts (openedIn v d n c ss gs ws fs))
+  unfolding openedIn openingIn
+  open-exactly d n c ss gs ws fs =
+      exactly (open-tested (openShortIn v d n c ss gs ws fs) d n c (settingsIn ss n))
+      (shown-tells (openingIn v d n c ss gs ws fs) (openedIn v d n c ss gs ws fs .0 .answer) (opened-follows d n c ss gs ws fs (openingIn v d n c ss gs ws fs)))

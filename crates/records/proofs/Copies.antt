@@ -5,7 +5,7 @@ use mathlib.Core.List.{List, _++_}
 use native.Mathlib.Omega.{arith}
 use lib.ListN.{length, getD, take, drop, replicate, length-replicate, length-append, length-drop, take-append-drop}
 use lib.Seq.{length-take-le, take-append-le, take-take, getD-take}
-use Rattle.lists.specs.Tab.{length-tab, is-tab}
+use Rattle.lists.specs.Tab.{is-tab}
 use Rattle.lists.specs.Rows.{rowsOf, overRows}
 use Rattle.lists.specs.RowsLaws.{length-rows, length-over-rows, rows-over}
 use Rattle.lists.specs.AlikeLaws.{alike-rows}
@@ -13,15 +13,10 @@ use Rattle.rules.specs.declared.Guest.{Guest}
 use Rattle.table.specs.Columns.{guestWide, guestsLong}
 use Rattle.table.specs.View.{guestForm, guestsOf}
 use Rattle.table.specs.ViewLaws.{guest-exact}
-use Rattle.table.specs.View as view
 use Rattle.records.specs.Records.{blank, inUse}
 use Rattle.records.proofs.Rows.{unpacked, length-unpacked}
-use Rattle.records.specs.Promise.{guestsIn, overRecords, Handed}
-
--- as many guests as are asked for
-pub length-guests : (rs : List Guest) (n : ℕ) → length (guestsIn rs n) ≡ n
-unfolding guestsIn
-length-guests rs n = length-tab n (λ k. getD rs k blank)
+use Rattle.gate.specs.Promise.{numbers, HandedIn}
+use Rattle.records.specs.Promise.{guestsIn, overRecords, records}
 
 -- the first n records, where so many are lent, show the first n guests
 guests-first : (rs : List Guest) (n : ℕ) → n ≤ length rs → take n rs ≡ guestsIn rs n
@@ -48,7 +43,7 @@ module _ (n : ℕ) (rs : List Guest) where
   brought zs = rowsOf guestForm zs count ++ drop count rs
 
   -- what a call over records hands back, from what the call over numbers does
-  abbrev pub homed : view.Handed → Handed
+  abbrev pub homed : HandedIn numbers → HandedIn records
   homed h = (h .0, brought (left (h .1)), h .2, h .3)
 
   pub count-lent : count ≤ length rs

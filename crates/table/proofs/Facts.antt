@@ -19,6 +19,7 @@ use Rattle.rules.proofs.Facts.{Sound, sound-is, Lawful, lawful-is, waiting-know
 use Rattle.rules.proofs.Conditions.{counted-means, settled-good}
 use Rattle.rules.specs.declared.Gate.{Gate}
 use Rattle.table.specs.View.{guestForm, requestForm, flightForm, guestsOf, waitingOf, tableOf, Known}
+use Rattle.table.specs.Columns.{guestWide, waitingWide, flightWide, mostDepth, mostCapacity, GUEST, ID}
 
 -- what is known of the numbers of a known table
 pub record Facts (g : Gate) (gs ws fs : List ℕ) : Type 0 where
@@ -27,8 +28,8 @@ pub record Facts (g : Gate) (gs ws fs : List ℕ) : Type 0 where
   pub waits : g .waiting ≤ g .setup .capacity
   pub flies : g .flight ≤ g .setup .depth
   pub timed : g .time ≤ ceiling
-  pub owners : (j : ℕ) → j < g .waiting → getD ws (j * 5 + 0) 0 < g .guests
-  pub ids : (j : ℕ) → j < g .waiting → getD ws (j * 5 + 1) 0 < 4294967296
+  pub owners : (j : ℕ) → j < g .waiting → getD ws (j * waitingWide + GUEST) 0 < g .guests
+  pub ids : (j : ℕ) → j < g .waiting → getD ws (j * waitingWide + ID) 0 < 4294967296
   pub lawfuls : (j : ℕ) → j < g .waiting → Lawful (at (waitingOf ws (g .waiting)) j)
   pub settles : (i : ℕ) → i < g .guests → Good ((owner (guestsOf gs (g .guests)) i) .settings)
 
@@ -37,11 +38,11 @@ module _ (g : Gate) (gs ws fs : List ℕ) (k : Known g gs ws fs) where
   t = tableOf g gs ws fs
 
   -- row j of the waiting table, as its numbers
-  pub row-is : (j : ℕ) → j < g .waiting → at (waitingOf ws (g .waiting)) j ≡ requestForm .read (lineAt 5 ws j)
+  pub row-is : (j : ℕ) → j < g .waiting → at (waitingOf ws (g .waiting)) j ≡ requestForm .read (lineAt waitingWide ws j)
   row-is j h = row-at requestForm ws (g .waiting) j h
 
   -- guest i, as its numbers
-  pub guest-is : (i : ℕ) → i < g .guests → owner (guestsOf gs (g .guests)) i ≡ guestForm .read (lineAt 6 gs i)
+  pub guest-is : (i : ℕ) → i < g .guests → owner (guestsOf gs (g .guests)) i ≡ guestForm .read (lineAt guestWide gs i)
   guest-is i h = row-at guestForm gs (g .guests) i h
 
   -- it is one of those that wait
@@ -75,9 +76,9 @@ module _ (g : Gate) (gs ws fs : List ℕ) (k : Known g gs ws fs) where
       }
 
 -- what a walk over the waiting rows asks
-pub rows-ask : (g : Gate) (gs ws fs : List ℕ) → Known g gs ws fs → (g .waiting ≤ 1024) × (g .waiting * 5 ≤ length ws)
+pub rows-ask : (g : Gate) (gs ws fs : List ℕ) → Known g gs ws fs → (g .waiting ≤ mostCapacity) × (g .waiting * waitingWide ≤ length ws)
 rows-ask g gs ws fs k = let f = facts g gs ws fs k in (omega (arith, f .waits, f .counts .capacities .1), omega (arith, f .waits, k .waitingRoom))
 
 -- what the search in flight asks
-pub flight-asks : (g : Gate) (gs ws fs : List ℕ) → Known g gs ws fs → (g .flight ≤ 64) × (g .flight * 2 ≤ length fs)
+pub flight-asks : (g : Gate) (gs ws fs : List ℕ) → Known g gs ws fs → (g .flight ≤ mostDepth) × (g .flight * flightWide ≤ length fs)
 flight-asks g gs ws fs k = let f = facts g gs ws fs k in (omega (arith, f .flies, f .counts .depths .1), omega (arith, f .flies, k .flightRoom))

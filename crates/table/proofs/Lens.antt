@@ -17,12 +17,13 @@ use Rattle.rules.specs.declared.Answer.{Answer}
 use Rattle.table.specs.View.{gateAt, outcomeOf, guestForm, requestForm, flightForm, guestsOf, tableOf, gateOf, handed, identified, Known}
 use Rattle.table.specs.Does.{written}
 use Rattle.table.specs.ViewLaws.{guest-exact, request-exact, flight-exact}
+use Rattle.table.specs.Columns.{guestWide, waitingWide, flightWide}
 
 -- the lent tables have room for what the table u needs
 pub record Room (gs ws fs : List ℕ) (u : Table) : Type 0 where
-  pub guests : length (u .guests) * 6 ≤ length gs
-  pub waiting : u .setup .capacity * 5 ≤ length ws
-  pub flight : u .setup .depth * 2 ≤ length fs
+  pub guests : length (u .guests) * guestWide ≤ length gs
+  pub waiting : u .setup .capacity * waitingWide ≤ length ws
+  pub flight : u .setup .depth * flightWide ≤ length fs
 
 module _ (gs ws fs : List ℕ) (u : Table) (room : Room gs ws fs u) (firm : sound u ≡ true) where
   abbrev hs : List ℕ

@@ -8,6 +8,7 @@ use rules::Refusal;
 use rules::Setup;
 ghost use mathlib.Core.Path.{_≡_};
 ghost use Prim.Native.Nat.{_≤_, _<_};
+ghost use Rattle.table.specs.Columns.{mostDepth, mostCapacity};
 ghost use Rattle.table.specs.View.{gateAt, outcomeOf};
 ghost use Rattle.table.specs.Does.{timedGate, freedGate, placedGate, refusing, sending};
 
@@ -43,7 +44,7 @@ pub fn refused(gate: Gate, why: Refusal) -> Outcome
 
 // A request of `guest` with this id went from the waiting to the array.
 pub fn sent(gate: Gate, phase: Phase, guest: u64, id: u32) -> Outcome
-    requires { ⌜ (0 < gate .waiting) × (gate .flight < gate .setup .depth) × (gate .setup .depth ≤ 64) ⌝ }
+    requires { ⌜ (0 < gate .waiting) × (gate .flight < gate .setup .depth) × (gate .setup .depth ≤ mostDepth) ⌝ }
     ensures { λ r. ⌜ r ≡ sending phase guest id gate ⌝ }
 {
     let setup = gate.setup;
@@ -83,7 +84,7 @@ pub fn freed(gate: Gate, time: u64) -> Gate
 
 // A request stands last among the waiting.
 pub fn placed(gate: Gate, time: u64) -> Gate
-    requires { ⌜ gate .waiting ≤ 1024 ⌝ }
+    requires { ⌜ gate .waiting ≤ mostCapacity ⌝ }
     ensures { λ r. ⌜ r ≡ placedGate time gate ⌝ }
 {
     let setup = gate.setup;

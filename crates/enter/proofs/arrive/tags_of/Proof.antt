@@ -1,5 +1,6 @@
 use mathlib.Core.Path.{refl}
 use Rattle.lists.specs.Lines.{lineAt}
+use Rattle.table.specs.Columns.{guestWide}
 use Rattle.table.specs.View.{guestForm}
 use borrow.Author.Needs.{needs}
 use Rattle.enter.proofs.arrive.tags_of.Statement.{statement}
@@ -79,7 +80,7 @@ returns c =
     let s = c .before .before .before .before .before .before .before .before .before in
     let a = c .before .before .tag-if .ensures in
     let b = c .before .tag-if2 .ensures in
-    let d = c .share-tag .ensures (guestForm .read (lineAt 6 (s .args .guests .now) (s .args .guest))) refl in
+    let d = c .share-tag .ensures (guestForm .read (lineAt guestWide (s .args .guests .now) (s .args .guest))) refl in
     λ i. record { rtag = a i; ltag = b i; stag = d i }
 
 pub tags-of-spec : {M : Type 1} → statement M
