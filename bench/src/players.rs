@@ -2,7 +2,7 @@
 
 use crate::trace::Trace;
 use second::sample::Owned;
-use second::tables::Gate as Row;
+use second::tables::{Gate as Row, FLIGHT_NUMBERS, WAITING_NUMBERS};
 use second::trace::Event;
 use second::{Settings, State};
 
@@ -32,11 +32,11 @@ impl Library {
     }
 }
 
-fn wrapped(&[reservation, limit, shares]: &[u64; 3]) -> sgq::Settings {
+fn wrapped(settings: &Settings) -> sgq::Settings {
     sgq::Settings {
-        reservation,
-        limit,
-        shares,
+        reservation: settings.reservation,
+        limit: settings.limit,
+        shares: settings.shares,
     }
 }
 
@@ -65,20 +65,12 @@ pub struct Second(Owned);
 impl Second {
     /// The second program's tables as they stand after these events, which are played without the test of soundness.
     pub fn after(trace: &Trace, events: &[Event]) -> Second {
-        let settings: Vec<_> = trace.settings.iter().map(plain).collect();
-        let mut state = State::fresh(trace.depth as usize, trace.capacity as usize, &settings);
+        let (depth, capacity) = (trace.depth as usize, trace.capacity as usize);
+        let mut state = State::fresh(depth, capacity, &trace.settings);
         for &event in events {
             second::trace::play(&mut state, event);
         }
         Second(tables(&state))
-    }
-}
-
-fn plain(&[reservation, limit, shares]: &[u64; 3]) -> Settings {
-    Settings {
-        reservation,
-        limit,
-        shares,
     }
 }
 
@@ -92,9 +84,9 @@ fn tables(state: &State) -> Owned {
         flight: state.flight.len() as u64,
     };
     let mut waiting: Vec<u64> = state.waiting.iter().flat_map(|w| w.numbers()).collect();
-    waiting.resize(state.capacity * 5, 0);
+    waiting.resize(state.capacity * WAITING_NUMBERS, 0);
     let mut flight: Vec<u64> = state.flight.iter().flat_map(|f| f.numbers()).collect();
-    flight.resize(state.depth * 2, 0);
+    flight.resize(state.depth * FLIGHT_NUMBERS, 0);
     Owned {
         gate: gate.numbers().to_vec(),
         guests: state.guests.iter().flat_map(|g| g.numbers()).collect(),

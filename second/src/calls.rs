@@ -9,8 +9,8 @@ use crate::tables::{
     SETTINGS_NUMBERS, WAITING_NUMBERS,
 };
 
-/// Opens a gate. The settings are three numbers a guest: reservation,
-/// limit, shares.
+/// Opens a gate. The settings are reservation, limit and shares of each
+/// guest.
 pub fn open(depth: u64, guests: u64, capacity: u64, settings: &[u64], lent: &mut Tables) -> Answer {
     if !counts_good(depth, guests, capacity) {
         return Answer::Refused(1);

@@ -1,7 +1,7 @@
 //! Random numbers, settings and tables, for tests and for the traces.
 
 use crate::numbers::{Settings, CEILING, MOST_RATE, SECOND};
-use crate::tables::{Flight, Gate, Guest, Tables, View, Waiting};
+use crate::tables::{Flight, Gate, Guest, Tables, View, Waiting, FLIGHT_NUMBERS, WAITING_NUMBERS};
 
 /// A small generator of numbers (splitmix64): the same seed, the same run.
 #[derive(Clone)]
@@ -136,12 +136,12 @@ pub fn sound_tables(rng: &mut Prng) -> Owned {
         waiting: padded(
             rng,
             waiting.iter().flat_map(|w| w.numbers()).collect(),
-            capacity * 5,
+            capacity as usize * WAITING_NUMBERS,
         ),
         flight: padded(
             rng,
             flight.iter().flat_map(|f| f.numbers()).collect(),
-            depth * 2,
+            depth as usize * FLIGHT_NUMBERS,
         ),
     }
 }
@@ -278,8 +278,8 @@ fn flight_requests(rng: &mut Prng, waiting: &[Waiting], guests: u64, depth: u64)
     all
 }
 
-fn padded(rng: &mut Prng, mut numbers: Vec<u64>, needed: u64) -> Vec<u64> {
-    numbers.resize(needed as usize, 0);
+fn padded(rng: &mut Prng, mut numbers: Vec<u64>, needed: usize) -> Vec<u64> {
+    numbers.resize(needed, 0);
     with_rest(rng, numbers)
 }
 

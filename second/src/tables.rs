@@ -1,15 +1,39 @@
 //! "The tables": the numbers the host lends, and the records they hold.
 //!
-//! The gate is six numbers: depth, guests, capacity, time, waiting count,
-//! flight count. A guest is six, a waiting request five, one in flight two.
+//! A record is a row of numbers; here stand how many each kind has, and
+//! which number stands where.
 
 use crate::numbers::Settings;
 
 pub const GATE_NUMBERS: usize = 6;
-pub const GUEST_NUMBERS: usize = 6;
-pub const WAITING_NUMBERS: usize = 5;
-pub const FLIGHT_NUMBERS: usize = 2;
+pub const DEPTH: usize = 0;
+pub const GUESTS: usize = 1;
+pub const CAPACITY: usize = 2;
+pub const TIME: usize = 3;
+pub const WAITING: usize = 4;
+pub const FLIGHT: usize = 5;
+
+/// A guest's settings, in a list of settings and in its record.
 pub const SETTINGS_NUMBERS: usize = 3;
+pub const RESERVATION: usize = 0;
+pub const LIMIT: usize = 1;
+pub const SHARES: usize = 2;
+
+pub const GUEST_NUMBERS: usize = 6;
+pub const RNEXT: usize = 3;
+pub const LNEXT: usize = 4;
+pub const SNEXT: usize = 5;
+
+/// Guest and id of a request, waiting or in flight.
+pub const GUEST: usize = 0;
+pub const ID: usize = 1;
+
+pub const WAITING_NUMBERS: usize = 5;
+pub const RTAG: usize = 2;
+pub const LTAG: usize = 3;
+pub const STAG: usize = 4;
+
+pub const FLIGHT_NUMBERS: usize = 2;
 
 /// A guest record: its settings and its three next numbers.
 #[derive(Clone, Copy, Debug, PartialEq, Eq)]
@@ -129,12 +153,12 @@ impl View<'_> {
     pub fn gate(&self) -> Gate {
         let g = self.gate;
         Gate {
-            depth: g[0],
-            guests: g[1],
-            capacity: g[2],
-            time: g[3],
-            waiting: g[4],
-            flight: g[5],
+            depth: g[DEPTH],
+            guests: g[GUESTS],
+            capacity: g[CAPACITY],
+            time: g[TIME],
+            waiting: g[WAITING],
+            flight: g[FLIGHT],
         }
     }
 
@@ -142,28 +166,28 @@ impl View<'_> {
         let n = &self.guests[place * GUEST_NUMBERS..][..GUEST_NUMBERS];
         Guest {
             settings: settings_at(n, 0),
-            rnext: n[3],
-            lnext: n[4],
-            snext: n[5],
+            rnext: n[RNEXT],
+            lnext: n[LNEXT],
+            snext: n[SNEXT],
         }
     }
 
     pub fn waiting(&self, place: usize) -> Waiting {
         let n = &self.waiting[place * WAITING_NUMBERS..][..WAITING_NUMBERS];
         Waiting {
-            guest: n[0],
-            id: n[1],
-            rtag: n[2],
-            ltag: n[3],
-            stag: n[4],
+            guest: n[GUEST],
+            id: n[ID],
+            rtag: n[RTAG],
+            ltag: n[LTAG],
+            stag: n[STAG],
         }
     }
 
     pub fn flight(&self, place: usize) -> Flight {
         let n = &self.flight[place * FLIGHT_NUMBERS..][..FLIGHT_NUMBERS];
         Flight {
-            guest: n[0],
-            id: n[1],
+            guest: n[GUEST],
+            id: n[ID],
         }
     }
 
@@ -176,12 +200,12 @@ impl View<'_> {
     }
 }
 
-/// The settings of one guest in a list of three numbers a guest.
+/// The settings of one guest in a list of settings.
 pub fn settings_at(list: &[u64], guest: usize) -> Settings {
     let n = &list[guest * SETTINGS_NUMBERS..][..SETTINGS_NUMBERS];
     Settings {
-        reservation: n[0],
-        limit: n[1],
-        shares: n[2],
+        reservation: n[RESERVATION],
+        limit: n[LIMIT],
+        shares: n[SHARES],
     }
 }

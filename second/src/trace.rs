@@ -116,7 +116,8 @@ fn read_header<R: Read>(input: &mut Input<R>) -> io::Result<Result<State, u8>> {
     )))
 }
 
-fn settings_of(record: &[u8]) -> Settings {
+/// A guest of the header, from its bytes.
+pub fn settings_of(record: &[u8]) -> Settings {
     Settings {
         reservation: u32_at(record, 0) as u64,
         limit: u32_at(record, 4) as u64,

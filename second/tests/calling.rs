@@ -5,14 +5,15 @@ mod common;
 use common::*;
 use second::numbers::SECOND;
 use second::sample::{sound_tables, spoil, Owned, Prng};
+use second::tables::*;
 use second::Answer::{Nothing, Refused};
 use second::{first_broken, open, CEILING};
 
-const SETTINGS: [u64; 6] = [100, 250, 1, 0, 0, 7];
+const SETTINGS: [u64; 2 * SETTINGS_NUMBERS] = [100, 250, 1, 0, 0, 7];
 
 /// Depth 2, two guests, capacity 3, and one place more in every table.
 fn room() -> Owned {
-    Owned::dusty(7, 13, 16, 5)
+    dusty(2, 2, 3, 1)
 }
 
 #[test]
@@ -21,7 +22,7 @@ fn opening_writes_a_fresh_table_and_nothing_beyond() {
     assert_eq!(open(2, 2, 3, &SETTINGS, &mut t.lend()), Nothing);
     assert_eq!(t.gate, [2, 2, 3, 0, 0, 0, 77]);
     assert_eq!(t.guests, [100, 250, 1, 0, 0, 0, 0, 0, 7, 0, 0, 0, 77]);
-    let mut waiting = vec![0; 15];
+    let mut waiting = vec![0; 3 * WAITING_NUMBERS];
     waiting.push(77);
     assert_eq!(t.waiting, waiting);
     assert_eq!(t.flight, [0, 0, 0, 0, 77]);
@@ -45,10 +46,16 @@ fn opening_counts_then_lengths_then_settings() {
         assert_eq!(answer, Refused(1));
     }
     let bad = [9, 8, 1, 0, 0, 0];
-    assert_eq!(open(2, 2, 3, &bad[..5], &mut t.lend()), Refused(2));
+    assert_eq!(
+        open(2, 2, 3, &bad[..2 * SETTINGS_NUMBERS - 1], &mut t.lend()),
+        Refused(2)
+    );
     assert_eq!(open(2, 2, 4, &bad, &mut t.lend()), Refused(2));
     assert_eq!(open(3, 2, 3, &bad, &mut t.lend()), Refused(2));
-    assert_eq!(open(2, 3, 3, &[1; 9], &mut t.lend()), Refused(2));
+    assert_eq!(
+        open(2, 3, 3, &[1; 3 * SETTINGS_NUMBERS], &mut t.lend()),
+        Refused(2)
+    );
     assert_eq!(open(2, 2, 3, &bad, &mut t.lend()), Refused(1));
     // The last guest's settings are judged too, numbers of any size.
     for bad in [
@@ -61,7 +68,7 @@ fn opening_counts_then_lengths_then_settings() {
         assert_eq!(open(2, 2, 3, &bad, &mut t.lend()), Refused(1));
     }
     assert_eq!(t, before);
-    t.gate.truncate(5);
+    t.gate.truncate(GATE_NUMBERS - 1);
     assert_eq!(open(2, 2, 3, &SETTINGS, &mut t.lend()), Refused(2));
 }
 
@@ -93,13 +100,19 @@ fn short_tables_and_counts_out_of_range() {
         assert!(answers[0] == answers[1] && answers[1] == answers[2]);
         answers[0]
     };
-    assert_eq!(with(&|t| t.gate.truncate(5)), Refused(2));
+    assert_eq!(with(&|t| t.gate.truncate(GATE_NUMBERS - 1)), Refused(2));
     assert_eq!(with(&|t| t.gate.clear()), Refused(2));
-    assert_eq!(with(&|t| t.guests.truncate(11)), Refused(2));
-    assert_eq!(with(&|t| t.waiting.truncate(14)), Refused(2));
-    assert_eq!(with(&|t| t.flight.truncate(3)), Refused(2));
+    assert_eq!(with(&|t| t.guests.truncate(guest_at(2, 0) - 1)), Refused(2));
+    assert_eq!(
+        with(&|t| t.waiting.truncate(waiting_at(3, 0) - 1)),
+        Refused(2)
+    );
+    assert_eq!(
+        with(&|t| t.flight.truncate(flight_at(2, 0) - 1)),
+        Refused(2)
+    );
     // Out of range gives 3 at once, though the lengths would not do.
-    for (place, most) in [(0, 64), (1, 64), (2, 1_024)] {
+    for (place, most) in [(DEPTH, 64), (GUESTS, 64), (CAPACITY, 1_024)] {
         for number in [0, most + 1, u64::MAX] {
             let short = |t: &mut Owned| {
                 t.gate[place] = number;
@@ -112,11 +125,11 @@ fn short_tables_and_counts_out_of_range() {
         // In range, lengths come before the rest of soundness.
         let needs_more = |t: &mut Owned| {
             t.gate[place] = most;
-            t.gate[3] = u64::MAX;
+            t.gate[TIME] = u64::MAX;
         };
         assert_eq!(with(&needs_more), Refused(2));
     }
-    assert_eq!(with(&|t| t.gate[3] = u64::MAX), Refused(3));
+    assert_eq!(with(&|t| t.gate[TIME] = u64::MAX), Refused(3));
 }
 
 /// One guest waits with id 1 and has id 0 in flight; capacity 1.
@@ -140,9 +153,9 @@ fn refusals_come_in_order() {
     let t = busy();
     let mut high = t.clone();
     // Guest 1's next number lies past the ceiling: 9 for any arrival.
-    high.guests[11] = CEILING + SECOND;
+    high.guests[guest_at(1, SNEXT)] = CEILING + SECOND;
     let mut unsound = high.clone();
-    unsound.gate[3] = CEILING + 1;
+    unsound.gate[TIME] = CEILING + 1;
     let past = CEILING + 1;
     for c in calls(2, 0, past) {
         assert_eq!(answer_of(&unsound, c), Refused(3));
@@ -194,7 +207,10 @@ fn a_send_closes_up_and_leaves_zeros() {
     );
     // A later one is sent and those before it stay.
     assert_eq!(call(&mut t.lend(), Call::Complete(0, 2, 0)), weight(1, 1));
-    assert_eq!(t.waiting[..10], [0, 4, 0, 0, SECOND, 0, 0, 0, 0, 0]);
+    assert_eq!(
+        t.waiting[..waiting_at(2, 0)],
+        [0, 4, 0, 0, SECOND, 0, 0, 0, 0, 0]
+    );
     assert_eq!(call(&mut t.lend(), Call::Complete(1, 1, 7)), weight(0, 4));
     assert_eq!(call(&mut t.lend(), Call::Complete(0, 4, 7)), Nothing);
     assert_eq!(t.gate, [2, 2, 3, 7, 0, 1]);
@@ -286,10 +302,10 @@ fn opening_with_anything_is_refused_unchanged_or_fresh() {
             assert_eq!(t, before);
         } else {
             assert_eq!(first_broken(&t.view()), None);
-            assert_eq!(t.gate[..6], [depth, guests, capacity, 0, 0, 0]);
+            assert_eq!(t.gate[..GATE_NUMBERS], [depth, guests, capacity, 0, 0, 0]);
             assert_eq!(
-                t.waiting[capacity as usize * 5..],
-                before.waiting[capacity as usize * 5..]
+                t.waiting[waiting_at(capacity as usize, 0)..],
+                before.waiting[waiting_at(capacity as usize, 0)..]
             );
         }
     }

@@ -5,6 +5,7 @@ mod common;
 use common::*;
 use second::calls::read;
 use second::sample::{sound_tables, Prng};
+use second::tables::WAITING_NUMBERS;
 use second::{Answer, State};
 use std::collections::VecDeque;
 
@@ -43,15 +44,16 @@ impl Mirror {
     fn of(state: &State) -> Mirror {
         let second = 1_000_000_000i128;
         let lane = |g: &second::Guest| {
-            let n = g.numbers().map(|n| n as i128);
+            let s = g.settings;
+            let (r, l, w) = (s.reservation as i128, s.limit as i128, s.shares as i128);
             let up = |l: i128| second / l + (second % l != 0) as i128;
             Lane {
                 spacing: [
-                    (n[0] > 0).then(|| second / n[0]),
-                    (n[1] > 0).then(|| up(n[1])),
-                    Some(second / n[2]),
+                    (r > 0).then(|| second / r),
+                    (l > 0).then(|| up(l)),
+                    Some(second / w),
                 ],
-                next: [n[3], n[4], n[5]],
+                next: [g.rnext, g.lnext, g.snext].map(|n| n as i128),
                 queue: VecDeque::new(),
             }
         };
@@ -81,7 +83,7 @@ impl Mirror {
 
     /// The mirror's tables as the gate's state would show them.
     fn shows(&self, state: &State) -> bool {
-        let mut all: Vec<(u64, [u64; 5])> = Vec::new();
+        let mut all: Vec<(u64, [u64; WAITING_NUMBERS])> = Vec::new();
         for (number, lane) in self.lanes.iter().enumerate() {
             for q in &lane.queue {
                 let tag = |kind: usize| q.tags[kind].unwrap_or(0) as u64;
@@ -100,10 +102,11 @@ impl Mirror {
                 .iter()
                 .copied()
                 .eq(state.flight.iter().map(|f| (f.guest, f.id)))
-            && self.lanes.iter().map(next).eq(state.guests.iter().map(|g| {
-                let n = g.numbers();
-                [n[3], n[4], n[5]]
-            }))
+            && self
+                .lanes
+                .iter()
+                .map(next)
+                .eq(state.guests.iter().map(|g| [g.rnext, g.lnext, g.snext]))
     }
 
     fn play(&mut self, c: Call) -> Answer {

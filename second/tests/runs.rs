@@ -5,8 +5,9 @@ use common::*;
 use second::calls::read;
 use second::kinds::trace;
 use second::sample::{any_settings, sound_tables, Owned, Prng};
+use second::tables::*;
 use second::trace::{play, Event};
-use second::{first_broken, Answer, Phase, State, CEILING};
+use second::{first_broken, Answer, Phase, Settings, State, CEILING};
 
 /// Tables to start from: fresh ones or random sound ones.
 fn start(rng: &mut Prng) -> Owned {
@@ -80,11 +81,11 @@ fn accepted_events_keep_soundness_and_refused_ones_everything() {
         accepted += 1;
         sent += matches!(answer, Answer::Sent { .. }) as u32;
         assert_eq!(first_broken(&after.view()), None, "{c:?} {answer:?}");
-        assert!(after.gate[5] <= after.gate[0]);
+        assert!(after.gate[FLIGHT] <= after.gate[DEPTH]);
         let time = match c {
             Call::Arrive(_, _, time) | Call::Complete(_, _, time) | Call::Tick(time) => time,
         };
-        assert_eq!(after.gate[3], time);
+        assert_eq!(after.gate[TIME], time);
     });
     assert!(accepted > 10_000 && sent > 2_000, "{accepted} {sent}");
 }
@@ -93,21 +94,27 @@ fn accepted_events_keep_soundness_and_refused_ones_everything() {
 fn places_beyond_the_need_and_settings_stay() {
     runs(32, 300, 40, |before, _, _, after| {
         let (depth, guests, capacity) = (
-            before.gate[0] as usize,
-            before.gate[1] as usize,
-            before.gate[2] as usize,
+            before.gate[DEPTH] as usize,
+            before.gate[GUESTS] as usize,
+            before.gate[CAPACITY] as usize,
         );
-        assert_eq!(before.gate[..3], after.gate[..3]);
-        assert_eq!(before.gate[6..], after.gate[6..]);
-        assert_eq!(before.guests[guests * 6..], after.guests[guests * 6..]);
+        assert_eq!(before.gate[..TIME], after.gate[..TIME]);
+        assert_eq!(before.gate[GATE_NUMBERS..], after.gate[GATE_NUMBERS..]);
         assert_eq!(
-            before.waiting[capacity * 5..],
-            after.waiting[capacity * 5..]
+            before.guests[guest_at(guests, 0)..],
+            after.guests[guest_at(guests, 0)..]
         );
-        assert_eq!(before.flight[depth * 2..], after.flight[depth * 2..]);
-        let settings = |t: &Owned| -> Vec<u64> {
-            let records = t.guests[..guests * 6].chunks(6);
-            records.flat_map(|g| g[..3].to_vec()).collect()
+        assert_eq!(
+            before.waiting[waiting_at(capacity, 0)..],
+            after.waiting[waiting_at(capacity, 0)..]
+        );
+        assert_eq!(
+            before.flight[flight_at(depth, 0)..],
+            after.flight[flight_at(depth, 0)..]
+        );
+        let settings = |t: &Owned| -> Vec<Settings> {
+            let records = (0..guests).map(|place| t.view().guest(place));
+            records.map(|g| g.settings).collect()
         };
         assert_eq!(settings(before), settings(after));
     });

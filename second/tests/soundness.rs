@@ -5,6 +5,7 @@ use common::*;
 use second::calls::table_refusal;
 use second::numbers::SECOND;
 use second::sample::{sound_tables, spoil, Owned, Prng};
+use second::tables::*;
 use second::{first_broken, Rule, CEILING};
 
 /// Depth 2, capacity 4. Guest 0 has all three tags and two waiting, guest
@@ -14,14 +15,30 @@ fn table() -> Owned {
     let settings = [guest(10, 10, 10), guest(0, 0, 1), guest(3, 3, 3)];
     let mut t = opened(2, 4, &settings);
     let tenth = SECOND / 10;
-    t.gate = vec![2, 3, 4, 500, 3, 1];
-    t.guests[3..6].copy_from_slice(&[tenth * 3, tenth * 4, tenth * 5]);
-    t.guests[11] = SECOND + 7;
-    t.waiting[..5].copy_from_slice(&[0, 1, tenth, tenth * 2, tenth * 3]);
-    t.waiting[5..10].copy_from_slice(&[1, 1, 0, 0, 7]);
-    t.waiting[10..15].copy_from_slice(&[0, 2, tenth * 2, tenth * 3, tenth * 4]);
-    t.flight[..2].copy_from_slice(&[0, 3]);
+    t.gate[TIME..=FLIGHT].copy_from_slice(&[500, 3, 1]);
+    t.guests[RNEXT..=SNEXT].copy_from_slice(&[tenth * 3, tenth * 4, tenth * 5]);
+    t.guests[guest_at(1, SNEXT)] = SECOND + 7;
+    let waits = [
+        (0, 1, [tenth, tenth * 2, tenth * 3]),
+        (1, 1, [0, 0, 7]),
+        (0, 2, [tenth * 2, tenth * 3, tenth * 4]),
+    ];
+    for (place, (guest, id, [rtag, ltag, stag])) in waits.into_iter().enumerate() {
+        let w = Waiting {
+            guest,
+            id,
+            rtag,
+            ltag,
+            stag,
+        };
+        put(&mut t.waiting, place, w.numbers());
+    }
+    put(&mut t.flight, 0, flown(0, 3));
     t
+}
+
+fn flown(guest: u64, id: u64) -> [u64; FLIGHT_NUMBERS] {
+    Flight { guest, id }.numbers()
 }
 
 fn broken(change: impl FnOnce(&mut Owned)) -> Option<Rule> {
@@ -40,15 +57,16 @@ fn the_table_itself_is_sound() {
 #[test]
 fn settings_lie_in_the_ranges() {
     let rule = Some(Rule::SettingsInRange);
-    assert_eq!(broken(|t| t.guests[0] = 1_000_001), rule);
-    assert_eq!(broken(|t| t.guests[1] = 1_000_001), rule);
-    assert_eq!(broken(|t| t.guests[1] = u64::MAX), rule);
-    assert_eq!(broken(|t| t.guests[2] = 0), rule);
-    assert_eq!(broken(|t| t.guests[2] = 1_000_001), rule);
+    assert_eq!(broken(|t| t.guests[RESERVATION] = 1_000_001), rule);
+    assert_eq!(broken(|t| t.guests[LIMIT] = 1_000_001), rule);
+    assert_eq!(broken(|t| t.guests[LIMIT] = u64::MAX), rule);
+    assert_eq!(broken(|t| t.guests[SHARES] = 0), rule);
+    assert_eq!(broken(|t| t.guests[SHARES] = 1_000_001), rule);
     // A reservation above the limit.
-    assert_eq!(broken(|t| t.guests[12] = 4), rule);
-    assert_eq!(broken(|t| t.guests[12] = 2), None);
-    for place in 0..3 {
+    let last = guest_at(2, RESERVATION);
+    assert_eq!(broken(|t| t.guests[last] = 4), rule);
+    assert_eq!(broken(|t| t.guests[last] = 2), None);
+    for place in [DEPTH, GUESTS, CAPACITY] {
         assert_eq!(broken(|t| t.gate[place] = 0), rule);
         assert_eq!(broken(|t| t.gate[place] = u64::MAX), rule);
     }
@@ -57,63 +75,68 @@ fn settings_lie_in_the_ranges() {
 #[test]
 fn counts_do_not_exceed_capacity_and_depth() {
     let rule = Some(Rule::CountsFit);
-    assert_eq!(broken(|t| t.gate[4] = 5), rule);
-    assert_eq!(broken(|t| t.gate[4] = u64::MAX), rule);
-    assert_eq!(broken(|t| t.gate[5] = 3), rule);
-    assert_eq!(broken(|t| t.gate[5] = u64::MAX), rule);
+    assert_eq!(broken(|t| t.gate[WAITING] = 5), rule);
+    assert_eq!(broken(|t| t.gate[WAITING] = u64::MAX), rule);
+    assert_eq!(broken(|t| t.gate[FLIGHT] = 3), rule);
+    assert_eq!(broken(|t| t.gate[FLIGHT] = u64::MAX), rule);
 }
 
 #[test]
 fn the_time_is_at_most_the_ceiling() {
-    assert_eq!(broken(|t| t.gate[3] = CEILING), None);
+    assert_eq!(broken(|t| t.gate[TIME] = CEILING), None);
     let rule = Some(Rule::TimeAtMostCeiling);
-    assert_eq!(broken(|t| t.gate[3] = CEILING + 1), rule);
-    assert_eq!(broken(|t| t.gate[3] = u64::MAX), rule);
+    assert_eq!(broken(|t| t.gate[TIME] = CEILING + 1), rule);
+    assert_eq!(broken(|t| t.gate[TIME] = u64::MAX), rule);
 }
 
 #[test]
 fn every_entrys_guest_exists() {
     let rule = Some(Rule::GuestsExist);
-    assert_eq!(broken(|t| t.waiting[5] = 3), rule);
-    assert_eq!(broken(|t| t.waiting[5] = u64::MAX), rule);
-    assert_eq!(broken(|t| t.flight[0] = 3), rule);
-    assert_eq!(broken(|t| t.flight[0] = 1 << 32), rule);
+    let second = waiting_at(1, GUEST);
+    assert_eq!(broken(|t| t.waiting[second] = 3), rule);
+    assert_eq!(broken(|t| t.waiting[second] = u64::MAX), rule);
+    assert_eq!(broken(|t| t.flight[GUEST] = 3), rule);
+    assert_eq!(broken(|t| t.flight[GUEST] = 1 << 32), rule);
 }
 
 #[test]
 fn ids_fit_32_bits() {
     let rule = Some(Rule::IdsFit);
-    assert_eq!(broken(|t| t.waiting[6] = u32::MAX as u64), None);
-    assert_eq!(broken(|t| t.waiting[6] = 1 << 32), rule);
-    assert_eq!(broken(|t| t.waiting[6] = (1 << 32) + 1), rule);
-    assert_eq!(broken(|t| t.flight[1] = u64::MAX), rule);
+    let second = waiting_at(1, ID);
+    assert_eq!(broken(|t| t.waiting[second] = u32::MAX as u64), None);
+    assert_eq!(broken(|t| t.waiting[second] = 1 << 32), rule);
+    assert_eq!(broken(|t| t.waiting[second] = (1 << 32) + 1), rule);
+    assert_eq!(broken(|t| t.flight[ID] = u64::MAX), rule);
 }
 
 #[test]
 fn no_guest_has_one_id_twice() {
     let rule = Some(Rule::NoIdTwice);
     // Among the waiting, between waiting and in flight, in flight.
-    assert_eq!(broken(|t| t.waiting[11] = 1), rule);
-    assert_eq!(broken(|t| t.flight[1] = 2), rule);
+    assert_eq!(broken(|t| t.waiting[waiting_at(2, ID)] = 1), rule);
+    assert_eq!(broken(|t| t.flight[ID] = 2), rule);
     let twice = |t: &mut Owned| {
-        t.gate[5] = 2;
-        t.flight[2..].copy_from_slice(&[0, 3]);
+        t.gate[FLIGHT] = 2;
+        put(&mut t.flight, 1, flown(0, 3));
     };
     assert_eq!(broken(twice), rule);
     // Another guest may have it.
-    assert_eq!(broken(|t| t.flight.copy_from_slice(&[2, 1, 0, 0])), None);
+    assert_eq!(broken(|t| put(&mut t.flight, 0, flown(2, 1))), None);
 }
 
 #[test]
 fn tags_are_at_most_the_ceiling() {
     let rule = Some(Rule::TagsAtMostCeiling);
-    for place in [2, 3, 4, 9, 12, 13, 14] {
+    let first = [RTAG, LTAG, STAG].map(|kind| waiting_at(0, kind));
+    let third = [RTAG, LTAG, STAG].map(|kind| waiting_at(2, kind));
+    let second = waiting_at(1, STAG);
+    for place in first.into_iter().chain([second]).chain(third) {
         assert_eq!(broken(|t| t.waiting[place] = CEILING + 1), rule);
         assert_eq!(broken(|t| t.waiting[place] = u64::MAX), rule);
     }
     let high = |t: &mut Owned| {
-        t.waiting[9] = CEILING;
-        t.guests[11] = CEILING + SECOND;
+        t.waiting[second] = CEILING;
+        t.guests[guest_at(1, SNEXT)] = CEILING + SECOND;
     };
     assert_eq!(broken(high), None);
 }
@@ -121,28 +144,29 @@ fn tags_are_at_most_the_ceiling() {
 #[test]
 fn later_tags_are_at_least_a_spacing_further_on() {
     let rule = Some(Rule::TagsSpaced);
-    for place in 2..5 {
-        assert_eq!(broken(|t| t.waiting[place] += 1), rule);
-        assert_eq!(broken(|t| t.waiting[place] -= 1), None);
-        assert_eq!(broken(|t| t.waiting[place + 10] -= 1), rule);
+    for kind in [RTAG, LTAG, STAG] {
+        let (first, third) = (waiting_at(0, kind), waiting_at(2, kind));
+        assert_eq!(broken(|t| t.waiting[first] += 1), rule);
+        assert_eq!(broken(|t| t.waiting[first] -= 1), None);
+        assert_eq!(broken(|t| t.waiting[third] -= 1), rule);
     }
 }
 
 #[test]
 fn a_busy_guests_next_numbers_follow_its_last_tags() {
     let rule = Some(Rule::NextFollowsLast);
-    for place in [3, 4, 5, 11] {
+    for place in [RNEXT, LNEXT, SNEXT, guest_at(1, SNEXT)] {
         assert_eq!(broken(|t| t.guests[place] += 1), rule);
         assert_eq!(broken(|t| t.guests[place] -= 1), rule);
         assert_eq!(broken(|t| t.guests[place] = u64::MAX), rule);
     }
-    assert_eq!(broken(|t| t.waiting[12] += 1), rule);
+    assert_eq!(broken(|t| t.waiting[waiting_at(2, RTAG)] += 1), rule);
 }
 
 #[test]
 fn an_idle_guests_next_numbers_are_bounded() {
     let rule = Some(Rule::IdleNextBounded);
-    for place in 15..18 {
+    for place in [RNEXT, LNEXT, SNEXT].map(|next| guest_at(2, next)) {
         assert_eq!(broken(|t| t.guests[place] = CEILING + SECOND), None);
         assert_eq!(broken(|t| t.guests[place] = CEILING + SECOND + 1), rule);
         assert_eq!(broken(|t| t.guests[place] = u64::MAX), rule);
@@ -152,11 +176,11 @@ fn an_idle_guests_next_numbers_are_bounded() {
 #[test]
 fn meaningless_numbers_are_zero() {
     let rule = Some(Rule::MeaninglessZero);
-    for place in [9, 10] {
+    for place in [RNEXT, LNEXT].map(|next| guest_at(1, next)) {
         assert_eq!(broken(|t| t.guests[place] = 1), rule);
         assert_eq!(broken(|t| t.guests[place] = u64::MAX), rule);
     }
-    for place in [7, 8] {
+    for place in [RTAG, LTAG].map(|tag| waiting_at(1, tag)) {
         assert_eq!(broken(|t| t.waiting[place] = 1), rule);
     }
 }
@@ -164,10 +188,10 @@ fn meaningless_numbers_are_zero() {
 #[test]
 fn unused_places_are_zero() {
     let rule = Some(Rule::UnusedZero);
-    for place in 15..20 {
+    for place in waiting_at(3, 0)..waiting_at(4, 0) {
         assert_eq!(broken(|t| t.waiting[place] = 1), rule);
     }
-    for place in 2..4 {
+    for place in flight_at(1, 0)..flight_at(2, 0) {
         assert_eq!(broken(|t| t.flight[place] = 1), rule);
     }
 }
@@ -198,36 +222,37 @@ fn plainly_sound(t: &Owned) -> bool {
     let n = |x: u64| x as i128;
     let ceiling = n(CEILING);
     let (guests, waiting, flight) = (
-        &t.guests[..t.gate[1] as usize * 6],
-        &t.waiting[..t.gate[2] as usize * 5],
-        &t.flight[..t.gate[0] as usize * 2],
+        &t.guests[..guest_at(t.gate[GUESTS] as usize, 0)],
+        &t.waiting[..waiting_at(t.gate[CAPACITY] as usize, 0)],
+        &t.flight[..flight_at(t.gate[DEPTH] as usize, 0)],
     );
     let million = 1_000_000;
-    let ranges = guests.chunks(6).all(|g| {
-        g[0] <= million
-            && g[1] <= million
-            && g[2] >= 1
-            && g[2] <= million
-            && (g[1] == 0 || g[0] <= g[1])
+    let ranges = guests.chunks(GUEST_NUMBERS).all(|g| {
+        g[RESERVATION] <= million
+            && g[LIMIT] <= million
+            && g[SHARES] >= 1
+            && g[SHARES] <= million
+            && (g[LIMIT] == 0 || g[RESERVATION] <= g[LIMIT])
     });
-    if !ranges || t.gate[4] > t.gate[2] || t.gate[5] > t.gate[0] || n(t.gate[3]) > ceiling {
+    let roomy = t.gate[WAITING] <= t.gate[CAPACITY] && t.gate[FLIGHT] <= t.gate[DEPTH];
+    if !ranges || !roomy || n(t.gate[TIME]) > ceiling {
         return false;
     }
     let spacing = |g: &[u64], kind: usize| match kind {
-        0 if g[0] != 0 => Some(n(SECOND) / n(g[0])),
-        1 if g[1] != 0 => Some((n(SECOND) + n(g[1]) - 1) / n(g[1])),
-        2 => Some(n(SECOND) / n(g[2])),
+        RESERVATION if g[RESERVATION] != 0 => Some(n(SECOND) / n(g[RESERVATION])),
+        LIMIT if g[LIMIT] != 0 => Some((n(SECOND) + n(g[LIMIT]) - 1) / n(g[LIMIT])),
+        SHARES => Some(n(SECOND) / n(g[SHARES])),
         _ => None,
     };
-    let (waits, spare) = waiting.split_at(t.gate[4] as usize * 5);
-    let (flies, free) = flight.split_at(t.gate[5] as usize * 2);
+    let (waits, spare) = waiting.split_at(waiting_at(t.gate[WAITING] as usize, 0));
+    let (flies, free) = flight.split_at(flight_at(t.gate[FLIGHT] as usize, 0));
     if spare.iter().chain(free).any(|x| *x != 0) {
         return false;
     }
-    let waits: Vec<&[u64]> = waits.chunks(5).collect();
-    let mut named: Vec<(u64, u64)> = waits.iter().map(|w| (w[0], w[1])).collect();
-    named.extend(flies.chunks(2).map(|f| (f[0], f[1])));
-    let named_good = |(g, id): &(u64, u64)| *g < t.gate[1] && *id < 1 << 32;
+    let waits: Vec<&[u64]> = waits.chunks(WAITING_NUMBERS).collect();
+    let mut named: Vec<(u64, u64)> = waits.iter().map(|w| (w[GUEST], w[ID])).collect();
+    named.extend(flies.chunks(FLIGHT_NUMBERS).map(|f| (f[GUEST], f[ID])));
+    let named_good = |(g, id): &(u64, u64)| *g < t.gate[GUESTS] && *id < 1 << 32;
     if !named.iter().all(named_good) {
         return false;
     }
@@ -235,11 +260,15 @@ fn plainly_sound(t: &Owned) -> bool {
     if named.windows(2).any(|pair| pair[0] == pair[1]) {
         return false;
     }
-    for (number, g) in guests.chunks(6).enumerate() {
-        let own: Vec<&&[u64]> = waits.iter().filter(|w| w[0] == number as u64).collect();
-        for kind in 0..3 {
-            let tags: Vec<i128> = own.iter().map(|w| n(w[2 + kind])).collect();
-            let next = n(g[3 + kind]);
+    for (number, g) in guests.chunks(GUEST_NUMBERS).enumerate() {
+        let own: Vec<&&[u64]> = waits.iter().filter(|w| w[GUEST] == number as u64).collect();
+        for (kind, tag, next) in [
+            (RESERVATION, RTAG, RNEXT),
+            (LIMIT, LTAG, LNEXT),
+            (SHARES, STAG, SNEXT),
+        ] {
+            let tags: Vec<i128> = own.iter().map(|w| n(w[tag])).collect();
+            let next = n(g[next]);
             let good = match (spacing(g, kind), tags.last()) {
                 (None, _) => next == 0 && tags.iter().all(|tag| *tag == 0),
                 (Some(_), None) => next <= ceiling + n(SECOND),
@@ -267,9 +296,9 @@ fn spoiled_tables_are_judged_as_a_plain_reading_does() {
         match table_refusal(&t.view()) {
             Some(2) => {}
             refusal => {
-                let in_range = (1..=64).contains(&t.gate[0])
-                    && (1..=64).contains(&t.gate[1])
-                    && (1..=1_024).contains(&t.gate[2]);
+                let in_range = (1..=64).contains(&t.gate[DEPTH])
+                    && (1..=64).contains(&t.gate[GUESTS])
+                    && (1..=1_024).contains(&t.gate[CAPACITY]);
                 let good = in_range && plainly_sound(&t);
                 assert_eq!(refusal, if good { None } else { Some(3) });
                 if good {

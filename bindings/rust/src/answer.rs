@@ -34,30 +34,30 @@ pub enum Phase {
 #[derive(Clone, Copy, Debug, PartialEq, Eq, Hash)]
 pub enum Refusal {
     /// 1: "a setting is out of range, when opening".
-    Setting,
+    Setting = 1,
     /// 2: "a lent table, or at opening the lent list of guest settings, is shorter than the settings need". A
     /// [`crate::Gate`] lends tables of the right length, so it never gives this.
-    ShortTable,
+    ShortTable = 2,
     /// 3: "the table is not sound". A [`crate::Gate`] keeps its tables to itself, so it never gives this.
-    NotSound,
+    NotSound = 3,
     /// 4: "unknown guest".
-    UnknownGuest,
+    UnknownGuest = 4,
     /// 5: "time above the ceiling".
-    TimeAboveCeiling,
+    TimeAboveCeiling = 5,
     /// 6: "time before the last accepted time".
-    TimeBeforeLast,
+    TimeBeforeLast = 6,
     /// 7: "arrival: guest has this id waiting or in flight".
-    IdInUse,
+    IdInUse = 7,
     /// 8: "arrival: waiting count equals capacity".
-    WaitingFull,
+    WaitingFull = 8,
     /// 9: "arrival: a tag given, or a share tag moved, would pass the ceiling".
-    TagAboveCeiling,
+    TagAboveCeiling = 9,
     /// 10: "completion: guest has no such id in flight".
-    NotInFlight,
+    NotInFlight = 10,
 }
 
 impl Refusal {
-    /// All of them; the first has number 1.
+    /// All of them.
     pub const ALL: [Refusal; 10] = [
         Refusal::Setting,
         Refusal::ShortTable,
@@ -73,13 +73,14 @@ impl Refusal {
 
     /// The refusal of this number, if the calls give it.
     pub fn of(number: u64) -> Option<Refusal> {
-        let place = usize::try_from(number.checked_sub(1)?).ok()?;
-        Refusal::ALL.get(place).copied()
+        Refusal::ALL
+            .into_iter()
+            .find(|refusal| refusal.number() == number)
     }
 
     /// Document 01's number.
     pub fn number(self) -> u64 {
-        self as u64 + 1
+        self as u64
     }
 
     /// Document 01's words.
@@ -107,7 +108,7 @@ impl fmt::Display for Refusal {
 
 impl std::error::Error for Refusal {}
 
-/// The library's four numbers by name.
+/// The library's answer by name.
 pub(crate) fn named(answer: raw::Answer) -> Result<Answer, Refusal> {
     match answer.kind {
         0 => Ok(Answer::Nothing),

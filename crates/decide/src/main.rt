@@ -6,6 +6,10 @@ use libc::STDIN_FILENO;
 use libc::STDOUT_FILENO;
 use rules::Gate;
 use rules::Refusal;
+use table::columns::FLIGHT_LONG;
+use table::columns::GUESTS_LONG;
+use table::columns::SETTINGS_LONG;
+use table::columns::WAITING_LONG;
 use trace::Header;
 use trace::opening::read_header;
 ghost use mathlib.Core.Path.{_≡_};
@@ -24,10 +28,10 @@ const TURNS: u64 = 281474976710656;
 // Makes the arrays, each for the largest settings, and runs the trace on them.
 fn main() {
     let mut buffer = [0u8; 4096];
-    let mut settings = [0u64; 192];
-    let mut guests = [0u64; 384];
-    let mut waiting = [0u64; 5120];
-    let mut flight = [0u64; 128];
+    let mut settings = [0u64; SETTINGS_LONG];
+    let mut guests = [0u64; GUESTS_LONG];
+    let mut waiting = [0u64; WAITING_LONG];
+    let mut flight = [0u64; FLIGHT_LONG];
     let mut out = [0u8; 20480];
     run(
         &mut buffer,

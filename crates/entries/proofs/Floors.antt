@@ -11,6 +11,7 @@ use lib.ListN.{length, getD, set, drop, replicate, length-set, length-replicate,
 use lib.Seq.{drop-cons, getD-set-same, getD-set-other}
 use borrow.Author.Tests.{eq-eqb, ne-eqb, eqb-true, eqb-false}
 use Rattle.rules.specs.Tables.{Request, mine}
+use Rattle.table.specs.Columns.{mostGuests}
 use Rattle.entries.specs.Kinds.{passes, ends}
 use Rattle.entries.proofs.Chains.{run}
 
@@ -33,15 +34,15 @@ module _ (tag : Request → ℕ) (w : List Request) (gaps : List ℕ) (next : �
 
   -- the floors before request i: with them every guest's test still comes to the same
   pub record Floors (floors : List ℕ) (i : ℕ) : Type 0 where
-    pub long : length floors ≡ 64
+    pub long : length floors ≡ mostGuests
     pub still : (g : ℕ) → g < known → left floors i g ≡ whole g
 
   -- before the first request they are zeros
-  pub floors-start : known ≤ 64 → Floors (replicate 64 0) 0
+  pub floors-start : known ≤ mostGuests → Floors (replicate mostGuests 0) 0
   floors-start few =
       record {
-        long = length-replicate {A = ℕ} 64 0;
-        still = λ g h. ap (λ (f : ℕ). run tag (getD gaps g 0) f (mine g w) (next g)) (getD-replicate {A = ℕ} 64 g 0 0 (omega arith));
+        long = length-replicate {A = ℕ} mostGuests 0;
+        still = λ g h. ap (λ (f : ℕ). run tag (getD gaps g 0) f (mine g w) (next g)) (getD-replicate {A = ℕ} mostGuests g 0 0 (omega arith));
       }
 
   module _ (z : Request) (floors : List ℕ) (i : ℕ) (s : Floors floors i) (here : i < length w) where
@@ -63,7 +64,7 @@ module _ (tag : Request → ℕ) (w : List Request) (gaps : List ℕ) (next : �
     floors-fail h e = sym (s .still g₀ h) ∙ own ∙ ap (λ (b : Bool). b && run tag (getD gaps g₀ 0) (tag q + getD gaps g₀ 0) (mine g₀ (drop (suc i) w)) (next g₀)) e
 
     -- one that passes is the floor of the next
-    pub floors-next : (v : ℕ) → known ≤ 64 → g₀ < known → passes (getD gaps g₀ 0) (getD floors g₀ 0) (tag q) ≡ true → v ≡ tag q + getD gaps g₀ 0 → Floors (set floors g₀ v) (i + 1)
+    pub floors-next : (v : ℕ) → known ≤ mostGuests → g₀ < known → passes (getD gaps g₀ 0) (getD floors g₀ 0) (tag q) ≡ true → v ≡ tag q + getD gaps g₀ 0 → Floors (set floors g₀ v) (i + 1)
     floors-next v few h e f =
         record {
           long = length-set floors g₀ v ∙ s .long;

@@ -1,6 +1,6 @@
+pub mod AllRows
 pub mod Chains
 pub mod Floors
 pub mod GapLaws
 pub mod OneKind
-pub mod Records
 pub mod RowFacts

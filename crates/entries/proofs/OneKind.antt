@@ -1,5 +1,5 @@
 -- The walk over the requests decides the order of one kind of every guest. Assumes nothing.
-use Prim.Native.Nat.{ℕ, zero, suc, _+_, _*_, _≤_, _<_}
+use Prim.Native.Nat.{ℕ, zero, suc, _+_, _≤_, _<_}
 use mathlib.Core.Path.{_≡_, refl, sym, ap, _∙_, subst}
 use mathlib.Core.Bool.{Bool, true, false, _&&_, true≢false}
 use mathlib.Core.List.{List, []}
@@ -11,9 +11,11 @@ use Rattle.lists.specs.Words.{below}
 use Rattle.lists.specs.Walks.{below-ext, below-fails, below-three}
 use Rattle.lists.specs.RowsLaws.{row-at, length-rows}
 use Rattle.rules.specs.Numbers.{second, down, up}
-use Rattle.rules.specs.Tables.{Guest, Request, owner, mine}
+use Rattle.rules.specs.Tables.{Request, owner, mine}
+use Rattle.rules.specs.declared.Guest.{Guest}
 use Rattle.rules.specs.Sound.{kept, orderly}
 use Rattle.rules.proofs.Spacings.{no-down, no-up}
+use Rattle.table.specs.Columns.{RESERVATION, LIMIT, SHARES, GUEST, RTAG, mostGuests, guestAt, waitingAt}
 use Rattle.table.specs.View.{guestForm, requestForm, guestsOf, waitingOf}
 use Rattle.entries.specs.Kinds.{passes, gapOf, Gaps, nextAt, endsAt, keptOf, keptAll, Tested}
 use Rattle.entries.proofs.Chains.{run, run-has, run-lacks}
@@ -22,9 +24,9 @@ use Rattle.entries.proofs.GapLaws.{down-some, up-some, gap-low}
 use Rattle.entries.proofs.RowFacts.{tagOf, tag-is, owner-is, in-range, guest-known}
 
 -- the order of every guest is that of each kind
-pub orderly-kinds : (gs : List ℕ) (known : ℕ) (ws : List ℕ) (count : ℕ) → (below known (keptAll gs known ws count 0) && below known (keptAll gs known ws count 1) && below known (keptAll gs known ws count 2)) ≡ below known (λ g. orderly (owner (guestsOf gs known) g) (mine g (waitingOf ws count)))
+pub orderly-kinds : (gs : List ℕ) (known : ℕ) (ws : List ℕ) (count : ℕ) → (below known (keptAll gs known ws count RESERVATION) && below known (keptAll gs known ws count LIMIT) && below known (keptAll gs known ws count SHARES)) ≡ below known (λ g. orderly (owner (guestsOf gs known) g) (mine g (waitingOf ws count)))
 unfolding orderly
-orderly-kinds gs known ws count = below-three (keptAll gs known ws count 0) (keptAll gs known ws count 1) (keptAll gs known ws count 2) known
+orderly-kinds gs known ws count = below-three (keptAll gs known ws count RESERVATION) (keptAll gs known ws count LIMIT) (keptAll gs known ws count SHARES) known
 
 -- a guest has a kind where its gap is not 0
 has-is : (tag : Request → ℕ) (has : Bool) (d n : ℕ) (l : List Request) → (has ≡ true → 0 < d) → (has ≡ false → d ≡ 0) → kept has tag (λ q. d) (λ q. d) l n ≡ run tag d 0 l n
@@ -36,31 +38,31 @@ abbrev pub Walked : (gs : List ℕ) (known : ℕ) (ws : List ℕ) (count kind : 
 Walked gs known ws count kind gaps floors i = Floors (tagOf kind) (waitingOf ws count) gaps (nextAt gs kind) known floors i
 
 -- before the first request
-pub walk-start : (gs : List ℕ) (known : ℕ) (ws : List ℕ) (count kind : ℕ) (gaps : List ℕ) → known ≤ 64 → Walked gs known ws count kind gaps (replicate 64 0) 0
+pub walk-start : (gs : List ℕ) (known : ℕ) (ws : List ℕ) (count kind : ℕ) (gaps : List ℕ) → known ≤ mostGuests → Walked gs known ws count kind gaps (replicate mostGuests 0) 0
 walk-start gs known ws count kind gaps few = floors-start (tagOf kind) (waitingOf ws count) gaps (nextAt gs kind) known few
 
 module _ (gs : List ℕ) (known : ℕ) (ws : List ℕ) (count : ℕ) (t : Tested gs known ws count) where
   -- the order of a guest's tags of a kind is the walk over them
-  kept-is : (kind g : ℕ) → kind < 3 → g < known → (l : List Request) → run (tagOf kind) (gapOf kind (getD gs (g * 6 + kind) 0)) 0 l (nextAt gs kind g) ≡ keptOf kind (owner (guestsOf gs known) g) l
+  kept-is : (kind g : ℕ) → kind ≤ SHARES → g < known → (l : List Request) → run (tagOf kind) (gapOf kind (guestAt gs g kind)) 0 l (nextAt gs kind g) ≡ keptOf kind (owner (guestsOf gs known) g) l
   kept-is zero g k h l =
-      let n = getD gs (g * 6 + 0) 0 in
+      let n = guestAt gs g RESERVATION in
       sym
-      (ap (λ (o : Guest). keptOf 0 o l) (row-at guestForm gs known g h)
-      ∙ has-is (tagOf 0) (ltb 0 n) (down n) (nextAt gs 0 g) l (λ e. down-some n (ltb-true 0 n e) (in-range gs known ws count t g h .reservations)) (no-down n))
+      (ap (λ (o : Guest). keptOf RESERVATION o l) (row-at guestForm gs known g h)
+      ∙ has-is (tagOf RESERVATION) (ltb 0 n) (down n) (nextAt gs RESERVATION g) l (λ e. down-some n (ltb-true 0 n e) (in-range gs known ws count t g h .reservations)) (no-down n))
   kept-is (suc zero) g k h l =
-      let n = getD gs (g * 6 + 1) 0 in
+      let n = guestAt gs g LIMIT in
       sym
-      (ap (λ (o : Guest). keptOf 1 o l) (row-at guestForm gs known g h)
-      ∙ has-is (tagOf 1) (ltb 0 n) (up n) (nextAt gs 1 g) l (λ e. up-some n (ltb-true 0 n e)) (no-up n))
+      (ap (λ (o : Guest). keptOf LIMIT o l) (row-at guestForm gs known g h)
+      ∙ has-is (tagOf LIMIT) (ltb 0 n) (up n) (nextAt gs LIMIT g) l (λ e. up-some n (ltb-true 0 n e)) (no-up n))
   kept-is (suc (suc zero)) g k h l =
-      let n = getD gs (g * 6 + 2) 0 in
+      let n = guestAt gs g SHARES in
       let r = in-range gs known ws count t g h in
       sym
-      (ap (λ (o : Guest). keptOf 2 o l) (row-at guestForm gs known g h)
-      ∙ has-is (tagOf 2) true (down n) (nextAt gs 2 g) l (λ e. down-some n (r .share-count .0) (r .share-count .1)) (λ e. absurd (true≢false e)))
+      (ap (λ (o : Guest). keptOf SHARES o l) (row-at guestForm gs known g h)
+      ∙ has-is (tagOf SHARES) true (down n) (nextAt gs SHARES g) l (λ e. down-some n (r .share-count .0) (r .share-count .1)) (λ e. absurd (true≢false e)))
   kept-is (suc (suc (suc n))) g k h l = absurd (omega arith)
 
-  module _ (kind : ℕ) (three : kind < 3) (gaps : List ℕ) (spaced : Gaps gs known kind gaps) where
+  module _ (kind : ℕ) (three : kind ≤ SHARES) (gaps : List ℕ) (spaced : Gaps gs known kind gaps) where
     -- what the walk comes to is the order of the guest's kind
     whole-is : (g : ℕ) → g < known → whole (tagOf kind) (waitingOf ws count) gaps (nextAt gs kind) known g ≡ keptAll gs known ws count kind g
     whole-is g h =
@@ -69,7 +71,7 @@ module _ (gs : List ℕ) (known : ℕ) (ws : List ℕ) (count : ℕ) (t : Tested
 
     -- a gap of a guest that exists is no large number
     pub gap-fits : (g : ℕ) → g < known → getD gaps g 0 ≤ second
-    gap-fits g h = omega (arith, spaced .gap g h, gap-low kind (getD gs (g * 6 + kind) 0))
+    gap-fits g h = omega (arith, spaced .gap g h, gap-low kind (guestAt gs g kind))
 
     -- after the last request the next numbers decide
     pub kind-ends : (floors : List ℕ) (i : ℕ) → Walked gs known ws count kind gaps floors i → count ≤ i → below known (endsAt gs kind gaps floors) ≡ below known (keptAll gs known ws count kind)
@@ -86,10 +88,10 @@ module _ (gs : List ℕ) (known : ℕ) (ws : List ℕ) (count : ℕ) (t : Tested
       q = getD (waitingOf ws count) i z
 
       abbrev g : ℕ
-      g = getD ws (i * 5 + 0) 0
+      g = waitingAt ws i GUEST
 
       abbrev x : ℕ
-      x = getD ws (i * 5 + (2 + kind)) 0
+      x = waitingAt ws i (RTAG + kind)
 
       -- the row is one of those that wait
       inside : i < length (waitingOf ws count)

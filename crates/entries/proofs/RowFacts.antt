@@ -1,5 +1,5 @@
 -- What the tests before that of order say of each row: settings are small, guests exist, tags are at most the ceiling. Assumes nothing.
-use Prim.Native.Nat.{ℕ, zero, suc, _+_, _*_, _≤_, _<_}
+use Prim.Native.Nat.{ℕ, zero, suc, _+_, _≤_, _<_}
 use mathlib.Core.Path.{_≡_, sym, ap, _∙_}
 use mathlib.Core.List.{List, []}
 use native.Mathlib.Omega.{arith}
@@ -14,57 +14,57 @@ use Rattle.rules.specs.Sound.{lawful}
 use Rattle.rules.specs.Refused.{Good}
 use Rattle.rules.proofs.Facts.{Lawful, lawful-is}
 use Rattle.rules.proofs.Conditions.{settled-good}
+use Rattle.table.specs.Columns.{RESERVATION, LIMIT, SHARES, GUEST, ID, RTAG, guestAt, waitingAt}
 use Rattle.table.specs.View.{guestForm, requestForm, guestsOf, waitingOf}
 use Rattle.entries.specs.Tests.{settingsAre, settledGuest, named}
 use Rattle.entries.specs.Kinds.{Tested}
-use Rattle.entries.proofs.Records.{guest-is, waiting-is}
 
 -- the tag of a kind of a request
 abbrev pub tagOf : ℕ → Request → ℕ
-tagOf k q = getD (requestForm .line q) (2 + k) 0
+tagOf k q = getD (requestForm .line q) (RTAG + k) 0
 
 -- a tag of a lawful request
-lawful-tag : (kind : ℕ) (q : Request) → Lawful q → kind < 3 → tagOf kind q ≤ ceiling
+lawful-tag : (kind : ℕ) (q : Request) → Lawful q → kind ≤ SHARES → tagOf kind q ≤ ceiling
 lawful-tag zero q s k = s .reservation
 lawful-tag (suc zero) q s k = s .limit
 lawful-tag (suc (suc zero)) q s k = s .share
 lawful-tag (suc (suc (suc n))) q s k = absurd (omega arith)
 
 -- the number read of a row is the tag of its request
-pub tag-is : (ws : List ℕ) (count kind i : ℕ) → kind < 3 → i < count → tagOf kind (getD (waitingOf ws count) i (requestForm .read [])) ≡ getD ws (i * 5 + (2 + kind)) 0
-tag-is ws count zero i k h = ap (tagOf 0) (row-at requestForm ws count i h)
-tag-is ws count (suc zero) i k h = ap (tagOf 1) (row-at requestForm ws count i h)
-tag-is ws count (suc (suc zero)) i k h = ap (tagOf 2) (row-at requestForm ws count i h)
+pub tag-is : (ws : List ℕ) (count kind i : ℕ) → kind ≤ SHARES → i < count → tagOf kind (getD (waitingOf ws count) i (requestForm .read [])) ≡ waitingAt ws i (RTAG + kind)
+tag-is ws count zero i k h = ap (tagOf RESERVATION) (row-at requestForm ws count i h)
+tag-is ws count (suc zero) i k h = ap (tagOf LIMIT) (row-at requestForm ws count i h)
+tag-is ws count (suc (suc zero)) i k h = ap (tagOf SHARES) (row-at requestForm ws count i h)
 tag-is ws count (suc (suc (suc n))) i k h = absurd (omega arith)
 
 -- and so is its guest
-pub owner-is : (ws : List ℕ) (count i : ℕ) → i < count → (getD (waitingOf ws count) i (requestForm .read [])) .guest ≡ getD ws (i * 5 + 0) 0
+pub owner-is : (ws : List ℕ) (count i : ℕ) → i < count → (getD (waitingOf ws count) i (requestForm .read [])) .guest ≡ waitingAt ws i GUEST
 owner-is ws count i h = ap Request.guest (row-at requestForm ws count i h)
 
 module _ (gs : List ℕ) (known : ℕ) (ws : List ℕ) (count : ℕ) (t : Tested gs known ws count) where
   -- a guest's settings lie in their ranges
-  pub in-range : (g : ℕ) → g < known → Good (settingsAre (getD gs (g * 6 + 0) 0) (getD gs (g * 6 + 1) 0) (getD gs (g * 6 + 2) 0))
+  pub in-range : (g : ℕ) → g < known → Good (settingsAre (guestAt gs g RESERVATION) (guestAt gs g LIMIT) (guestAt gs g SHARES))
   in-range g h =
-      settled-good (settingsAre (getD gs (g * 6 + 0) 0) (getD gs (g * 6 + 1) 0) (getD gs (g * 6 + 2) 0)) .0
-      (sym (guest-is gs known g h) ∙ all-at settledGuest (guestsOf gs known) (guestForm .read []) (t .isSettled) g (omega (arith, length-rows guestForm gs known)))
+      settled-good (settingsAre (guestAt gs g RESERVATION) (guestAt gs g LIMIT) (guestAt gs g SHARES)) .0
+      (sym (ap settledGuest (row-at guestForm gs known g h)) ∙ all-at settledGuest (guestsOf gs known) (guestForm .read []) (t .isSettled) g (omega (arith, length-rows guestForm gs known)))
 
   -- each is small
-  pub setting-low : (kind g : ℕ) → kind < 3 → g < known → getD gs (g * 6 + kind) 0 ≤ 1000000
+  pub setting-low : (kind g : ℕ) → kind ≤ SHARES → g < known → guestAt gs g kind ≤ 1000000
   setting-low zero g k h = in-range g h .reservations
   setting-low (suc zero) g k h = in-range g h .limits
   setting-low (suc (suc zero)) g k h = in-range g h .share-count .1
   setting-low (suc (suc (suc n))) g k h = absurd (omega arith)
 
   -- a request's guest exists
-  pub guest-known : (i : ℕ) → i < count → getD ws (i * 5 + 0) 0 < known
+  pub guest-known : (i : ℕ) → i < count → waitingAt ws i GUEST < known
   guest-known i h =
-      ltb-true (getD ws (i * 5 + 0) 0) known
-      (both (ltb (getD ws (i * 5 + 0) 0) known) (ltb (getD ws (i * 5 + 1) 0) 4294967296)
-      (sym (waiting-is ws count i h known) ∙ all-at (λ q. named known (name q)) (waitingOf ws count) (requestForm .read []) (t .isNamed) i (omega (arith, length-rows requestForm ws count)))
+      ltb-true (waitingAt ws i GUEST) known
+      (both (ltb (waitingAt ws i GUEST) known) (ltb (waitingAt ws i ID) 4294967296)
+      (sym (ap (λ (q : Request). named known (name q)) (row-at requestForm ws count i h)) ∙ all-at (λ q. named known (name q)) (waitingOf ws count) (requestForm .read []) (t .isNamed) i (omega (arith, length-rows requestForm ws count)))
       .0)
 
   -- its tags are at most the ceiling
-  pub tag-low : (kind i : ℕ) → kind < 3 → i < count → getD ws (i * 5 + (2 + kind)) 0 ≤ ceiling
+  pub tag-low : (kind i : ℕ) → kind ≤ SHARES → i < count → waitingAt ws i (RTAG + kind) ≤ ceiling
   tag-low kind i k h =
       let q = getD (waitingOf ws count) i (requestForm .read []) in
       let s = lawful-is q (all-at lawful (waitingOf ws count) (requestForm .read []) (t .isLawful) i (omega (arith, length-rows requestForm ws count))) in

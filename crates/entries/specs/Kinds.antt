@@ -1,4 +1,4 @@
--- One kind of tag of every guest, by the numbers of the tables. Kinds are 0 reservation, 1 limit, 2 shares.
+-- One kind of tag of every guest, by the numbers of the tables. A kind is told by the column of its setting: RESERVATION, LIMIT or SHARES.
 use Prim.Native.Nat.{ℕ, zero, suc, _+_, _*_, _≤_, _<_}
 use mathlib.Core.Path.{_≡_}
 use mathlib.Core.Bool.{Bool, true}
@@ -7,8 +7,10 @@ use lib.Dec.{leb, eqb}
 use lib.ListN.{length, getD}
 use Rattle.lists.specs.Words.{if_then_else_, all}
 use Rattle.rules.specs.Numbers.{down, up, idleBound}
-use Rattle.rules.specs.Tables.{Guest, Request, reserved, limited, rspacing, lspacing, sspacing, owner, mine, name}
+use Rattle.rules.specs.Tables.{Request, reserved, limited, rspacing, lspacing, sspacing, owner, mine, name}
+use Rattle.rules.specs.declared.Guest.{Guest}
 use Rattle.rules.specs.Sound.{lawful, kept}
+use Rattle.table.specs.Columns.{LIMIT, SHARES, RNEXT, guestWide, waitingWide, mostGuests, guestAt}
 use Rattle.table.specs.View.{guestsOf, waitingOf}
 use Rattle.entries.specs.Tests.{settledGuest, named}
 
@@ -22,23 +24,23 @@ ends d f n = if eqb d 0 then eqb n 0 else (if eqb f 0 then leb n idleBound else 
 
 -- how far apart the tags of a kind stand, by the guest's setting n of that kind
 abbrev pub gapOf : (kind setting : ℕ) → ℕ
-gapOf k n = if eqb k 1 then up n else down n
+gapOf k n = if eqb k LIMIT then up n else down n
 
 -- gaps holds the gap of every guest, of one kind
 pub record Gaps (gs : List ℕ) (known kind : ℕ) (gaps : List ℕ) : Type 0 where
-  pub long : length gaps ≡ 64
-  pub gap : (g : ℕ) → g < known → getD gaps g 0 ≡ gapOf kind (getD gs (g * 6 + kind) 0)
+  pub long : length gaps ≡ mostGuests
+  pub gap : (g : ℕ) → g < known → getD gaps g 0 ≡ gapOf kind (guestAt gs g kind)
 
 -- the settings of a kind are low enough for the gaps to be computed
 pub record Low (gs : List ℕ) (known kind : ℕ) : Type 0 where
-  pub few : known ≤ 64
-  pub room : known * 6 ≤ length gs
-  pub three : kind < 3
-  pub low : (g : ℕ) → g < known → getD gs (g * 6 + kind) 0 ≤ 1000000
+  pub few : known ≤ mostGuests
+  pub room : known * guestWide ≤ length gs
+  pub three : kind ≤ SHARES
+  pub low : (g : ℕ) → g < known → guestAt gs g kind ≤ 1000000
 
 -- guest g's next number of a kind
 abbrev pub nextAt : (gs : List ℕ) (kind g : ℕ) → ℕ
-nextAt gs k g = getD gs (g * 6 + (3 + k)) 0
+nextAt gs k g = guestAt gs g (RNEXT + k)
 
 -- guest g's next number of a kind is right, by the gaps and by what the last waiting tags ask for, the floors
 abbrev pub endsAt : (gs : List ℕ) (kind : ℕ) (gaps floors : List ℕ) → ℕ → Bool
@@ -52,9 +54,9 @@ keptOf (suc (suc k)) h l = kept true Request.stag (sspacing (h .settings)) (sspa
 
 -- what was tested of both tables before their order is
 pub record Tested (gs : List ℕ) (known : ℕ) (ws : List ℕ) (count : ℕ) : Type 0 where
-  pub few : known ≤ 64
-  pub guestRoom : known * 6 ≤ length gs
-  pub waitingRoom : count * 5 ≤ length ws
+  pub few : known ≤ mostGuests
+  pub guestRoom : known * guestWide ≤ length gs
+  pub waitingRoom : count * waitingWide ≤ length ws
   pub isSettled : all settledGuest (guestsOf gs known) ≡ true
   pub isNamed : all (λ q. named known (name q)) (waitingOf ws count) ≡ true
   pub isLawful : all lawful (waitingOf ws count) ≡ true

@@ -2,7 +2,9 @@
 use Prim.Native.Nat.{ℕ}
 use mathlib.Core.Bool.{Bool, _&&_}
 use lib.Dec.{ltb}
-use Rattle.rules.specs.Tables.{Settings, Guest, Flight}
+use Rattle.rules.specs.declared.Settings.{Settings}
+use Rattle.rules.specs.declared.Guest.{Guest}
+use Rattle.rules.specs.declared.Flight.{Flight}
 use Rattle.rules.specs.Sound.{settled}
 
 -- settings from three numbers

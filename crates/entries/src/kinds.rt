@@ -1,28 +1,26 @@
-// One kind of tag at a time: the spacing within each guest, and the next numbers. Kinds are 0 reservation, 1 limit, 2 shares.
+// One kind of tag at a time: the spacing within each guest, and the next numbers. A kind is told by the column of its setting: RESERVATION, LIMIT
+// or SHARES; its tags and its next numbers stand in the same order.
 use table::columns::GUEST;
+use table::columns::GUEST_WIDE;
+use table::columns::LIMIT;
+use table::columns::MOST_GUESTS;
+use table::columns::RESERVATION;
+use table::columns::RNEXT;
+use table::columns::RTAG;
+use table::columns::SHARES;
+use table::columns::WAITING_WIDE;
 use table::numbers::CEILING;
 use table::numbers::spacing_down;
 use table::numbers::spacing_up;
 ghost use mathlib.Core.Path.{_≡_};
-ghost use Prim.Native.Nat.{_+_, _*_, _≤_, _<_};
+ghost use Prim.Native.Nat.{_*_, _≤_};
 ghost use lib.ListN.{length};
 ghost use Rattle.lists.specs.Words.{below};
 ghost use Rattle.rules.specs.Tables.{owner, mine};
 ghost use Rattle.rules.specs.Sound.{orderly};
+ghost use Rattle.table.specs.Columns.{SHARES, guestWide, mostGuests};
 ghost use Rattle.table.specs.View.{guestsOf, waitingOf};
 ghost use Rattle.entries.specs.Kinds.{passes, ends, gapOf, Gaps, Low, Tested, endsAt, keptAll};
-
-// The kinds of tags.
-const RESERVATION: usize = 0;
-
-const LIMIT: usize = 1;
-
-const SHARES: usize = 2;
-
-// Where a request's first tag stands in its row, and in a guest's row its first next number.
-const TAGS: usize = 2;
-
-const NEXTS: usize = 3;
 
 // The most that an idle guest's next number may be: the ceiling plus 1,000,000,000.
 const IDLE: u64 = CEILING + 1000000000;
@@ -40,14 +38,14 @@ fn gap_of(kind: usize, n: u64) -> u64
 }
 
 // The gap of every guest, by a kind of its settings.
-fn gaps_of(guests: &[u64], known: usize, kind: usize) -> [u64; 64]
+fn gaps_of(guests: &[u64], known: usize, kind: usize) -> [u64; MOST_GUESTS]
     requires { ⌜ Low (now guests) known kind ⌝ }
     ensures { λ r. ⌜ Gaps (now (guests .entry)) known kind r ⌝ }
 {
-    let mut gaps: [u64; 64] = [0; 64];
+    let mut gaps: [u64; MOST_GUESTS] = [0; MOST_GUESTS];
     let mut g: usize = 0;
     while g < known {
-        let setting = guests[g * 6 + kind];
+        let setting = guests[g * GUEST_WIDE + kind];
         gaps[g] = gap_of(kind, setting);
         g += 1;
     }
@@ -75,13 +73,19 @@ fn is_end(gap: u64, floor: u64, next: u64) -> bool
 }
 
 // The next number of every guest, of one kind, is right.
-fn all_end(guests: &[u64], known: usize, kind: usize, gaps: [u64; 64], floors: [u64; 64]) -> bool
-    requires { ⌜ (known ≤ 64) × (known * 6 ≤ length (now guests)) × (kind < 3) ⌝ }
+fn all_end(
+    guests: &[u64],
+    known: usize,
+    kind: usize,
+    gaps: [u64; MOST_GUESTS],
+    floors: [u64; MOST_GUESTS],
+) -> bool
+    requires { ⌜ (known ≤ mostGuests) × (known * guestWide ≤ length (now guests)) × (kind ≤ SHARES) ⌝ }
     ensures { λ b. ⌜ b ≡ below known (endsAt (now (guests .entry)) kind gaps floors) ⌝ }
 {
     let mut g: usize = 0;
     while g < known {
-        let next = guests[g * 6 + (NEXTS + kind)];
+        let next = guests[g * GUEST_WIDE + (RNEXT + kind)];
         if !is_end(gaps[g], floors[g], next) {
             return false;
         }
@@ -92,15 +96,15 @@ fn all_end(guests: &[u64], known: usize, kind: usize, gaps: [u64; 64], floors: [
 
 // The order of one kind of every guest: one walk over the requests, which keeps for each guest the least that its next tag may be.
 fn is_kept(guests: &[u64], known: usize, waiting: &[u64], count: usize, kind: usize) -> bool
-    requires { ⌜ Tested (now guests) known (now waiting) count × (kind < 3) ⌝ }
+    requires { ⌜ Tested (now guests) known (now waiting) count × (kind ≤ SHARES) ⌝ }
     ensures { λ b. ⌜ b ≡ below known (keptAll (now (guests .entry)) known (now (waiting .entry)) count kind) ⌝ }
 {
     let gaps = gaps_of(guests, known, kind);
-    let mut floors: [u64; 64] = [0; 64];
+    let mut floors: [u64; MOST_GUESTS] = [0; MOST_GUESTS];
     let mut i: usize = 0;
     while i < count {
-        let g = waiting[i * 5 + GUEST] as usize;
-        let tag = waiting[i * 5 + (TAGS + kind)];
+        let g = waiting[i * WAITING_WIDE + GUEST] as usize;
+        let tag = waiting[i * WAITING_WIDE + (RTAG + kind)];
         let gap = gaps[g];
         let floor = floors[g];
         if !is_passed(gap, floor, tag) {

@@ -1,18 +1,20 @@
 // Whether each request, by itself, is one: its guest exists, its id has 32 bits, its tags are at most the ceiling.
+use table::columns::FLIGHT_WIDE;
 use table::columns::GUEST;
 use table::columns::ID;
 use table::columns::LTAG;
 use table::columns::RTAG;
 use table::columns::STAG;
-use table::numbers::CEILING;
+use table::columns::WAITING_WIDE;
+use table::numbers::stamp_fits;
 ghost use mathlib.Core.Path.{_≡_};
 ghost use Prim.Native.Nat.{_*_, _≤_};
 ghost use lib.ListN.{length};
 ghost use Rattle.lists.specs.Words.{all};
 ghost use Rattle.rules.specs.Tables.{name};
 ghost use Rattle.rules.specs.Sound.{lawful};
+ghost use Rattle.table.specs.Columns.{flightWide, waitingWide};
 ghost use Rattle.table.specs.View.{waitingOf, flightsOf, nameIs};
-ghost use Rattle.table.specs.Stamp.{lawfulTags};
 ghost use Rattle.entries.specs.Tests.{named};
 
 // One request's name: of `known` guests its guest exists, and its id has 32 bits.
@@ -25,29 +27,16 @@ fn is_named(guest: u64, id: u64, known: u64) -> bool
     id < 4294967296
 }
 
-// The tags of one request are at most the ceiling.
-fn is_lawful(r: u64, l: u64, s: u64) -> bool
-    ensures { λ b. ⌜ b ≡ lawfulTags r l s ⌝ }
-{
-    if CEILING < r {
-        return false;
-    }
-    if CEILING < l {
-        return false;
-    }
-    s <= CEILING
-}
-
 // Every waiting request's guest exists, and its id has 32 bits.
 pub fn all_named(waiting: &[u64], count: usize, known: u64) -> bool
-    requires { ⌜ count * 5 ≤ length (now waiting) ⌝ }
+    requires { ⌜ count * waitingWide ≤ length (now waiting) ⌝ }
     ensures { λ b. ⌜ b ≡ all (λ q. named known (name q)) (waitingOf (now (waiting .entry)) count) ⌝ }
 {
     let mut i: usize = count;
     while 0 < i {
         i -= 1;
-        let guest = waiting[i * 5 + GUEST];
-        let id = waiting[i * 5 + ID];
+        let guest = waiting[i * WAITING_WIDE + GUEST];
+        let id = waiting[i * WAITING_WIDE + ID];
         if !is_named(guest, id, known) {
             return false;
         }
@@ -57,14 +46,14 @@ pub fn all_named(waiting: &[u64], count: usize, known: u64) -> bool
 
 // Every guest of a request in flight exists, and its id has 32 bits.
 pub fn all_flown(flight: &[u64], count: usize, known: u64) -> bool
-    requires { ⌜ count * 2 ≤ length (now flight) ⌝ }
+    requires { ⌜ count * flightWide ≤ length (now flight) ⌝ }
     ensures { λ b. ⌜ b ≡ all (named known) (flightsOf (now (flight .entry)) count) ⌝ }
 {
     let mut i: usize = count;
     while 0 < i {
         i -= 1;
-        let guest = flight[i * 2 + GUEST];
-        let id = flight[i * 2 + ID];
+        let guest = flight[i * FLIGHT_WIDE + GUEST];
+        let id = flight[i * FLIGHT_WIDE + ID];
         if !is_named(guest, id, known) {
             return false;
         }
@@ -74,16 +63,16 @@ pub fn all_flown(flight: &[u64], count: usize, known: u64) -> bool
 
 // Every waiting request's tags are at most the ceiling.
 pub fn all_lawful(waiting: &[u64], count: usize) -> bool
-    requires { ⌜ count * 5 ≤ length (now waiting) ⌝ }
+    requires { ⌜ count * waitingWide ≤ length (now waiting) ⌝ }
     ensures { λ b. ⌜ b ≡ all lawful (waitingOf (now (waiting .entry)) count) ⌝ }
 {
     let mut i: usize = count;
     while 0 < i {
         i -= 1;
-        let r = waiting[i * 5 + RTAG];
-        let l = waiting[i * 5 + LTAG];
-        let s = waiting[i * 5 + STAG];
-        if !is_lawful(r, l, s) {
+        let r = waiting[i * WAITING_WIDE + RTAG];
+        let l = waiting[i * WAITING_WIDE + LTAG];
+        let s = waiting[i * WAITING_WIDE + STAG];
+        if !stamp_fits(r, l, s) {
             return false;
         }
     }

@@ -1,6 +1,8 @@
 // Whether the settings of all guests lie in their ranges.
+use table::columns::GUEST_WIDE;
 use table::columns::LIMIT;
 use table::columns::RESERVATION;
+use table::columns::SETTINGS_WIDE;
 use table::columns::SHARES;
 use table::ranges::is_settled;
 ghost use mathlib.Core.Path.{_≡_};
@@ -9,20 +11,21 @@ ghost use lib.ListN.{length};
 ghost use Rattle.lists.specs.Words.{all};
 ghost use Rattle.lists.specs.Rows.{rowsOf};
 ghost use Rattle.rules.specs.Sound.{settled};
+ghost use Rattle.table.specs.Columns.{guestWide, settingsWide};
 ghost use Rattle.table.specs.View.{settingsForm, guestsOf};
 ghost use Rattle.entries.specs.Tests.{settledGuest};
 
-// The settings of every guest lie in their ranges, in a list of settings, three numbers a guest.
+// The settings of every guest lie in their ranges, in a list of settings.
 pub fn all_settled_list(settings: &[u64], known: usize) -> bool
-    requires { ⌜ known * 3 ≤ length (now settings) ⌝ }
+    requires { ⌜ known * settingsWide ≤ length (now settings) ⌝ }
     ensures { λ b. ⌜ b ≡ all settled (rowsOf settingsForm (now (settings .entry)) known) ⌝ }
 {
     let mut i: usize = known;
     while 0 < i {
         i -= 1;
-        let r = settings[i * 3 + RESERVATION];
-        let l = settings[i * 3 + LIMIT];
-        let s = settings[i * 3 + SHARES];
+        let r = settings[i * SETTINGS_WIDE + RESERVATION];
+        let l = settings[i * SETTINGS_WIDE + LIMIT];
+        let s = settings[i * SETTINGS_WIDE + SHARES];
         if !is_settled(r, l, s) {
             return false;
         }
@@ -30,17 +33,17 @@ pub fn all_settled_list(settings: &[u64], known: usize) -> bool
     true
 }
 
-// Those of every guest do, in a guest table, six numbers a guest.
+// Those of every guest do, in a guest table.
 pub fn all_settled(guests: &[u64], known: usize) -> bool
-    requires { ⌜ known * 6 ≤ length (now guests) ⌝ }
+    requires { ⌜ known * guestWide ≤ length (now guests) ⌝ }
     ensures { λ b. ⌜ b ≡ all settledGuest (guestsOf (now (guests .entry)) known) ⌝ }
 {
     let mut i: usize = known;
     while 0 < i {
         i -= 1;
-        let r = guests[i * 6 + RESERVATION];
-        let l = guests[i * 6 + LIMIT];
-        let s = guests[i * 6 + SHARES];
+        let r = guests[i * GUEST_WIDE + RESERVATION];
+        let l = guests[i * GUEST_WIDE + LIMIT];
+        let s = guests[i * GUEST_WIDE + SHARES];
         if !is_settled(r, l, s) {
             return false;
         }

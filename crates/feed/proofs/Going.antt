@@ -8,11 +8,11 @@ use Rattle.rules.specs.Tables.{Table}
 use Rattle.rules.specs.Sound.{sound}
 use Rattle.rules.specs.declared.Gate.{Gate}
 use Rattle.rules.specs.declared.Answer.the-variants.{Nothing}
-use Rattle.rules.proofs.Settings.{SameSettings, run-settings}
+use Rattle.rules.proofs.SameSettings.{SameSettings, run-settings}
 use Rattle.rules.proofs.StepSound.{run-sound}
 use Rattle.table.specs.View.{tableOf, Handed, handed, Known}
-use Rattle.step.specs.Does.{Lent, written}
-use Rattle.step.proofs.Lens.{Room, written-shown, handed-again, known-room, known-written}
+use Rattle.table.specs.Does.{Lent, written}
+use Rattle.table.proofs.Lens.{Room, written-shown, handed-again, known-room, known-written}
 use Rattle.lines.specs.Line.{lineOf}
 use Rattle.lines.specs.Put.{Put}
 use Rattle.lines.proofs.PutLaws.{puts, put-as}

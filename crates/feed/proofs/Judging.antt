@@ -1,58 +1,41 @@
 -- One event as it was read, on tables that are known: what the step's functions hand back is what is answered, and is known again. Assumes nothing.
-use Prim.Native.Nat.{ℕ, _+_, _≤_, _<_}
+use Prim.Native.Nat.{ℕ, _+_, _≤_}
 use mathlib.Core.Path.{_≡_, refl, sym, ap, _∙_, subst}
 use mathlib.Core.List.{List}
-use borrow.Author.Tests.{lt-ltb}
-use Rattle.rules.specs.Events.{arrival, completion, tick}
+use Rattle.rules.specs.declared.Event.{Event}
 use Rattle.rules.specs.Run.{step}
 use Rattle.rules.specs.declared.Gate.{Gate}
 use Rattle.rules.specs.declared.Refusal.the-variants.{BadEvent}
 use Rattle.rules.specs.declared.Answer.the-variants.{Refused}
 use Rattle.rules.specs.declared.Outcome.{Outcome}
 use Rattle.table.specs.View.{tableOf, Handed, handed, Known}
-use Rattle.step.specs.Does.{does}
-use Rattle.step.proofs.Lens.{known-written, handed-written}
-use Rattle.step.proofs.After.{KnownAfter, step-known}
+use Rattle.table.specs.Does.{does, refusing}
+use Rattle.table.proofs.Lens.{known-written, handed-written}
+use Rattle.step.proofs.After.{KnownAfter}
 use Rattle.lines.specs.Line.{lineOf, LINE}
 use Rattle.lines.specs.Put.{Put}
 use Rattle.lines.proofs.PutLaws.{put-as}
 use Rattle.trace.specs.Printed.{answered}
 use Rattle.trace.specs.declared.Read.{Read}
-use Rattle.trace.specs.declared.Read.the-variants.{Arrival, Completion, Tick, Bad}
+use Rattle.trace.specs.declared.Read.the-variants.{Good, Bad}
 use Rattle.feed.specs.Promise.{Judged}
 
-module _ (g : Gate) (gs ws fs : List ℕ) (k : Known g gs ws fs) (e : Read) (h : Handed) where
-  -- h is what is answered to the event e, and is known
-  abbrev Answers : Type 0
-  Answers = (h ≡ does (λ t. answered t e) g gs ws fs) × KnownAfter h
-
-  pub arrival-answers : (n i now : ℕ) → e ≡ Arrival n i now → i < 4294967296 → h ≡ does (λ t. step t (arrival (record { guest = n; id = i }) now)) g gs ws fs → Answers
+module _ (g : Gate) (gs ws fs : List ℕ) (x : Read) where
+  -- a good event is answered by the step
+  pub good-answers : (e : Event) → x ≡ Good e → (h : Handed) → (h ≡ does (λ t. step t e) g gs ws fs) → h ≡ does (λ t. answered t x) g gs ws fs
   unfolding answered
-  arrival-answers n i now p bits q = (
-    q ∙ ap (λ (x : Read). does (λ t. answered t x) g gs ws fs) (sym p),
-    subst KnownAfter (sym q) (step-known g gs ws fs k (arrival (record { guest = n; id = i }) now) (lt-ltb i 4294967296 bits)),
-  )
+  good-answers e p h q = q ∙ ap (λ (y : Read). does (λ t. answered t y) g gs ws fs) (sym p)
 
-  pub completion-answers : (n i now : ℕ) → e ≡ Completion n i now → h ≡ does (λ t. step t (completion (record { guest = n; id = i }) now)) g gs ws fs → Answers
+  -- a bad one leaves all as it stood
+  pub bad-answers : Known g gs ws fs → x ≡ Bad → (o : Outcome) → o ≡ refusing BadEvent g
+      → ((o, gs, ws, fs) ≡ does (λ t. answered t x) g gs ws fs) × Known (o .gate) gs ws fs
   unfolding answered
-  completion-answers n i now p q = (
-    q ∙ ap (λ (x : Read). does (λ t. answered t x) g gs ws fs) (sym p),
-    subst KnownAfter (sym q) (step-known g gs ws fs k (completion (record { guest = n; id = i }) now) tt),
-  )
-
-  pub tick-answers : (now : ℕ) → e ≡ Tick now → h ≡ does (λ t. step t (tick now)) g gs ws fs → Answers
-  unfolding answered
-  tick-answers now p q = (
-    q ∙ ap (λ (x : Read). does (λ t. answered t x) g gs ws fs) (sym p),
-    subst KnownAfter (sym q) (step-known g gs ws fs k (tick now) tt),
-  )
-
--- a bad event leaves all as it stood
-pub bad-answers : (g : Gate) (gs ws fs : List ℕ) → Known g gs ws fs → (e : Read) → e ≡ Bad → (record { gate = g; answer = Refused BadEvent }, gs, ws, fs) ≡ does (λ t. answered t e) g gs ws fs
-unfolding answered
-bad-answers g gs ws fs k e p =
-    handed-written gs ws fs g gs ws fs (record { table = tableOf g gs ws fs; answer = Refused BadEvent }) (Refused BadEvent) (known-written g gs ws fs k) refl
-    ∙ ap (λ (x : Read). does (λ t. answered t x) g gs ws fs) (sym p)
+  bad-answers k p o q =
+      let s : _≡_ {A = Handed} (o, gs, ws, fs) (refusing BadEvent g, gs, ws, fs) = λ i. (q i, gs, ws, fs) in (
+        s ∙ handed-written gs ws fs g gs ws fs (record { table = tableOf g gs ws fs; answer = Refused BadEvent }) (Refused BadEvent) (known-written g gs ws fs k) refl
+            ∙ ap (λ (y : Read). does (λ t. answered t y) g gs ws fs) (sym p),
+        subst KnownAfter (sym s) k,
+      )
 
 -- what is known once the event was judged and its line written
 pub judged-by : (g : Gate) (gs ws fs : List ℕ) (x e : Read) → x ≡ e → (number at next : ℕ) (out out′ : List ℕ) (o : Outcome) (hs vs es : List ℕ)

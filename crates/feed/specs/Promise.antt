@@ -6,7 +6,7 @@ use lib.ListN.{length}
 use Rattle.rules.specs.Tables.{Table}
 use Rattle.rules.specs.declared.Gate.{Gate}
 use Rattle.table.specs.View.{tableOf, Known}
-use Rattle.step.specs.Does.{written}
+use Rattle.table.specs.Does.{written}
 use Rattle.lines.specs.Line.{lineOf, LINE}
 use Rattle.lines.specs.Put.{Put}
 use Rattle.trace.specs.Event.{eventsOf, whole}

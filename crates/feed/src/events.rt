@@ -1,5 +1,4 @@
 // The events of a part of a trace, each judged and its line written.
-use rules::Answer;
 use rules::Gate;
 use rules::Outcome;
 use rules::Refusal;
@@ -8,7 +7,7 @@ ghost use mathlib.Core.Path.{_≡_};
 ghost use Prim.Native.Nat.{_+_, _≤_, _<_, _^_, min};
 ghost use lib.ListN.{length, drop};
 ghost use Rattle.table.specs.View.{Known};
-ghost use Rattle.step.specs.Does.{does};
+ghost use Rattle.table.specs.Does.{does};
 ghost use Rattle.lines.specs.Line.{LINE};
 ghost use Rattle.trace.specs.Event.{eventOf};
 ghost use Rattle.trace.specs.Printed.{answered};
@@ -27,29 +26,8 @@ fn judge(
     ensures { λ r. ⌜ Known (r .gate) (now (guests .exit)) (now (waiting .exit)) (now (flight .exit)) ⌝ }
 {
     match event {
-        Read::Arrival { guest, id, time } => step::arrive::arrive(
-            gate,
-            guests,
-            waiting,
-            flight,
-            guest,
-            id,
-            time,
-        ),
-        Read::Completion { guest, id, time } => step::events::complete(
-            gate,
-            guests,
-            waiting,
-            flight,
-            guest,
-            id,
-            time,
-        ),
-        Read::Tick { time } => step::events::tick(gate, guests, waiting, flight, time),
-        Read::Bad => Outcome {
-            gate,
-            answer: Answer::Refused(Refusal::BadEvent),
-        },
+        Read::Good(good) => step::step(gate, guests, waiting, flight, good),
+        Read::Bad => table::gates::refused(gate, Refusal::BadEvent),
     }
 }
 

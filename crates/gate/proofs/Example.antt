@@ -13,9 +13,9 @@ use Rattle.rules.specs.Sound.{counted, settled}
 use Rattle.rules.specs.Refusals.{openTests}
 use Rattle.rules.proofs.Trials.{R, -, W, X, lines}
 use Rattle.rules.proofs.Readings.{one, ten, readings}
-use Rattle.table.specs.View.{handed}
-use Rattle.gate.specs.Promise.{openShort, openingAt, opened}
+use Rattle.gate.specs.Promise.{numbers, handedIn, openShortIn, openingIn, openedIn, opened}
 use Rattle.gate.specs.Calls.{Host, holds, replies, shows, taken}
+use Rattle.gate.proofs.Lending.{numbers-lawful}
 use Rattle.gate.proofs.Opened.{opened-firm}
 use Rattle.gate.proofs.Runs.{calls-run}
 
@@ -25,20 +25,20 @@ lent = 100 ∷ 250 ∷ 1 ∷ []
 
 module _ (gs ws fs : List ℕ) (g : 6 ≤ length gs) (w : 40 ≤ length ws) (f : 8 ≤ length fs) where
   -- "depth 4 .. capacity 8"
-  abbrev host : Host
-  host = holds (opened 4 1 8 lent gs ws fs)
+  abbrev host : Host numbers
+  host = holds numbers (opened 4 1 8 lent gs ws fs)
 
   accepts : taken (opened 4 1 8 lent gs ws fs .0 .answer) ≡ true
-  unfolding opened openingAt openTests openShort counted settled rowsOf linesOf handed
+  unfolding openedIn openingIn openTests openShortIn counted settled rowsOf linesOf handedIn
   accepts = rw (le-ltb (length gs) 6 g, le-ltb (length ws) 40 w, le-ltb (length fs) 8 f) refl
 
-  starts : shows host ≡ one
+  starts : shows numbers host ≡ one
   unfolding rowsOf linesOf
-  starts = opened-firm 4 1 8 lent gs ws fs accepts .1
+  starts = opened-firm numbers numbers-lawful 4 1 8 lent gs ws fs accepts .1
 
   -- the ten answers
-  pub example : map shown (replies host ten) ≡ R 0 1 ∷ - ∷ - ∷ - ∷ W 0 2 ∷ W 0 3 ∷ R 0 4 ∷ X 6 ∷ - ∷ X 10 ∷ []
+  pub example : map shown (replies numbers host ten) ≡ R 0 1 ∷ - ∷ - ∷ - ∷ W 0 2 ∷ W 0 3 ∷ R 0 4 ∷ X 6 ∷ - ∷ X 10 ∷ []
   unfolding lines
   example =
-      let r = calls-run ten host (opened-firm 4 1 8 lent gs ws fs accepts .0) refl in
+      let r = calls-run numbers numbers-lawful ten host (opened-firm numbers numbers-lawful 4 1 8 lent gs ws fs accepts .0) refl in
       ap (map shown) (r .answered) ∙ ap (λ (t : Table). lines t ten) starts ∙ readings .ten-answers

@@ -1,8 +1,10 @@
+pub mod Lending
 pub mod Once
 pub mod Verdicts
 pub mod Beyond
 pub mod Unread
 pub mod Refusing
+pub mod Written
 pub mod Runs
 pub mod Order
 pub mod Demand3

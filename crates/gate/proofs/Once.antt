@@ -6,16 +6,15 @@ use mathlib.Core.List.{List}
 use native.Mathlib.Omega.{arith}
 use lib.ListN.{getD}
 use Rattle.rules.specs.Answers.{letterOf, Printed, shown}
-use Rattle.rules.specs.Tables.{Flight}
-use Rattle.rules.specs.Events.{Arriving, arrival, completion, tick}
+use Rattle.rules.specs.declared.Event.{Event}
 use Rattle.rules.proofs.Judged.{numberOf-once}
 use Rattle.rules.specs.declared.Gate.{Gate}
 use Rattle.rules.specs.declared.Phase.{Phase}
 use Rattle.rules.specs.declared.Phase.the-variants.{Reservation, Weight}
 use Rattle.rules.specs.declared.Answer.{Answer}
 use Rattle.rules.specs.declared.Answer.the-variants.{Nothing, Sent, Refused}
-use Rattle.table.specs.View.{Handed}
-use Rattle.gate.specs.Promise.{Seen, seen, called, opened}
+use Rattle.table.specs.View.{outcomeOf}
+use Rattle.gate.specs.Promise.{Lending, numbers, HandedIn, SeenIn, seenIn, calledIn, openedIn, seen}
 
 -- ANSWERS
 
@@ -51,26 +50,24 @@ shown-once (Refused r) (Refused s) h = ap Refused (numberOf-once r s (ap (value 
 
 -- OUTCOMES
 
--- two outcomes of which a caller sees the same are equal
-pub seen-once : (h k : Handed) → seen h ≡ seen k → h ≡ k
-seen-once h k e =
-    let a = shown-once (h .0 .answer) (k .0 .answer) (ap (λ (s : Seen). s .1) e) in
-    λ i. (record { gate = e i .0; answer = a i }, e i .2, e i .3, e i .4)
+-- OUTCOMES
 
--- what an equation of a promise admits, once
-admits : (s : Seen) (h k : Handed) → seen h ≡ s → seen k ≡ s → h ≡ k
-admits s h k p q = seen-once h k (p ∙ sym q)
+module _ (v : Lending) where
+  -- two outcomes of which a caller sees the same are equal
+  pub seen-once-in : (h k : HandedIn v) → seenIn v h ≡ seenIn v k → h ≡ k
+  seen-once-in h k e =
+      let a = shown-once (h .0 .answer) (k .0 .answer) (ap (λ (s : SeenIn v). s .1) e) in
+      λ i. (outcomeOf (e i .0) (a i), e i .2, e i .3, e i .4)
 
-module _ (h k : Handed) where
-  -- of an arrival, a completion, a tick and an opening
-  pub arrive-once : (a : Arriving) (now : ℕ) (g : Gate) (gs ws fs : List ℕ) → seen h ≡ seen (called (arrival a now) g gs ws fs) → seen k ≡ seen (called (arrival a now) g gs ws fs) → h ≡ k
-  arrive-once a now g gs ws fs = admits (seen (called (arrival a now) g gs ws fs)) h k
+  module _ (h k : HandedIn v) (gs : List (v .Cell)) (ws fs : List ℕ) where
+    -- of an event
+    pub called-once : (e : Event) (g : Gate) → seenIn v h ≡ seenIn v (calledIn v e g gs ws fs) → seenIn v k ≡ seenIn v (calledIn v e g gs ws fs) → h ≡ k
+    called-once e g p q = seen-once-in h k (p ∙ sym q)
 
-  pub complete-once : (f : Flight) (now : ℕ) (g : Gate) (gs ws fs : List ℕ) → seen h ≡ seen (called (completion f now) g gs ws fs) → seen k ≡ seen (called (completion f now) g gs ws fs) → h ≡ k
-  complete-once f now g gs ws fs = admits (seen (called (completion f now) g gs ws fs)) h k
+    -- of an opening
+    pub opened-once : (d n c : ℕ) (ss : List ℕ) → seenIn v h ≡ seenIn v (openedIn v d n c ss gs ws fs) → seenIn v k ≡ seenIn v (openedIn v d n c ss gs ws fs) → h ≡ k
+    opened-once d n c ss p q = seen-once-in h k (p ∙ sym q)
 
-  pub tick-once : (now : ℕ) (g : Gate) (gs ws fs : List ℕ) → seen h ≡ seen (called (tick now) g gs ws fs) → seen k ≡ seen (called (tick now) g gs ws fs) → h ≡ k
-  tick-once now g gs ws fs = admits (seen (called (tick now) g gs ws fs)) h k
-
-  pub open-once : (d n c : ℕ) (ss gs ws fs : List ℕ) → seen h ≡ seen (opened d n c ss gs ws fs) → seen k ≡ seen (opened d n c ss gs ws fs) → h ≡ k
-  open-once d n c ss gs ws fs = admits (seen (opened d n c ss gs ws fs)) h k
+-- over numbers
+pub seen-once : (h k : HandedIn numbers) → seen h ≡ seen k → h ≡ k
+seen-once = seen-once-in numbers

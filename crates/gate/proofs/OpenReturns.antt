@@ -18,10 +18,11 @@ use Rattle.rules.specs.declared.Refusal.{Refusal}
 use Rattle.rules.specs.declared.Refusal.the-variants.{BadSetting, ShortTable}
 use Rattle.rules.specs.declared.Answer.the-variants.{Nothing}
 use Rattle.rules.specs.declared.Outcome.{Outcome}
-use Rattle.table.specs.View.{settingsForm, guestForm, handed, countable, short}
+use Rattle.table.specs.Columns.{waitingWide, flightWide, settingsWide, mostGuests}
+use Rattle.table.specs.View.{gateAt, outcomeOf, settingsForm, guestForm, countable, short}
 use Rattle.moves.specs.Moves.{started}
 use Rattle.moves.specs.MovesLaws.{cleared-waiting, cleared-flight}
-use Rattle.gate.specs.Promise.{seen, settingsIn, openShort, openedBy, openingAt, opened}
+use Rattle.gate.specs.Promise.{numbers, seen, settingsIn, openShortIn, handedIn, openedByIn, openingIn, openedIn, opened}
 use Rattle.gate.specs.Judges.{OpenRoom, JudgesOpening, freshGate, notOpened}
 use Rattle.gate.specs.declared.numbers.Judged.{Judged}
 use Rattle.gate.specs.declared.numbers.Judged.the-variants.{Good, Bad}
@@ -30,16 +31,16 @@ use Rattle.gate.proofs.Opened.{open-long}
 -- THE JUDGEMENT, of a gate with these counts
 
 -- not many guests
-pub known-few : (g : Gate) (b : Bool) → b ≡ countable g → not b ≡ false → g .guests ≤ 64
-known-few g b p n = counted-means (g .depth) (g .guests) (g .capacity) .holds .0 (sym p ∙ not-false b n) .guest-count .1
+pub known-few : (g : Gate) (b : Bool) → b ≡ countable g → not b ≡ false → g .guests ≤ mostGuests
+known-few g b p n = counted-means (g .setup .depth) (g .guests) (g .setup .capacity) .holds .0 (sym p ∙ not-false b n) .guest-count .1
 
 module _ (g : Gate) (ss gs ws fs : List ℕ) (b : Bool) (p : b ≡ countable g) where
   abbrev Judges : Judged → Type 0
-  Judges j = JudgesOpening (g .depth) (g .guests) (g .capacity) ss gs ws fs j
+  Judges j = JudgesOpening (g .setup .depth) (g .guests) (g .setup .capacity) ss gs ws fs j
 
   -- counts out of range
   pub counts-bad : not b ≡ true → Judges (Bad BadSetting)
-  unfolding openingAt openTests
+  unfolding openingIn openTests
   counts-bad n = rw (sym p ∙ not-true b n) refl
 
   module _ (n : not b ≡ false) where
@@ -47,41 +48,41 @@ module _ (g : Gate) (ss gs ws fs : List ℕ) (b : Bool) (p : b ≡ countable g) 
     counts-good = sym p ∙ not-false b n
 
     -- the list of settings is short
-    pub list-short : length ss < g .guests * 3 → Judges (Bad ShortTable)
-    unfolding openingAt openTests openShort
-    list-short l = rw (counts-good, lt-ltb (length ss) (g .guests * 3) l) refl
+    pub list-short : length ss < g .guests * settingsWide → Judges (Bad ShortTable)
+    unfolding openingIn openTests openShortIn
+    list-short l = rw (counts-good, lt-ltb (length ss) (g .guests * settingsWide) l) refl
 
-    module _ (l : g .guests * 3 ≤ length ss) (a : Bool) (q : a ≡ short g gs ws fs) where
+    module _ (l : g .guests * settingsWide ≤ length ss) (a : Bool) (q : a ≡ short g gs ws fs) where
       -- the tables then decide
-      short-is : openShort (g .depth) (g .guests) (g .capacity) ss gs ws fs ≡ short g gs ws fs
-      unfolding openShort short
-      short-is = rw (counts-good, le-ltb (length ss) (g .guests * 3) l) refl
+      short-is : openShortIn numbers (g .setup .depth) (g .guests) (g .setup .capacity) ss gs ws fs ≡ short g gs ws fs
+      unfolding openShortIn short
+      short-is = rw (counts-good, le-ltb (length ss) (g .guests * settingsWide) l) refl
 
       pub tables-short : a ≡ true → Judges (Bad ShortTable)
-      unfolding openingAt openTests
+      unfolding openingIn openTests
       tables-short t = rw (counts-good, short-is, sym q ∙ t) refl
 
       module _ (f : a ≡ false) (s : Bool) (o : s ≡ all settled (settingsIn ss (g .guests))) where
         pub settings-bad : not s ≡ true → Judges (Bad BadSetting)
-        unfolding openingAt openTests
+        unfolding openingIn openTests
         settings-bad t = rw (counts-good, short-is, sym q ∙ f, sym o ∙ not-true s t) refl
 
         pub opening-good : not s ≡ false → Judges Good
-        unfolding openingAt openTests
-        opening-good t = (rw (counts-good, short-is, sym q ∙ f, sym o ∙ not-false s t) refl, open-long (g .depth) (g .guests) (g .capacity) ss gs ws fs counts-good (short-is ∙ sym q ∙ f))
+        unfolding openingIn openTests
+        opening-good t = (rw (counts-good, short-is, sym q ∙ f, sym o ∙ not-false s t) refl, open-long (g .setup .depth) (g .guests) (g .setup .capacity) ss gs ws fs counts-good (short-is ∙ sym q ∙ f))
 
 -- THE OPENING
 
-module _ (d n c : ℕ) (ss gs ws fs : List ℕ) (g : Gate) (e : g ≡ freshGate d n c) (j : Judged) (found : JudgesOpening (g .depth) (g .guests) (g .capacity) ss gs ws fs j) where
+module _ (d n c : ℕ) (ss gs ws fs : List ℕ) (g : Gate) (e : g ≡ freshGate d n c) (j : Judged) (found : JudgesOpening (g .setup .depth) (g .guests) (g .setup .capacity) ss gs ws fs j) where
   told : JudgesOpening d n c ss gs ws fs j
-  told = subst (λ (x : Gate). JudgesOpening (x .depth) (x .guests) (x .capacity) ss gs ws fs j) e found
+  told = subst (λ (x : Gate). JudgesOpening (x .setup .depth) (x .guests) (x .setup .capacity) ss gs ws fs j) e found
 
   -- a refusal
   pub not-opened-returns : (r : Refusal) → j ≡ Bad r → (o : Outcome) → o ≡ notOpened r → seen (o, gs, ws, fs) ≡ seen (opened d n c ss gs ws fs)
-  unfolding opened
+  unfolding openedIn
   not-opened-returns r p o q =
-      let v : openingAt d n c ss gs ws fs ≡ refuse r = subst (JudgesOpening d n c ss gs ws fs) p told in
-      ap (λ (x : Outcome). seen (x, gs, ws, fs)) q ∙ sym (ap (λ (v : Verdict). seen (openedBy v d n c ss gs ws fs)) v)
+      let v : openingIn numbers d n c ss gs ws fs ≡ refuse r = subst (JudgesOpening d n c ss gs ws fs) p told in
+      ap (λ (x : Outcome). seen (x, gs, ws, fs)) q ∙ sym (ap (λ (v : Verdict). seen (openedByIn numbers v d n c ss gs ws fs)) v)
 
   module _ (p : j ≡ Good) where
     good : JudgesOpening d n c ss gs ws fs Good
@@ -92,13 +93,13 @@ module _ (d n c : ℕ) (ss gs ws fs : List ℕ) (g : Gate) (e : g ≡ freshGate 
     open-room = good .1
 
     -- and what the moves leave is the fresh table
-    pub opened-returns : (hs vs es : List ℕ) → hs ≡ started ss n gs → vs ≡ zeros ws (c * 5) → es ≡ zeros fs (d * 2)
-        → seen (record { gate = g; answer = Nothing }, hs, vs, es) ≡ seen (opened d n c ss gs ws fs)
-    unfolding opened handed fresh
-    opened-returns hs vs es x y z =
+    pub opened-returns : (hs vs es : List ℕ) → hs ≡ started ss n gs → vs ≡ zeros ws (c * waitingWide) → es ≡ zeros fs (d * flightWide)
+        → (o : Outcome) → o ≡ outcomeOf g Nothing → seen (o, hs, vs, es) ≡ seen (opened d n c ss gs ws fs)
+    unfolding openedIn handedIn fresh
+    opened-returns hs vs es x y z o q =
         let m : length (map newcomer (settingsIn ss n)) ≡ n = length-map (settingsIn ss n) newcomer ∙ length-rows settingsForm ss n in
         let pg : hs ≡ overRows guestForm (length (map newcomer (settingsIn ss n))) (map newcomer (settingsIn ss n)) gs = x ∙ ap (λ (k : ℕ). overRows guestForm k (map newcomer (settingsIn ss n)) gs) (sym m) in
         let pw = y ∙ cleared-waiting c ws (open-room .waiting) in
         let pf = z ∙ cleared-flight d fs (open-room .flight) in
-        let pe : g ≡ record { depth = d; guests = length (map newcomer (settingsIn ss n)); capacity = c; time = 0; waiting = 0; flight = 0 } = e ∙ ap (λ (k : ℕ). freshGate d k c) (sym m) in
-        (λ i. seen (record { gate = pe i; answer = Nothing }, pg i, pw i, pf i)) ∙ sym (ap (λ (v : Verdict). seen (openedBy v d n c ss gs ws fs)) (good .0))
+        let pe : g ≡ gateAt (record { depth = d; capacity = c }) (length (map newcomer (settingsIn ss n))) 0 0 0 = e ∙ ap (λ (k : ℕ). freshGate d k c) (sym m) in
+        ap (λ (o : Outcome). seen (o, hs, vs, es)) q ∙ (λ i. seen (outcomeOf (pe i) Nothing, pg i, pw i, pf i)) ∙ sym (ap (λ (v : Verdict). seen (openedByIn numbers v d n c ss gs ws fs)) (good .0))

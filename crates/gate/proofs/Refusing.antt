@@ -2,127 +2,81 @@
 -- and no earlier one of that call's list does. Assumes nothing.
 use Prim.Native.Nat.{ℕ}
 use mathlib.Core.Path.{_≡_, refl, sym, ap, _∙_}
-use mathlib.Core.Bool.{true, false, not, _&&_, true≢false, false≢true}
+use mathlib.Core.Bool.{true, not, true≢false}
 use mathlib.Core.List.{List}
-use native.Mathlib.Omega.{arith}
-use lib.ListN.{getD}
 use borrow.Author.Tests.{not-false}
-use Rattle.lists.specs.WordsLaws.{both}
-use Rattle.rules.specs.Tables.{Flight, Table}
-use Rattle.rules.specs.Answers.{Printed, shown}
-use Rattle.rules.specs.Sound.{sound}
-use Rattle.rules.specs.Choice.{choice}
-use Rattle.rules.specs.Events.{Arriving, Event, arrival, completion, tick, enter}
-use Rattle.rules.specs.Refusals.{Verdict, accept, refuse, isAccept}
-use Rattle.rules.specs.Refused.{ArrivalRefused, CompletionRefused, TickRefused, OpeningRefused}
-use Rattle.rules.proofs.Refused.{Tells, arrival-refused, completion-refused, tick-refused, opening-refused}
-use Rattle.rules.proofs.Answered.{isRefused, unrefused}
+use Rattle.rules.specs.Answers.{shown}
+use Rattle.rules.specs.Events.{enter}
+use Rattle.rules.specs.declared.Event.{Event}
+use Rattle.rules.specs.Refusals.{Verdict, accept, refuse}
+use Rattle.rules.specs.Refused.{RefusedExactly, callCases, openCases}
+use Rattle.rules.proofs.Refused.{exactly, call-tested, open-tested}
+use Rattle.rules.proofs.Answered.{Follows, shown-tells, unrefused}
 use Rattle.rules.proofs.Trials.{X}
 use Rattle.rules.specs.declared.Gate.{Gate}
-use Rattle.rules.specs.declared.Phase.the-variants.{Reservation, Weight}
 use Rattle.rules.specs.declared.Refusal.{Refusal}
-use Rattle.rules.specs.declared.Answer.{Answer}
-use Rattle.rules.specs.declared.Answer.the-variants.{Nothing, Sent, Refused}
-use Rattle.table.specs.View.{tableOf, Handed, handed, short, identified, zeroed, soundNumbers}
-use Rattle.gate.specs.Promise.{unchanged, followed, judgedAt, called, settingsIn, openShort, unopened, openedBy, openingAt, opened}
+use Rattle.rules.specs.declared.Answer.the-variants.{Refused}
+use Rattle.gate.specs.Promise.{Lending, HandedIn, tableIn, handedIn, shortIn, soundIn, unchangedIn, followedIn, judgedIn, calledIn, settingsIn, openShortIn, unopened, openedByIn, openingIn, openedIn}
 use Rattle.gate.specs.Calls.{taken}
+use Rattle.gate.proofs.Lending.{Lawful, sound-shown}
 
 -- THE ANSWER AND THE VERDICT
 
--- an answer that is no refusal
-pub taken-is : (a : Answer) → isRefused a ≡ false → taken a ≡ true
-taken-is Nothing h = refl
-taken-is (Sent p g i) h = refl
-taken-is (Refused r) h = absurd (true≢false h)
+module _ (v : Lending) where
+  -- what a call answers follows from its verdict
+  called-follows : (g : Gate) (gs : List (v .Cell)) (ws fs : List ℕ) (e : Event) (w : Verdict) → Follows w (followedIn v w e g gs ws fs .0 .answer)
+  unfolding handedIn
+  called-follows g gs ws fs e accept = unrefused (enter (tableIn v g gs ws fs) e)
+  called-follows g gs ws fs e (refuse r) = refl
 
--- the answer of a call that is accepted is no refusal
-chosen-taken : (g : Gate) (gs ws fs : List ℕ) (e : Event) → taken (followed accept e g gs ws fs .0 .answer) ≡ true
-unfolding handed
-chosen-taken g gs ws fs e = taken-is (choice (enter (tableOf g gs ws fs) e) .answer) (unrefused (enter (tableOf g gs ws fs) e))
+  opened-follows : (d n c : ℕ) (ss : List ℕ) (gs : List (v .Cell)) (ws fs : List ℕ) (w : Verdict) → Follows w (openedByIn v w d n c ss gs ws fs .0 .answer)
+  unfolding handedIn
+  opened-follows d n c ss gs ws fs accept = refl
+  opened-follows d n c ss gs ws fs (refuse r) = refl
 
-opened-taken : (d n c : ℕ) (ss gs ws fs : List ℕ) → taken (openedBy accept d n c ss gs ws fs .0 .answer) ≡ true
-unfolding handed
-opened-taken d n c ss gs ws fs = refl
+  -- REFUSAL KEEPS
 
--- REFUSAL KEEPS
+  -- a call that answers with a refusal hands back what it was handed
+  pub refusal-keeps : (e : Event) (g : Gate) (gs : List (v .Cell)) (ws fs : List ℕ) (r : Refusal) → calledIn v e g gs ws fs .0 .answer ≡ Refused r → calledIn v e g gs ws fs ≡ unchangedIn v g gs ws fs (Refused r)
+  unfolding calledIn
+  refusal-keeps e g gs ws fs r = go (judgedIn v e g gs ws fs)
+    where
+      go : (w : Verdict) → followedIn v w e g gs ws fs .0 .answer ≡ Refused r → followedIn v w e g gs ws fs ≡ unchangedIn v g gs ws fs (Refused r)
+      go accept h = absurd (true≢false (sym (called-follows g gs ws fs e accept) ∙ ap taken h))
+      go (refuse s) h = ap (unchangedIn v g gs ws fs) h
 
--- a call that answers with a refusal hands back what it was handed
-pub refusal-keeps : (e : Event) (g : Gate) (gs ws fs : List ℕ) (r : Refusal) → called e g gs ws fs .0 .answer ≡ Refused r → called e g gs ws fs ≡ unchanged g gs ws fs (Refused r)
-unfolding called
-refusal-keeps e g gs ws fs r = go (judgedAt e g gs ws fs)
-  where
-    go : (v : Verdict) → followed v e g gs ws fs .0 .answer ≡ Refused r → followed v e g gs ws fs ≡ unchanged g gs ws fs (Refused r)
-    go accept h = absurd (true≢false (sym (chosen-taken g gs ws fs e) ∙ ap taken h))
-    go (refuse s) h = ap (unchanged g gs ws fs) h
+  -- an opening that is refused opens nothing
+  pub opening-keeps : (d n c : ℕ) (ss : List ℕ) (gs : List (v .Cell)) (ws fs : List ℕ) (r : Refusal) → openedIn v d n c ss gs ws fs .0 .answer ≡ Refused r → openedIn v d n c ss gs ws fs ≡ unchangedIn v unopened gs ws fs (Refused r)
+  unfolding openedIn
+  opening-keeps d n c ss gs ws fs r = go (openingIn v d n c ss gs ws fs)
+    where
+      go : (w : Verdict) → openedByIn v w d n c ss gs ws fs .0 .answer ≡ Refused r → openedByIn v w d n c ss gs ws fs ≡ unchangedIn v unopened gs ws fs (Refused r)
+      go accept h = absurd (true≢false (sym (opened-follows d n c ss gs ws fs accept) ∙ ap taken h))
+      go (refuse s) h = ap (unchangedIn v unopened gs ws fs) h
 
--- an opening that is refused opens nothing
-pub opening-keeps : (d n c : ℕ) (ss gs ws fs : List ℕ) (r : Refusal) → opened d n c ss gs ws fs .0 .answer ≡ Refused r → opened d n c ss gs ws fs ≡ unchanged unopened gs ws fs (Refused r)
-unfolding opened
-opening-keeps d n c ss gs ws fs r = go (openingAt d n c ss gs ws fs)
-  where
-    go : (v : Verdict) → openedBy v d n c ss gs ws fs .0 .answer ≡ Refused r → openedBy v d n c ss gs ws fs ≡ unchanged unopened gs ws fs (Refused r)
-    go accept h = absurd (true≢false (sym (opened-taken d n c ss gs ws fs) ∙ ap taken h))
-    go (refuse s) h = ap (unchanged unopened gs ws fs) h
+  -- REFUSED EXACTLY
 
--- REFUSED EXACTLY
+  -- what a caller sees of a call is a refusal with number n
+  abbrev pub Numbers : HandedIn v → ℕ → Type 0
+  Numbers h n = shown (h .0 .answer) ≡ X n
 
--- what a caller sees of a call is a refusal with number n
-abbrev pub Numbers : Handed → ℕ → Type 0
-Numbers h n = shown (h .0 .answer) ≡ X n
-
--- a call is accepted
-abbrev pub Accepts : Handed → Type 0
-Accepts h = taken (h .0 .answer) ≡ true
-
--- the answer of an accepted call shows no number
-no-number : (a : Answer) → taken a ≡ true → (n : ℕ) → shown a ≡ X n → ⊥
-no-number Nothing t n h = omega (arith, ap Printed.letter h)
-no-number (Sent Reservation g i) t n h = omega (arith, ap Printed.letter h)
-no-number (Sent Weight g i) t n h = omega (arith, ap Printed.letter h)
-no-number (Refused r) t n h = false≢true t
-
--- what a call shows tells its verdict
-tells : (h : Verdict → Handed) → taken (h accept .0 .answer) ≡ true → ((r : Refusal) → h (refuse r) .0 .answer ≡ Refused r) → (v : Verdict) → Tells v (Numbers (h v)) (Accepts (h v))
-tells h a b accept = record { number = λ n. (λ s. no-number (h accept .0 .answer) a n s, λ g. absurd g); accepting = (λ t. refl, λ t. a) }
-tells h a b (refuse r) =
-    record {
-      number = λ n. (λ s. ap (λ (p : Printed). getD (p .values) 0 0) (sym (ap shown (b r)) ∙ s), λ g. ap shown (b r) ∙ ap X g);
-      accepting = (λ t. absurd (false≢true (ap taken (sym (b r)) ∙ t)), λ t. absurd (false≢true (ap isAccept t)));
-    }
-
-module _ (g : Gate) (gs ws fs : List ℕ) where
-  abbrev t : Table
-  t = tableOf g gs ws fs
-
-  told : (e : Event) → Tells (judgedAt e g gs ws fs) (Numbers (called e g gs ws fs)) (Accepts (called e g gs ws fs))
-  unfolding called
-  told e = tells (λ v. followed v e g gs ws fs) (chosen-taken g gs ws fs e) (λ r. refl) (judgedAt e g gs ws fs)
-
-  -- sound numbers show a sound table
-  honest : not (soundNumbers g gs ws fs) ≡ false → sound t ≡ true
-  unfolding soundNumbers
-  honest h =
-      let n = not-false (soundNumbers g gs ws fs) h in
-      let a = both (sound t && identified t && zeroed 5 (g .capacity) (g .waiting) ws) (zeroed 2 (g .depth) (g .flight) fs) n in
-      let b = both (sound t && identified t) (zeroed 5 (g .capacity) (g .waiting) ws) (a .0) in
-      both (sound t) (identified t) (b .0) .0
+  -- a call is accepted
+  abbrev pub Accepts : HandedIn v → Type 0
+  Accepts h = taken (h .0 .answer) ≡ true
 
   -- Each number of an arrival, a completion and a tick is given exactly where document 01 says.
-  pub arrive-exactly : (a : Arriving) (now : ℕ) → ArrivalRefused (short g gs ws fs) (not (soundNumbers g gs ws fs)) t a now (Numbers (called (arrival a now) g gs ws fs)) (Accepts (called (arrival a now) g gs ws fs))
-  unfolding judgedAt
-  arrive-exactly a now = arrival-refused (short g gs ws fs) (not (soundNumbers g gs ws fs)) t now (Numbers (called (arrival a now) g gs ws fs)) (Accepts (called (arrival a now) g gs ws fs)) a honest (told (arrival a now))
+  pub called-exactly : Lawful v → (g : Gate) (gs : List (v .Cell)) (ws fs : List ℕ) (e : Event)
+      → RefusedExactly (callCases (shortIn v g gs ws fs) (not (soundIn v g gs ws fs)) (tableIn v g gs ws fs) e) (Numbers (calledIn v e g gs ws fs)) (Accepts (calledIn v e g gs ws fs))
+  unfolding calledIn judgedIn
+  called-exactly lawful g gs ws fs e =
+      exactly
+      (call-tested (shortIn v g gs ws fs) (not (soundIn v g gs ws fs)) (tableIn v g gs ws fs) e (λ h. sound-shown v lawful g gs ws fs (not-false (soundIn v g gs ws fs) h) .0))
+      (shown-tells (judgedIn v e g gs ws fs) (calledIn v e g gs ws fs .0 .answer) (called-follows g gs ws fs e (judgedIn v e g gs ws fs)))
 
-  pub complete-exactly : (f : Flight) (now : ℕ) → CompletionRefused (short g gs ws fs) (not (soundNumbers g gs ws fs)) t f now (Numbers (called (completion f now) g gs ws fs)) (Accepts (called (completion f now) g gs ws fs))
-  unfolding judgedAt
-  complete-exactly f now = completion-refused (short g gs ws fs) (not (soundNumbers g gs ws fs)) t now (Numbers (called (completion f now) g gs ws fs)) (Accepts (called (completion f now) g gs ws fs)) f (told (completion f now))
-
-  pub tick-exactly : (now : ℕ) → TickRefused (short g gs ws fs) (not (soundNumbers g gs ws fs)) t now (Numbers (called (tick now) g gs ws fs)) (Accepts (called (tick now) g gs ws fs))
-  unfolding judgedAt
-  tick-exactly now = tick-refused (short g gs ws fs) (not (soundNumbers g gs ws fs)) t now (Numbers (called (tick now) g gs ws fs)) (Accepts (called (tick now) g gs ws fs)) (told (tick now))
-
--- And of an opening.
-pub open-exactly : (d n c : ℕ) (ss gs ws fs : List ℕ) → OpeningRefused (openShort d n c ss gs ws fs) d n c (settingsIn ss n) (Numbers (opened d n c ss gs ws fs)) (Accepts (opened d n c ss gs ws fs))
-unfolding opened openingAt
-open-exactly d n c ss gs ws fs =
-    opening-refused (openShort d n c ss gs ws fs) d n c (settingsIn ss n) (Numbers (opened d n c ss gs ws fs)) (Accepts (opened d n c ss gs ws fs))
-    (tells (λ v. openedBy v d n c ss gs ws fs) (opened-taken d n c ss gs ws fs) (λ r. refl) (openingAt d n c ss gs ws fs))
+  -- And of an opening.
+  pub open-exactly : (d n c : ℕ) (ss : List ℕ) (gs : List (v .Cell)) (ws fs : List ℕ)
+      → RefusedExactly (openCases (openShortIn v d n c ss gs ws fs) d n c (settingsIn ss n)) (Numbers (openedIn v d n c ss gs ws fs)) (Accepts (openedIn v d n c ss gs ws fs))
+  unfolding openedIn openingIn
+  open-exactly d n c ss gs ws fs =
+      exactly (open-tested (openShortIn v d n c ss gs ws fs) d n c (settingsIn ss n))
+      (shown-tells (openingIn v d n c ss gs ws fs) (openedIn v d n c ss gs ws fs .0 .answer) (opened-follows d n c ss gs ws fs (openingIn v d n c ss gs ws fs)))

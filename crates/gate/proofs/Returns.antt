@@ -4,7 +4,7 @@ use mathlib.Core.Path.{_≡_, sym, ap, _∙_, subst}
 use mathlib.Core.Bool.{Bool, true, false, not}
 use mathlib.Core.List.{List}
 use borrow.Author.Tests.{not-true, not-false}
-use Rattle.rules.specs.Events.{Event}
+use Rattle.rules.specs.declared.Event.{Event}
 use Rattle.rules.specs.Run.{step}
 use Rattle.rules.specs.declared.Gate.{Gate}
 use Rattle.rules.specs.declared.Refusal.{Refusal}
@@ -14,7 +14,7 @@ use Rattle.rules.specs.declared.Outcome.{Outcome}
 use Rattle.table.specs.View.{Handed, countable, short, soundNumbers, Known}
 use Rattle.sound.specs.Fitting.{Fitting}
 use Rattle.sound.proofs.Fitted.{fitting}
-use Rattle.step.specs.Does.{does, refusing}
+use Rattle.table.specs.Does.{does, refusing}
 use Rattle.gate.specs.Promise.{seen, unchanged, called}
 use Rattle.gate.specs.Judges.{Judges}
 use Rattle.gate.specs.declared.numbers.Judged.{Judged}

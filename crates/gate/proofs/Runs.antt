@@ -1,57 +1,40 @@
 -- A run of calls, each handed what the last one left, answers what a run of steps of document 01 answers, and leaves what it leaves. Assumes nothing.
+use Prim.Native.Nat.{ℕ, _*_, _≤_}
 use mathlib.Core.Path.{_≡_, refl, sym, ap, _∙_, subst}
 use mathlib.Core.Bool.{Bool, true, false, not, false≢true}
 use mathlib.Core.List.{List, [], _∷_}
+use lib.ListN.{length}
 use borrow.Author.Tests.{not-true}
 use Rattle.lists.specs.Words.{all}
 use Rattle.lists.specs.WordsLaws.{both, join}
 use Rattle.rules.specs.Tables.{Table}
 use Rattle.rules.specs.Sound.{sound}
-use Rattle.rules.specs.Choice.{Result, choice}
-use Rattle.rules.specs.Events.{Event, arrival, completion, tick, enter}
-use Rattle.rules.specs.Refusals.{Verdict, accept, refuse, verdict, isAccept, accepted}
+use Rattle.rules.specs.Events.{enter}
+use Rattle.rules.specs.declared.Event.{Event}
+use Rattle.rules.specs.declared.Event.the-variants.{Arrival, Completion, Tick}
+use Rattle.rules.specs.Refusals.{Verdict, accept, refuse, verdict}
 use Rattle.rules.specs.Run.{decided, step, after, answers}
-use Rattle.rules.proofs.Settings.{step-settings}
+use Rattle.rules.specs.declared.Setup.{Setup}
+use Rattle.rules.specs.declared.Refusal.{Refusal}
+use Rattle.rules.specs.declared.Answer.the-variants.{Refused}
+use Rattle.rules.proofs.SameSettings.{SameSettings, same-count, step-settings}
 use Rattle.rules.proofs.StepSound.{step-sound}
-use Rattle.rules.proofs.Answered.{unrefused}
-use Rattle.table.specs.View.{handed, identified, short, soundNumbers, Known}
-use Rattle.sound.proofs.SoundKnown.{known-sound}
-use Rattle.step.proofs.Ids.{Brings, choice-all, enter-all}
-use Rattle.step.proofs.Enter.{narrow as shortId}
-use Rattle.step.proofs.Lens.{Room, known-room, written-shown, written-known}
+use Rattle.table.specs.Columns.{waitingWide, flightWide}
+use Rattle.table.specs.View.{identified}
+use Rattle.enter.proofs.Ids.{Brings, choice-all, enter-all}
+use Rattle.enter.proofs.Entering.{narrow as shortId}
+use Rattle.gate.specs.Promise.{Lending, HandedIn, handedIn, shortIn, soundIn, unchangedIn, followedIn, calledIn}
 use Rattle.gate.specs.Calls.{Host, holds, call, held, replies, shows, firm, narrow, taken}
-use Rattle.gate.proofs.Verdicts.{firm-known, known-long, short-refused, unsound-refused, known-called}
-use Rattle.gate.proofs.Refusing.{taken-is}
-
--- what a host holds is known
-abbrev pub Holds : Host → Type 0
-Holds h = Known (h .gate) (h .guests) (h .waiting) (h .flight)
-
--- that is: long enough and sound
-pub firm-holds : (h : Host) → firm h ≡ true → Holds h
-firm-holds h f =
-    let c = both (not (short (h .gate) (h .guests) (h .waiting) (h .flight))) (soundNumbers (h .gate) (h .guests) (h .waiting) (h .flight)) f in
-    firm-known (h .gate) (h .guests) (h .waiting) (h .flight) (not-true (short (h .gate) (h .guests) (h .waiting) (h .flight)) (c .0)) (c .1)
-
-pub holds-firm : (h : Host) → Holds h → firm h ≡ true
-holds-firm h k = join (ap not (known-long (h .gate) (h .guests) (h .waiting) (h .flight) k)) (known-sound (h .gate) (h .guests) (h .waiting) (h .flight) k)
+use Rattle.gate.proofs.Lending.{Lawful, sound-judged, sound-shown, Roomy, long-roomy, short-refused-in, unsound-refused-in, firm-judged}
+use Rattle.gate.proofs.Written.{Holds, handed-shown, handed-holds}
 
 -- ONE STEP
 
--- the event is accepted exactly where the answer is no refusal
-pub step-taken : (t : Table) (e : Event) → taken (step t e .answer) ≡ accepted t e
-unfolding step decided
-step-taken t e = go (verdict t e)
-  where
-    go : (v : Verdict) → taken (decided v t e .answer) ≡ isAccept v
-    go accept = taken-is (choice (enter t e) .answer) (unrefused (enter t e))
-    go (refuse r) = refl
-
 -- an id of 32 bits is brought
 narrow-brings : (e : Event) → narrow e ≡ true → Brings shortId e
-narrow-brings (arrival a now) h = h
-narrow-brings (completion f now) h = tt
-narrow-brings (tick now) h = tt
+narrow-brings (Arrival a now) h = h
+narrow-brings (Completion f now) h = tt
+narrow-brings (Tick now) h = tt
 
 -- so the ids of the table stay so
 step-identified : (t : Table) (e : Event) → narrow e ≡ true → identified t ≡ true → identified (step t e .table) ≡ true
@@ -62,82 +45,138 @@ step-identified t e n i = go (verdict t e)
     go accept = choice-all shortId (enter t e) (enter-all shortId t e (narrow-brings e n) i)
     go (refuse r) = i
 
--- ONE CALL on a host whose tables are known
+module _ (v : Lending) (lawful : Lawful v) where
+  pub firm-holds : (h : Host v) → firm v h ≡ true → Holds v h
+  firm-holds h f =
+      let c = both (not (shortIn v (h .gate) (h .guests) (h .waiting) (h .flight))) (soundIn v (h .gate) (h .guests) (h .waiting) (h .flight)) f in
+      record { long = not-true (shortIn v (h .gate) (h .guests) (h .waiting) (h .flight)) (c .0); whole = c .1 }
 
-module _ (h : Host) (k : Holds h) (e : Event) where
-  abbrev t : Table
-  t = shows h
+  pub holds-firm : (h : Host v) → Holds v h → firm v h ≡ true
+  holds-firm h k = join (ap not (k .long)) (k .whole)
 
-  abbrev r : Result
-  r = step t e
+  -- ONE CALL on a host whose tables are long enough and sound
 
-  is-step : call e h ≡ handed (h .guests) (h .waiting) (h .flight) r
-  is-step = known-called (h .gate) (h .guests) (h .waiting) (h .flight) e k
+  module _ (h : Host v) (k : Holds v h) where
+    abbrev t : Table
+    t = shows v h
 
-  room : Room (h .guests) (h .waiting) (h .flight) (r .table)
-  room = known-room (h .gate) (h .guests) (h .waiting) (h .flight) k (r .table) (step-settings t e)
+    shown : (sound t ≡ true) × (identified t ≡ true)
+    shown = sound-shown v lawful (h .gate) (h .guests) (h .waiting) (h .flight) (k .whole)
 
-  steady : sound (r .table) ≡ true
-  steady = step-sound t e (k .isSound)
+    -- they show a sound table
+    pub holds-sound : sound (shows v h) ≡ true
+    holds-sound = shown .0
 
-  -- it answers what the step answers
-  pub call-answers : call e h .0 .answer ≡ step (shows h) e .answer
-  unfolding handed
-  call-answers = ap (λ c. c .0 .answer) is-step
+    roomy : Roomy v lawful (h .gate) (h .guests) (h .waiting) (h .flight)
+    roomy = long-roomy v lawful (h .gate) (h .guests) (h .waiting) (h .flight) (sound-judged v lawful (h .gate) (h .guests) (h .waiting) (h .flight) (k .whole) .isCounted) (k .long)
 
-  -- the host's numbers then show the table of the step
-  pub call-shows : shows (holds (call e h)) ≡ step (shows h) e .table
-  unfolding handed
-  call-shows = ap (λ c. shows (holds c)) is-step ∙ written-shown (h .guests) (h .waiting) (h .flight) (r .table) room steady
+    module _ (e : Event) where
+      abbrev follows : Verdict → HandedIn v
+      follows w = followedIn v w e (h .gate) (h .guests) (h .waiting) (h .flight)
 
-  -- and are known again
-  pub call-holds : narrow e ≡ true → Holds (holds (call e h))
-  unfolding handed
-  call-holds n =
-      subst (λ c. Holds (holds c)) (sym is-step)
-      (written-known (h .guests) (h .waiting) (h .flight) (r .table) room steady (step-identified t e n (k .isIdentified)))
+      is-followed : call v e h ≡ follows (verdict t e)
+      unfolding calledIn
+      is-followed = ap follows (firm-judged v (h .gate) (h .guests) (h .waiting) (h .flight) e (k .long) (k .whole) holds-sound)
 
--- A RUN
+      -- accepted: the step is written over what was lent
+      accepted-call : verdict t e ≡ accept → call v e h ≡ handedIn v (h .guests) (h .waiting) (h .flight) (step t e)
+      unfolding step decided
+      accepted-call p = is-followed ∙ ap follows p ∙ ap (λ (w : Verdict). handedIn v (h .guests) (h .waiting) (h .flight) (decided w t e)) (sym p)
 
--- what a run of calls does: it answers as the run of steps, leaves its table, and leaves the host's numbers known
-pub record Runs (h : Host) (es : List Event) : Type 0 where
-  pub answered : replies h es ≡ answers (shows h) es
-  pub left : shows (held h es) ≡ after (shows h) es
-  pub still : firm (held h es) ≡ true
+      -- refused: nothing moves, and the step leaves the table
+      refused-call : (r : Refusal) → verdict t e ≡ refuse r → call v e h ≡ unchangedIn v (h .gate) (h .guests) (h .waiting) (h .flight) (Refused r)
+      refused-call r p = is-followed ∙ ap follows p
 
--- from a host whose tables are long enough and sound, whatever the events
-pub calls-run : (es : List Event) (h : Host) → firm h ≡ true → all narrow es ≡ true → Runs h es
-unfolding held replies answers after
-calls-run [] h f n = record { answered = refl; left = refl; still = f }
-calls-run (e ∷ es) h f n =
-    let c = both (narrow e) (all narrow es) n in
-    let k = firm-holds h f in
-    let u = holds (call e h) in
-    let i = calls-run es u (holds-firm u (call-holds h k e (c .0))) (c .1) in
-    let s = call-shows h k e in
-    record {
-      answered = λ j. call-answers h k e j ∷ (i .answered ∙ ap (λ (v : Table). answers v es) s) j;
-      left = i .left ∙ ap (λ (v : Table). after v es) s;
-      still = i .still;
-    }
+      refused-step : (r : Refusal) → verdict t e ≡ refuse r → step t e ≡ record { table = t; answer = Refused r }
+      unfolding step decided
+      refused-step r p = ap (λ (w : Verdict). decided w t e) p
 
--- ANY OTHER HOST: every call is refused, and nothing moves
+      settings : SameSettings (step t e .table) t
+      settings = step-settings t e
 
--- one call
-pub infirm-call : (h : Host) → firm h ≡ false → (e : Event) → (taken (call e h .0 .answer) ≡ false) × (holds (call e h) ≡ h)
-infirm-call h f e = go (short (h .gate) (h .guests) (h .waiting) (h .flight)) refl (soundNumbers (h .gate) (h .guests) (h .waiting) (h .flight)) refl
-  where
-    go : (a : Bool) → short (h .gate) (h .guests) (h .waiting) (h .flight) ≡ a → (b : Bool) → soundNumbers (h .gate) (h .guests) (h .waiting) (h .flight) ≡ b
-        → (taken (call e h .0 .answer) ≡ false) × (holds (call e h) ≡ h)
-    go true s b n = let p = short-refused (h .gate) (h .guests) (h .waiting) (h .flight) e s in (ap (λ c. taken (c .0 .answer)) p, ap holds p)
-    go false s false n = let p = unsound-refused (h .gate) (h .guests) (h .waiting) (h .flight) e s n in (ap (λ c. taken (c .0 .answer)) p, ap holds p)
-    go false s true n = absurd (false≢true (sym f ∙ join (ap not s) n))
+      guest-room : v .needs (length (step t e .table .guests)) ≤ length (h .guests)
+      guest-room =
+          subst (λ (m : ℕ). v .needs m ≤ length (h .guests)) (sym (same-count (step t e .table) t settings ∙ lawful .counts (h .guests) (h .gate .guests))) (roomy .guestRoom)
 
--- a run
-pub infirm-run : (es : List Event) (h : Host) → firm h ≡ false → (all (λ a. not (taken a)) (replies h es) ≡ true) × (held h es ≡ h)
-unfolding held replies
-infirm-run [] h f = (refl, refl)
-infirm-run (e ∷ es) h f =
-    let c = infirm-call h f e in
-    let i = infirm-run es (holds (call e h)) (ap firm (c .1) ∙ f) in
-    (join (ap not (c .0)) (i .0), i .1 ∙ c .1)
+      waiting-room : step t e .table .setup .capacity * waitingWide ≤ length (h .waiting)
+      waiting-room = subst (λ (s : Setup). s .capacity * waitingWide ≤ length (h .waiting)) (sym (settings .setup)) (roomy .waitingRoom)
+
+      flight-room : step t e .table .setup .depth * flightWide ≤ length (h .flight)
+      flight-room = subst (λ (s : Setup). s .depth * flightWide ≤ length (h .flight)) (sym (settings .setup)) (roomy .flightRoom)
+
+      steady : sound (step t e .table) ≡ true
+      steady = step-sound t e holds-sound
+
+      -- it answers what the step answers
+      pub call-answers : call v e h .0 .answer ≡ step (shows v h) e .answer
+      unfolding handedIn
+      call-answers = go (verdict t e) refl
+        where
+          go : (w : Verdict) → verdict t e ≡ w → call v e h .0 .answer ≡ step t e .answer
+          go accept p = ap (λ c. c .0 .answer) (accepted-call p)
+          go (refuse r) p = ap (λ c. c .0 .answer) (refused-call r p) ∙ sym (ap (λ c. c .answer) (refused-step r p))
+
+      -- the host's tables then show the table of the step
+      pub call-shows : shows v (holds v (call v e h)) ≡ step (shows v h) e .table
+      call-shows = go (verdict t e) refl
+        where
+          go : (w : Verdict) → verdict t e ≡ w → shows v (holds v (call v e h)) ≡ step t e .table
+          go accept p =
+              ap (λ (c : HandedIn v). shows v (holds v c)) (accepted-call p)
+              ∙ handed-shown v lawful (h .guests) (h .waiting) (h .flight) (step t e) guest-room waiting-room flight-room steady
+          go (refuse r) p = ap (λ (c : HandedIn v). shows v (holds v c)) (refused-call r p) ∙ sym (ap (λ c. c .table) (refused-step r p))
+
+      -- and are long enough and sound again
+      pub call-holds : narrow e ≡ true → Holds v (holds v (call v e h))
+      call-holds n = go (verdict t e) refl
+        where
+          go : (w : Verdict) → verdict t e ≡ w → Holds v (holds v (call v e h))
+          go accept p =
+              subst (λ (c : HandedIn v). Holds v (holds v c)) (sym (accepted-call p))
+              (handed-holds v lawful (h .guests) (h .waiting) (h .flight) (step t e) guest-room waiting-room flight-room steady (step-identified t e n (shown .1)))
+          go (refuse r) p = subst (λ (c : HandedIn v). Holds v (holds v c)) (sym (refused-call r p)) (record { long = k .long; whole = k .whole })
+
+  -- A RUN
+
+  -- what a run of calls does: it answers as the run of steps, leaves its table, and leaves the host's tables long enough and sound
+  pub record Runs (h : Host v) (es : List Event) : Type 0 where
+    pub answered : replies v h es ≡ answers (shows v h) es
+    pub left : shows v (held v h es) ≡ after (shows v h) es
+    pub still : firm v (held v h es) ≡ true
+
+  -- from a host whose tables are long enough and sound, whatever the events
+  pub calls-run : (es : List Event) (h : Host v) → firm v h ≡ true → all narrow es ≡ true → Runs h es
+  unfolding held replies answers after
+  calls-run [] h f n = record { answered = refl; left = refl; still = f }
+  calls-run (e ∷ es) h f n =
+      let c = both (narrow e) (all narrow es) n in
+      let k = firm-holds h f in
+      let u = holds v (call v e h) in
+      let i = calls-run es u (holds-firm u (call-holds h k e (c .0))) (c .1) in
+      let s = call-shows h k e in
+      record {
+        answered = λ j. call-answers h k e j ∷ (i .answered ∙ ap (λ (x : Table). answers x es) s) j;
+        left = i .left ∙ ap (λ (x : Table). after x es) s;
+        still = i .still;
+      }
+
+  -- ANY OTHER HOST: every call is refused, and nothing moves
+
+  -- one call
+  pub infirm-call : (h : Host v) → firm v h ≡ false → (e : Event) → (taken (call v e h .0 .answer) ≡ false) × (holds v (call v e h) ≡ h)
+  infirm-call h f e = go (shortIn v (h .gate) (h .guests) (h .waiting) (h .flight)) refl (soundIn v (h .gate) (h .guests) (h .waiting) (h .flight)) refl
+    where
+      go : (a : Bool) → shortIn v (h .gate) (h .guests) (h .waiting) (h .flight) ≡ a → (b : Bool) → soundIn v (h .gate) (h .guests) (h .waiting) (h .flight) ≡ b
+          → (taken (call v e h .0 .answer) ≡ false) × (holds v (call v e h) ≡ h)
+      go true s b n = let p = short-refused-in v (h .gate) (h .guests) (h .waiting) (h .flight) e s in (ap (λ c. taken (c .0 .answer)) p, ap (holds v) p)
+      go false s false n = let p = unsound-refused-in v (h .gate) (h .guests) (h .waiting) (h .flight) e s n in (ap (λ c. taken (c .0 .answer)) p, ap (holds v) p)
+      go false s true n = absurd (false≢true (sym f ∙ join (ap not s) n))
+
+  -- a run
+  pub infirm-run : (es : List Event) (h : Host v) → firm v h ≡ false → (all (λ a. not (taken a)) (replies v h es) ≡ true) × (held v h es ≡ h)
+  unfolding held replies
+  infirm-run [] h f = (refl, refl)
+  infirm-run (e ∷ es) h f =
+      let c = infirm-call h f e in
+      let i = infirm-run es (holds v (call v e h)) (ap (firm v) (c .1) ∙ f) in
+      (join (ap not (c .0)) (i .0), i .1 ∙ c .1)

@@ -3,14 +3,15 @@ use Prim.Native.Nat.{ℕ, _*_, _≤_}
 use mathlib.Core.Path.{_≡_}
 use mathlib.Core.List.{List}
 use lib.ListN.{length}
-use Rattle.rules.specs.Events.{Event}
+use Rattle.rules.specs.declared.Event.{Event}
 use Rattle.rules.specs.Refusals.{accept, refuse}
 use Rattle.rules.specs.declared.Gate.{Gate}
 use Rattle.rules.specs.declared.Answer.the-variants.{Refused}
 use Rattle.rules.specs.declared.Outcome.{Outcome}
 use Rattle.rules.specs.declared.Refusal.{Refusal}
-use Rattle.table.specs.View.{Known}
-use Rattle.gate.specs.Promise.{unchanged, called, unopened, openingAt}
+use Rattle.table.specs.Columns.{guestWide, waitingWide, flightWide, settingsWide, mostGuests, mostDepth, mostCapacity}
+use Rattle.table.specs.View.{gateAt, outcomeOf, Known}
+use Rattle.gate.specs.Promise.{numbers, unchanged, called, unopened, openingIn}
 use Rattle.gate.specs.declared.numbers.Judged.{Judged}
 use Rattle.gate.specs.declared.numbers.Judged.the-variants.{Good, Bad}
 
@@ -21,21 +22,21 @@ Judges g gs ws fs (Bad r) = (e : Event) → called e g gs ws fs ≡ unchanged g 
 
 -- the lent lists of an opening are as long as depth d, n guests and capacity c need, and these lie in their ranges
 pub record OpenRoom (d n c : ℕ) (ss gs ws fs : List ℕ) : Type 0 where
-  pub settings : n * 3 ≤ length ss
-  pub guests : n * 6 ≤ length gs
-  pub waiting : c * 5 ≤ length ws
-  pub flight : d * 2 ≤ length fs
-  pub most : (d ≤ 64) × (n ≤ 64) × (c ≤ 1024)
+  pub settings : n * settingsWide ≤ length ss
+  pub guests : n * guestWide ≤ length gs
+  pub waiting : c * waitingWide ≤ length ws
+  pub flight : d * flightWide ≤ length fs
+  pub most : (d ≤ mostDepth) × (n ≤ mostGuests) × (c ≤ mostCapacity)
 
 -- what `judge_opening` finds is true: the opening is accepted, or it is refused so
 abbrev pub JudgesOpening : (d n c : ℕ) (ss gs ws fs : List ℕ) → Judged → Type 0
-JudgesOpening d n c ss gs ws fs Good = (openingAt d n c ss gs ws fs ≡ accept) × OpenRoom d n c ss gs ws fs
-JudgesOpening d n c ss gs ws fs (Bad r) = openingAt d n c ss gs ws fs ≡ refuse r
+JudgesOpening d n c ss gs ws fs Good = (openingIn numbers d n c ss gs ws fs ≡ accept) × OpenRoom d n c ss gs ws fs
+JudgesOpening d n c ss gs ws fs (Bad r) = openingIn numbers d n c ss gs ws fs ≡ refuse r
 
 -- the gate of a fresh table with depth d, n guests and capacity c
 abbrev pub freshGate : (d n c : ℕ) → Gate
-freshGate d n c = record { depth = d; guests = n; capacity = c; time = 0; waiting = 0; flight = 0 }
+freshGate d n c = gateAt (record { depth = d; capacity = c }) n 0 0 0
 
 -- what a refused opening answers
 abbrev pub notOpened : Refusal → Outcome
-notOpened r = record { gate = unopened; answer = Refused r }
+notOpened r = outcomeOf unopened (Refused r)

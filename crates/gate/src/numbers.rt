@@ -1,15 +1,23 @@
-// The public calls over lent numbers: six a guest, five a waiting request, two a request in flight. Any value of any number, any length of any
+// The public calls over lent numbers, in rows of the widths of table::columns. Any value of any number, any length of any
 // slice. What each promises is in specs/Promise.antt.
 use entries::settings::all_settled_list;
 use rules::Answer;
+use rules::Arriving;
+use rules::Event;
+use rules::Flight;
 use rules::Gate;
 use rules::Outcome;
 use rules::Refusal;
+use rules::Setup;
 use sound::is_sound;
 use sound::lengths::is_countable;
 use sound::lengths::is_short;
+use table::columns::FLIGHT_WIDE;
+use table::columns::SETTINGS_WIDE;
+use table::columns::WAITING_WIDE;
+use table::gates;
 ghost use mathlib.Core.Path.{_≡_};
-ghost use Rattle.rules.specs.Events.{Event};
+ghost use Rattle.rules.specs.declared.Event.the-variants.{Arrival, Completion, Tick};
 ghost use Rattle.gate.specs.Promise.{seen, called, opened};
 ghost use Rattle.gate.specs.Judges.{Judges, JudgesOpening, freshGate, notOpened};
 
@@ -35,6 +43,23 @@ fn judge(gate: Gate, guests: &[u64], waiting: &[u64], flight: &[u64]) -> Judged
     Judged::Good
 }
 
+// One event: the lent tables are judged, then the event itself.
+pub fn call(
+    gate: Gate,
+    guests: &mut [u64],
+    waiting: &mut [u64],
+    flight: &mut [u64],
+    event: Event,
+) -> Outcome
+    ensures { λ r. ⌜ seen (r, now (guests .exit), now (waiting .exit), now (flight .exit)) ≡ seen (called event gate (now (guests .entry)) (now (waiting .entry)) (now (flight .entry))) ⌝ }
+{
+    let found = judge(gate, &guests[..], &waiting[..], &flight[..]);
+    match found {
+        Judged::Bad(why) => gates::refused(gate, why),
+        Judged::Good => step::step(gate, guests, waiting, flight, event),
+    }
+}
+
 // A tick: the time is set, and the choice made.
 pub fn tick(
     gate: Gate,
@@ -43,13 +68,9 @@ pub fn tick(
     flight: &mut [u64],
     time: u64,
 ) -> Outcome
-    ensures { λ r. ⌜ seen (r, now (guests .exit), now (waiting .exit), now (flight .exit)) ≡ seen (called (Event.tick time) gate (now (guests .entry)) (now (waiting .entry)) (now (flight .entry))) ⌝ }
+    ensures { λ r. ⌜ seen (r, now (guests .exit), now (waiting .exit), now (flight .exit)) ≡ seen (called (Tick time) gate (now (guests .entry)) (now (waiting .entry)) (now (flight .entry))) ⌝ }
 {
-    let found = judge(gate, &guests[..], &waiting[..], &flight[..]);
-    match found {
-        Judged::Bad(why) => step::gates::refused(gate, why),
-        Judged::Good => step::events::tick(gate, guests, waiting, flight, time),
-    }
+    call(gate, guests, waiting, flight, Event::Tick(time))
 }
 
 // A completion: the request leaves flight, and the choice is made.
@@ -58,17 +79,18 @@ pub fn complete(
     guests: &mut [u64],
     waiting: &mut [u64],
     flight: &mut [u64],
-    guest: u64,
-    id: u32,
+    which: Flight,
     time: u64,
 ) -> Outcome
-    ensures { λ r. ⌜ seen (r, now (guests .exit), now (waiting .exit), now (flight .exit)) ≡ seen (called (Event.completion (record { guest = guest; id = id }) time) gate (now (guests .entry)) (now (waiting .entry)) (now (flight .entry))) ⌝ }
+    ensures { λ r. ⌜ seen (r, now (guests .exit), now (waiting .exit), now (flight .exit)) ≡ seen (called (Completion which time) gate (now (guests .entry)) (now (waiting .entry)) (now (flight .entry))) ⌝ }
 {
-    let found = judge(gate, &guests[..], &waiting[..], &flight[..]);
-    match found {
-        Judged::Bad(why) => step::gates::refused(gate, why),
-        Judged::Good => step::events::complete(gate, guests, waiting, flight, guest, id, time),
-    }
+    call(
+        gate,
+        guests,
+        waiting,
+        flight,
+        Event::Completion(which, time),
+    )
 }
 
 // An arrival: the request gets its tags and waits, and the choice is made.
@@ -77,41 +99,30 @@ pub fn arrive(
     guests: &mut [u64],
     waiting: &mut [u64],
     flight: &mut [u64],
-    guest: u64,
-    id: u32,
+    what: Arriving,
     time: u64,
 ) -> Outcome
-    ensures { λ r. ⌜ seen (r, now (guests .exit), now (waiting .exit), now (flight .exit)) ≡ seen (called (Event.arrival (record { guest = guest; id = id }) time) gate (now (guests .entry)) (now (waiting .entry)) (now (flight .entry))) ⌝ }
+    ensures { λ r. ⌜ seen (r, now (guests .exit), now (waiting .exit), now (flight .exit)) ≡ seen (called (Arrival what time) gate (now (guests .entry)) (now (waiting .entry)) (now (flight .entry))) ⌝ }
 {
-    let found = judge(gate, &guests[..], &waiting[..], &flight[..]);
-    match found {
-        Judged::Bad(why) => step::gates::refused(gate, why),
-        Judged::Good => step::arrive::arrive(gate, guests, waiting, flight, guest, id, time),
-    }
+    call(gate, guests, waiting, flight, Event::Arrival(what, time))
 }
 
 // The gate of a fresh table with these counts.
 fn fresh_gate(depth: u64, known: u64, capacity: u64) -> Gate
     ensures { λ r. ⌜ r ≡ freshGate depth known capacity ⌝ }
 {
-    Gate {
+    let setup = Setup {
         depth: depth,
-        guests: known,
         capacity: capacity,
-        time: 0,
-        waiting: 0,
-        flight: 0,
-    }
+    };
+    gates::gate_at(setup, known, 0, 0, 0)
 }
 
 // What a refused opening answers: a gate of zeros, so that nothing is open, and the refusal.
 fn not_opened(why: Refusal) -> Outcome
     ensures { λ r. ⌜ r ≡ notOpened why ⌝ }
 {
-    Outcome {
-        gate: fresh_gate(0, 0, 0),
-        answer: Answer::Refused(why),
-    }
+    gates::refused(fresh_gate(0, 0, 0), why)
 }
 
 // An opening judged, in document 01's order: counts, lengths, settings.
@@ -122,13 +133,13 @@ fn judge_opening(
     waiting: &[u64],
     flight: &[u64],
 ) -> Judged
-    ensures { λ r. ⌜ JudgesOpening (gate .depth) (gate .guests) (gate .capacity) (now (settings .entry)) (now (guests .entry)) (now (waiting .entry)) (now (flight .entry)) r ⌝ }
+    ensures { λ r. ⌜ JudgesOpening (gate .setup .depth) (gate .guests) (gate .setup .capacity) (now (settings .entry)) (now (guests .entry)) (now (waiting .entry)) (now (flight .entry)) r ⌝ }
 {
     if !is_countable(gate) {
         return Judged::Bad(Refusal::BadSetting);
     }
     let known = gate.guests as usize;
-    if settings.len() < known * 3 {
+    if settings.len() < known * SETTINGS_WIDE {
         return Judged::Bad(Refusal::ShortTable);
     }
     if is_short(gate, guests, waiting, flight) {
@@ -161,12 +172,9 @@ pub fn open(
             let rooms = capacity as usize;
             let places = depth as usize;
             moves::rows::start(guests, settings, count);
-            moves::rows::clear(waiting, rooms * 5);
-            moves::rows::clear(flight, places * 2);
-            Outcome {
-                gate: gate,
-                answer: Answer::Nothing,
-            }
+            moves::rows::clear(waiting, rooms * WAITING_WIDE);
+            moves::rows::clear(flight, places * FLIGHT_WIDE);
+            gates::answered(gate, Answer::Nothing)
         }
     }
 }

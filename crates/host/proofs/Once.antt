@@ -4,8 +4,9 @@ use Prim.Native.Nat.{ℕ}
 use mathlib.Core.Path.{_≡_, refl, sym, ap, _∙_}
 use mathlib.Core.List.{List}
 use native.Mathlib.Omega.{arith}
-use Rattle.rules.specs.Tables.{Flight}
-use Rattle.rules.specs.Events.{Arriving, arrival, completion, tick}
+use Rattle.rules.specs.declared.Flight.{Flight}
+use Rattle.rules.specs.declared.Arriving.{Arriving}
+use Rattle.rules.specs.declared.Event.the-variants.{Arrival, Completion, Tick}
 use Rattle.rules.proofs.Judged.{numberOf-once}
 use Rattle.rules.specs.declared.Phase.{Phase}
 use Rattle.rules.specs.declared.Phase.the-variants.{Reservation, Weight}
@@ -53,14 +54,14 @@ admits s h k p q = p ∙ sym q
 
 module _ (h k : Back) (six : List ℕ) where
   -- of an arrival, a completion, a tick and an opening
-  pub arrive-once : (a : Arriving) (now : ℕ) (gs ws fs : List ℕ) → h ≡ hosted six (called (arrival a now) (gateIn six) gs ws fs) → k ≡ hosted six (called (arrival a now) (gateIn six) gs ws fs) → h ≡ k
-  arrive-once a now gs ws fs = admits (hosted six (called (arrival a now) (gateIn six) gs ws fs)) h k
+  pub arrive-once : (a : Arriving) (now : ℕ) (gs ws fs : List ℕ) → h ≡ hosted six (called (Arrival a now) (gateIn six) gs ws fs) → k ≡ hosted six (called (Arrival a now) (gateIn six) gs ws fs) → h ≡ k
+  arrive-once a now gs ws fs = admits (hosted six (called (Arrival a now) (gateIn six) gs ws fs)) h k
 
-  pub complete-once : (f : Flight) (now : ℕ) (gs ws fs : List ℕ) → h ≡ hosted six (called (completion f now) (gateIn six) gs ws fs) → k ≡ hosted six (called (completion f now) (gateIn six) gs ws fs) → h ≡ k
-  complete-once f now gs ws fs = admits (hosted six (called (completion f now) (gateIn six) gs ws fs)) h k
+  pub complete-once : (f : Flight) (now : ℕ) (gs ws fs : List ℕ) → h ≡ hosted six (called (Completion f now) (gateIn six) gs ws fs) → k ≡ hosted six (called (Completion f now) (gateIn six) gs ws fs) → h ≡ k
+  complete-once f now gs ws fs = admits (hosted six (called (Completion f now) (gateIn six) gs ws fs)) h k
 
-  pub tick-once : (now : ℕ) (gs ws fs : List ℕ) → h ≡ hosted six (called (tick now) (gateIn six) gs ws fs) → k ≡ hosted six (called (tick now) (gateIn six) gs ws fs) → h ≡ k
-  tick-once now gs ws fs = admits (hosted six (called (tick now) (gateIn six) gs ws fs)) h k
+  pub tick-once : (now : ℕ) (gs ws fs : List ℕ) → h ≡ hosted six (called (Tick now) (gateIn six) gs ws fs) → k ≡ hosted six (called (Tick now) (gateIn six) gs ws fs) → h ≡ k
+  tick-once now gs ws fs = admits (hosted six (called (Tick now) (gateIn six) gs ws fs)) h k
 
   pub open-once : (d n c : ℕ) (ss gs ws fs : List ℕ) → h ≡ hosted six (opened d n c ss gs ws fs) → k ≡ hosted six (opened d n c ss gs ws fs) → h ≡ k
   open-once d n c ss gs ws fs = admits (hosted six (opened d n c ss gs ws fs)) h k

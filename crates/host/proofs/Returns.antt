@@ -4,7 +4,7 @@ use mathlib.Core.Path.{_≡_, ap, _∙_}
 use mathlib.Core.List.{List}
 use Rattle.rules.specs.declared.Gate.{Gate}
 use Rattle.table.specs.View.{Handed}
-use Rattle.rules.specs.Events.{Event}
+use Rattle.rules.specs.declared.Event.{Event}
 use Rattle.gate.specs.Promise.{seen, called}
 use Rattle.gate.proofs.Once.{seen-once}
 use Rattle.host.specs.declared.Reply.{Reply}

@@ -8,7 +8,7 @@ use Rattle.rules.specs.declared.Phase.{Phase}
 use Rattle.rules.specs.declared.Phase.the-variants.{Reservation, Weight}
 use Rattle.rules.specs.declared.Answer.{Answer}
 use Rattle.rules.specs.declared.Answer.the-variants.{Nothing, Sent, Refused}
-use Rattle.table.specs.View.{Handed}
+use Rattle.table.specs.View.{gateAt, Handed}
 use Rattle.host.specs.declared.Reply.{Reply}
 
 -- the kind of a send: 1 by reservation, 2 by weight
@@ -24,11 +24,11 @@ replyOf (Refused r) = record { kind = 3; guest = 0; id = 0; refusal = numberOf r
 
 -- the gate that six numbers are: depth, guests, capacity, time, waiting, flight
 abbrev pub gateIn : List ℕ → Gate
-gateIn v = record { depth = getD v 0 0; guests = getD v 1 0; capacity = getD v 2 0; time = getD v 3 0; waiting = getD v 4 0; flight = getD v 5 0 }
+gateIn v = gateAt (record { depth = getD v 0 0; capacity = getD v 2 0 }) (getD v 1 0) (getD v 3 0) (getD v 4 0) (getD v 5 0)
 
 -- the six numbers of a gate, written over those that were lent
 abbrev pub gateOver : Gate → List ℕ → List ℕ
-gateOver g v = set (set (set (set (set (set v 0 (g .depth)) 1 (g .guests)) 2 (g .capacity)) 3 (g .time)) 4 (g .waiting)) 5 (g .flight)
+gateOver g v = set (set (set (set (set (set v 0 (g .setup .depth)) 1 (g .guests)) 2 (g .setup .capacity)) 3 (g .time)) 4 (g .waiting)) 5 (g .flight)
 
 -- the six numbers after a call: a refusal leaves them as they stood
 abbrev pub written : Answer → Gate → List ℕ → List ℕ

@@ -1,11 +1,15 @@
 // What a C or Rust host links: the four calls over numbers, under the names of include/sgq.h. The gate is six numbers (depth, guests,
 // capacity, time, waiting, flight), the answer four (kind, guest, id, refusal). Each call takes whatever it is handed.
 use rules::Answer;
+use rules::Arriving;
+use rules::Flight;
 use rules::Gate;
 use rules::Outcome;
 use rules::Phase;
+use rules::Setup;
+use table::gates::gate_at;
 ghost use mathlib.Core.Path.{_≡_};
-ghost use Rattle.rules.specs.Events.{Event};
+ghost use Rattle.rules.specs.declared.Event.the-variants.{Arrival, Completion, Tick};
 ghost use Rattle.gate.specs.Promise.{called, opened};
 ghost use Rattle.host.specs.Host.{kindOf, gateIn, gateOver, replyOf, written, hosted};
 
@@ -65,23 +69,20 @@ fn four_of(answer: Answer) -> Reply
 fn gate_in(six: &[u64; 6]) -> Gate
     ensures { λ g. ⌜ g ≡ gateIn (now (six .entry)) ⌝ }
 {
-    Gate {
+    let setup = Setup {
         depth: six[0],
-        guests: six[1],
         capacity: six[2],
-        time: six[3],
-        waiting: six[4],
-        flight: six[5],
-    }
+    };
+    gate_at(setup, six[1], six[3], six[4], six[5])
 }
 
 // The six numbers of a gate, written over those that were lent.
 fn gate_over(six: &mut [u64; 6], gate: Gate)
     ensures { λ _. ⌜ now (six .exit) ≡ gateOver gate (now (six .entry)) ⌝ }
 {
-    six[0] = gate.depth;
+    six[0] = gate.setup.depth;
     six[1] = gate.guests;
-    six[2] = gate.capacity;
+    six[2] = gate.setup.capacity;
     six[3] = gate.time;
     six[4] = gate.waiting;
     six[5] = gate.flight;
@@ -135,10 +136,17 @@ pub extern "C" fn sgq_arrive(
     id: u32,
     time: u64,
 ) -> Reply
-    ensures { λ r. ⌜ (r, now (six .exit), now (guests .exit), now (waiting .exit), now (flight .exit)) ≡ hosted (now (six .entry)) (called (Event.arrival (record { guest = guest; id = id }) time) (gateIn (now (six .entry))) (now (guests .entry)) (now (waiting .entry)) (now (flight .entry))) ⌝ }
+    ensures { λ r. ⌜ (r, now (six .exit), now (guests .exit), now (waiting .exit), now (flight .exit)) ≡ hosted (now (six .entry)) (called (Arrival (record { guest = guest; id = id }) time) (gateIn (now (six .entry))) (now (guests .entry)) (now (waiting .entry)) (now (flight .entry))) ⌝ }
 {
     let gate = gate_in(six);
-    let outcome = gate::numbers::arrive(gate, guests, waiting, flight, guest, id, time);
+    let outcome = gate::numbers::arrive(
+        gate,
+        guests,
+        waiting,
+        flight,
+        Arriving { guest, id },
+        time,
+    );
     hand_back(six, outcome)
 }
 
@@ -153,10 +161,17 @@ pub extern "C" fn sgq_complete(
     id: u32,
     time: u64,
 ) -> Reply
-    ensures { λ r. ⌜ (r, now (six .exit), now (guests .exit), now (waiting .exit), now (flight .exit)) ≡ hosted (now (six .entry)) (called (Event.completion (record { guest = guest; id = id }) time) (gateIn (now (six .entry))) (now (guests .entry)) (now (waiting .entry)) (now (flight .entry))) ⌝ }
+    ensures { λ r. ⌜ (r, now (six .exit), now (guests .exit), now (waiting .exit), now (flight .exit)) ≡ hosted (now (six .entry)) (called (Completion (record { guest = guest; id = id }) time) (gateIn (now (six .entry))) (now (guests .entry)) (now (waiting .entry)) (now (flight .entry))) ⌝ }
 {
     let gate = gate_in(six);
-    let outcome = gate::numbers::complete(gate, guests, waiting, flight, guest, id, time);
+    let outcome = gate::numbers::complete(
+        gate,
+        guests,
+        waiting,
+        flight,
+        Flight { guest, id },
+        time,
+    );
     hand_back(six, outcome)
 }
 
@@ -169,7 +184,7 @@ pub extern "C" fn sgq_tick(
     flight: &mut [u64],
     time: u64,
 ) -> Reply
-    ensures { λ r. ⌜ (r, now (six .exit), now (guests .exit), now (waiting .exit), now (flight .exit)) ≡ hosted (now (six .entry)) (called (Event.tick time) (gateIn (now (six .entry))) (now (guests .entry)) (now (waiting .entry)) (now (flight .entry))) ⌝ }
+    ensures { λ r. ⌜ (r, now (six .exit), now (guests .exit), now (waiting .exit), now (flight .exit)) ≡ hosted (now (six .entry)) (called (Tick time) (gateIn (now (six .entry))) (now (guests .entry)) (now (waiting .entry)) (now (flight .entry))) ⌝ }
 {
     let gate = gate_in(six);
     let outcome = gate::numbers::tick(gate, guests, waiting, flight, time);

@@ -9,14 +9,16 @@ use lib.ListN.{length, set}
 use Rattle.lists.specs.Lines.{lineAt}
 use Rattle.lists.specs.Rows.{overRows}
 use Rattle.lists.specs.RowsLaws.{row-at, row-put, row-put-again, all-used}
-use Rattle.rules.specs.Tables.{Guest, Request, owner}
+use Rattle.rules.specs.Tables.{Request, owner}
+use Rattle.rules.specs.declared.Guest.{Guest}
 use Rattle.rules.specs.Events.{following}
+use Rattle.table.specs.Columns.{RNEXT, LNEXT, SNEXT, guestWide}
 use Rattle.table.specs.View.{guestForm, guestsOf}
 use Rattle.table.specs.ViewLaws.{guest-exact}
 use Rattle.moves.specs.Moves.{followed}
 
 -- the guest whose request q is follows it
-pub followed-is : (n : ℕ) (gs : List ℕ) (q : Request) → n * 6 ≤ length gs → q .guest < n
+pub followed-is : (n : ℕ) (gs : List ℕ) (q : Request) → n * guestWide ≤ length gs → q .guest < n
     → followed (q .guest) (q .rtag) (q .ltag) (q .stag) gs ≡ overRows guestForm n (set (guestsOf gs n) (q .guest) (following q (owner (guestsOf gs n) (q .guest)))) gs
 unfolding following
 followed-is n gs q room known = third ∙ ap (λ (h : Guest). overRows guestForm n (set (guestsOf gs n) g (following q h)) gs) (sym (row-at guestForm gs n g known))
@@ -26,7 +28,7 @@ followed-is n gs q room known = third ∙ ap (λ (h : Guest). overRows guestForm
 
     -- the guest before, and once one or two of its next numbers are stored
     old : Guest
-    old = guestForm .read (lineAt 6 gs g)
+    old = guestForm .read (lineAt guestWide gs g)
 
     new : Guest
     new = following q old
@@ -37,11 +39,11 @@ followed-is n gs q room known = third ∙ ap (λ (h : Guest). overRows guestForm
     two : Guest
     two = record { settings = old .settings; rnext = new .rnext; lnext = new .lnext; snext = old .snext }
 
-    first : set gs (g * 6 + 3) (new .rnext) ≡ overRows guestForm n (set (guestsOf gs n) g one) gs
-    first = row-put guestForm guest-exact n n gs room (omega arith) (all-used guestForm guest-exact n gs) g 3 (new .rnext) one known (lit< tt) refl
+    first : set gs (g * guestWide + RNEXT) (new .rnext) ≡ overRows guestForm n (set (guestsOf gs n) g one) gs
+    first = row-put guestForm guest-exact n n gs room (omega arith) (all-used guestForm guest-exact n gs) g RNEXT (new .rnext) one known (lit< tt) refl
 
-    second : set (set gs (g * 6 + 3) (new .rnext)) (g * 6 + 4) (new .lnext) ≡ overRows guestForm n (set (guestsOf gs n) g two) gs
-    second = row-put-again guestForm guest-exact n n gs room (omega arith) (all-used guestForm guest-exact n gs) (set gs (g * 6 + 3) (new .rnext)) g 4 (new .lnext) one two known (lit< tt) first refl
+    second : set (set gs (g * guestWide + RNEXT) (new .rnext)) (g * guestWide + LNEXT) (new .lnext) ≡ overRows guestForm n (set (guestsOf gs n) g two) gs
+    second = row-put-again guestForm guest-exact n n gs room (omega arith) (all-used guestForm guest-exact n gs) (set gs (g * guestWide + RNEXT) (new .rnext)) g LNEXT (new .lnext) one two known (lit< tt) first refl
 
     third : followed g (q .rtag) (q .ltag) (q .stag) gs ≡ overRows guestForm n (set (guestsOf gs n) g new) gs
-    third = row-put-again guestForm guest-exact n n gs room (omega arith) (all-used guestForm guest-exact n gs) (set (set gs (g * 6 + 3) (new .rnext)) (g * 6 + 4) (new .lnext)) g 5 (new .snext) two new known (lit< tt) second refl
+    third = row-put-again guestForm guest-exact n n gs room (omega arith) (all-used guestForm guest-exact n gs) (set (set gs (g * guestWide + RNEXT) (new .rnext)) (g * guestWide + LNEXT) (new .lnext)) g SNEXT (new .snext) two new known (lit< tt) second refl

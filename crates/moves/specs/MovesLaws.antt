@@ -13,14 +13,16 @@ use Rattle.lists.specs.Lines.{lineAt}
 use Rattle.lists.specs.Rows.{overRows, Unused}
 use Rattle.lists.specs.RowsLaws.{row-at, row-out, row-in}
 use Rattle.lists.specs.FillLaws.{rows-cleared}
-use Rattle.rules.specs.Tables.{Request, Flight, name}
+use Rattle.rules.specs.Tables.{Request, name}
+use Rattle.rules.specs.declared.Flight.{Flight}
+use Rattle.table.specs.Columns.{flightWide, waitingWide}
 use Rattle.table.specs.View.{requestForm, flightForm, waitingOf, flightsOf}
 use Rattle.table.specs.ViewLaws.{request-exact, flight-exact}
 use Rattle.moves.specs.Moves.{gone, joined, freed, appended}
 
 -- IN FLIGHT
 
-module _ (depth n : ℕ) (fs : List ℕ) (room : depth * 2 ≤ length fs) (unused : Unused flightForm depth n fs) where
+module _ (depth n : ℕ) (fs : List ℕ) (room : depth * flightWide ≤ length fs) (unused : Unused flightForm depth n fs) where
   -- a request leaves
   pub freed-is : n ≤ depth → (place : ℕ) → place < n → freed place n fs ≡ overRows flightForm depth (removeAt place (flightsOf fs n)) fs
   freed-is fit place here = row-out flightForm flight-exact depth n fs room fit unused place here
@@ -28,15 +30,15 @@ module _ (depth n : ℕ) (fs : List ℕ) (room : depth * 2 ≤ length fs) (unuse
   -- a name stands last
   pub joined-is : n < depth → (ws : List ℕ) (count place : ℕ) → place < count → joined place n ws fs ≡ overRows flightForm depth (flightsOf fs n ++ (name (getD (waitingOf ws count) place (requestForm .read [])) ∷ [])) fs
   joined-is free ws count place here =
-      let a : Flight = name (requestForm .read (lineAt 5 ws place)) in
-      let e : joined place n ws fs ≡ stores (λ j. n * 2 + j) (λ j. getD (flightForm .line a) j 0) 2 fs = unfold stores in refl in
+      let a : Flight = name (requestForm .read (lineAt waitingWide ws place)) in
+      let e : joined place n ws fs ≡ stores (λ j. n * flightWide + j) (λ j. getD (flightForm .line a) j 0) flightWide fs = unfold stores in refl in
       e
       ∙ row-in flightForm flight-exact depth n fs room (omega arith) unused a free
       ∙ ap (λ (q : Request). overRows flightForm depth (flightsOf fs n ++ (name q ∷ [])) fs) (sym (row-at requestForm ws count place here))
 
 -- WAITING
 
-module _ (cap n : ℕ) (ws : List ℕ) (room : cap * 5 ≤ length ws) (unused : Unused requestForm cap n ws) where
+module _ (cap n : ℕ) (ws : List ℕ) (room : cap * waitingWide ≤ length ws) (unused : Unused requestForm cap n ws) where
   -- a request stands last
   pub appended-is : n < cap → (q : Request) → appended n q ws ≡ overRows requestForm cap (waitingOf ws n ++ (q ∷ [])) ws
   appended-is free q = row-in requestForm request-exact cap n ws room (omega arith) unused q free
@@ -48,9 +50,9 @@ module _ (cap n : ℕ) (ws : List ℕ) (room : cap * 5 ≤ length ws) (unused : 
 -- AT OPENING; what `start` gives the guests, its contract says
 
 -- nothing waits
-pub cleared-waiting : (cap : ℕ) (ws : List ℕ) → cap * 5 ≤ length ws → zeros ws (cap * 5) ≡ overRows requestForm cap [] ws
+pub cleared-waiting : (cap : ℕ) (ws : List ℕ) → cap * waitingWide ≤ length ws → zeros ws (cap * waitingWide) ≡ overRows requestForm cap [] ws
 cleared-waiting cap ws room = rows-cleared requestForm request-exact cap ws room
 
 -- nothing is in flight
-pub cleared-flight : (depth : ℕ) (fs : List ℕ) → depth * 2 ≤ length fs → zeros fs (depth * 2) ≡ overRows flightForm depth [] fs
+pub cleared-flight : (depth : ℕ) (fs : List ℕ) → depth * flightWide ≤ length fs → zeros fs (depth * flightWide) ≡ overRows flightForm depth [] fs
 cleared-flight depth fs room = rows-cleared flightForm flight-exact depth fs room

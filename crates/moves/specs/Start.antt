@@ -10,8 +10,9 @@ use Rattle.lists.specs.Rows.{rowsOf, overRows}
 use native.Mathlib.Numerals.{add-one}
 use Rattle.lists.specs.RowsLaws.{length-rows, rows-snoc, map-snoc, over-same, all-used}
 use Rattle.lists.specs.FillLaws.{row-next}
-use Rattle.rules.specs.Tables.{Guest}
+use Rattle.rules.specs.declared.Guest.{Guest}
 use Rattle.rules.specs.Run.{newcomer}
+use Rattle.table.specs.Columns.{guestWide, settingsWide}
 use Rattle.table.specs.View.{settingsForm, guestForm}
 use Rattle.table.specs.ViewLaws.{guest-exact}
 use Rattle.moves.specs.Moves.{started}
@@ -24,13 +25,13 @@ module _ (ss gs : List ℕ) where
 
   -- the guest that turn i writes
   abbrev pub newGuest : ℕ → Guest
-  newGuest i = newcomer (settingsForm .read (lineAt 3 ss i))
+  newGuest i = newcomer (settingsForm .read (lineAt settingsWide ss i))
 
-  -- the six stores of turn i make one guest more
-  pub started-next : (w : List ℕ) (i : ℕ) → w ≡ started ss i gs → i * 6 + 6 ≤ length gs → stores (λ j. i * 6 + j) (λ j. getD (guestForm .line (newGuest i)) j 0) 6 w ≡ started ss (i + 1) gs
+  -- the stores of turn i make one guest more
+  pub started-next : (w : List ℕ) (i : ℕ) → w ≡ started ss i gs → i * guestWide + guestWide ≤ length gs → stores (λ j. i * guestWide + j) (λ j. getD (guestForm .line (newGuest i)) j 0) guestWide w ≡ started ss (i + 1) gs
   started-next w i e room =
       let l : List Guest = map newcomer (rowsOf settingsForm ss i) in
-      ap (stores (λ j. i * 6 + j) (λ j. getD (guestForm .line (newGuest i)) j 0) 6) e
+      ap (stores (λ j. i * guestWide + j) (λ j. getD (guestForm .line (newGuest i)) j 0) guestWide) e
       ∙ row-next guestForm guest-exact i l (newGuest i) gs (length-map (rowsOf settingsForm ss i) newcomer ∙ length-rows settingsForm ss i) room
       ∙ ap (λ (m : List Guest). overRows guestForm (i + 1) m gs)
-      (sym (ap (map newcomer) (ap (rowsOf settingsForm ss) (add-one i) ∙ rows-snoc settingsForm ss i) ∙ map-snoc newcomer (rowsOf settingsForm ss i) (settingsForm .read (lineAt 3 ss i))))
+      (sym (ap (map newcomer) (ap (rowsOf settingsForm ss) (add-one i) ∙ rows-snoc settingsForm ss i) ∙ map-snoc newcomer (rowsOf settingsForm ss i) (settingsForm .read (lineAt settingsWide ss i))))

@@ -1,6 +1,8 @@
 // The moves that write the lent tables: send, take out, append, drop, follow, start and clear. Each contract says what becomes of the
 // numbers; MovesLaws, DropLaws and FollowLaws in specs/ say which lists of document 01 they then show.
+use table::columns::FLIGHT_WIDE;
 use table::columns::GUEST;
+use table::columns::GUEST_WIDE;
 use table::columns::ID;
 use table::columns::LIMIT;
 use table::columns::LNEXT;
@@ -8,17 +10,20 @@ use table::columns::LTAG;
 use table::columns::RESERVATION;
 use table::columns::RNEXT;
 use table::columns::RTAG;
+use table::columns::SETTINGS_WIDE;
 use table::columns::SHARES;
 use table::columns::SNEXT;
 use table::columns::STAG;
+use table::columns::WAITING_WIDE;
 use table::numbers::spacing_down;
 use table::numbers::spacing_up;
 ghost use mathlib.Core.Path.{_≡_};
 ghost use Prim.Native.Nat.{ℕ, _+_, _-_, _*_, _≤_, _<_};
 ghost use lib.Dec.{eqb};
-ghost use lib.ListN.{length, getD};
+ghost use lib.ListN.{length};
 ghost use Rattle.lists.specs.Parts.{closed, zeros};
 ghost use Rattle.lists.specs.Lines.{whether};
+ghost use Rattle.table.specs.Columns.{LIMIT, RNEXT, guestWide, settingsWide, GUEST, flightWide, RTAG, waitingWide, guestAt, waitingAt};
 ghost use Rattle.moves.specs.Moves.{gone, joined, Named, freed, appended, spacingOf, nextDropped, tagsDropped, followed, started};
 
 // The first row of `tail`, of `wide` numbers, goes; each later one moves down a place, and the last becomes zeros.
@@ -49,19 +54,19 @@ pub fn send(
     count: usize,
     flying: usize,
 ) -> Name
-    requires { ⌜ (place < count) × (count * 5 ≤ length (now waiting)) × (flying * 2 + 2 ≤ length (now flight)) ⌝ }
+    requires { ⌜ (place < count) × (count * waitingWide ≤ length (now waiting)) × (flying * flightWide + flightWide ≤ length (now flight)) ⌝ }
     ensures { λ _. ⌜ now (waiting .exit) ≡ gone place count (now (waiting .entry)) ⌝ }
     ensures { λ _. ⌜ now (flight .exit) ≡ joined place flying (now (waiting .entry)) (now (flight .entry)) ⌝ }
     ensures { λ r. ⌜ Named place (now (waiting .entry)) r ⌝ }
 {
-    let from = place * 5;
-    let used = count * 5;
-    let end = flying * 2;
+    let from = place * WAITING_WIDE;
+    let used = count * WAITING_WIDE;
+    let end = flying * FLIGHT_WIDE;
     let guest = waiting[from + GUEST];
     let id = waiting[from + ID];
     flight[end + GUEST] = guest;
     flight[end + ID] = id;
-    close_up(&mut waiting[from..used], 5);
+    close_up(&mut waiting[from..used], WAITING_WIDE);
     Name {
         guest: guest,
         id: id,
@@ -70,12 +75,12 @@ pub fn send(
 
 // The request at `place` leaves flight, and those behind it move down one place.
 pub fn take_out(flight: &mut [u64], place: usize, count: usize)
-    requires { ⌜ (place < count) × (count * 2 ≤ length (now flight)) ⌝ }
+    requires { ⌜ (place < count) × (count * flightWide ≤ length (now flight)) ⌝ }
     ensures { λ _. ⌜ now (flight .exit) ≡ freed place count (now (flight .entry)) ⌝ }
 {
-    let from = place * 2;
-    let used = count * 2;
-    close_up(&mut flight[from..used], 2);
+    let from = place * FLIGHT_WIDE;
+    let used = count * FLIGHT_WIDE;
+    close_up(&mut flight[from..used], FLIGHT_WIDE);
 }
 
 // A request is placed last among the waiting.
@@ -88,14 +93,14 @@ pub fn append(
     ltag: u64,
     stag: u64,
 )
-    requires { ⌜ count * 5 + 5 ≤ length (now waiting) ⌝ }
+    requires { ⌜ count * waitingWide + waitingWide ≤ length (now waiting) ⌝ }
     ensures { λ _. ⌜ now (waiting .exit) ≡ appended count (record { guest = guest; id = id; rtag = rtag; ltag = ltag; stag = stag }) (now (waiting .entry)) ⌝ }
 {
-    waiting[count * 5 + GUEST] = guest;
-    waiting[count * 5 + ID] = id;
-    waiting[count * 5 + RTAG] = rtag;
-    waiting[count * 5 + LTAG] = ltag;
-    waiting[count * 5 + STAG] = stag;
+    waiting[count * WAITING_WIDE + GUEST] = guest;
+    waiting[count * WAITING_WIDE + ID] = id;
+    waiting[count * WAITING_WIDE + RTAG] = rtag;
+    waiting[count * WAITING_WIDE + LTAG] = ltag;
+    waiting[count * WAITING_WIDE + STAG] = stag;
 }
 
 // A tag of `owner`, d earlier where the owner is `guest`.
@@ -108,73 +113,73 @@ fn lowered(owner: u64, guest: u64, tag: u64, d: u64) -> u64
 
 // Every reservation tag of `guest` drops by d.
 fn lower(waiting: &mut [u64], count: usize, guest: u64, d: u64)
-    requires { ⌜ count * 5 ≤ length (now waiting) ⌝ }
-    requires { ⌜ ((k : ℕ) → k < count → getD (now waiting) (k * 5 + 0) 0 ≡ guest → d ≤ getD (now waiting) (k * 5 + 2) 0) ⌝ }
+    requires { ⌜ count * waitingWide ≤ length (now waiting) ⌝ }
+    requires { ⌜ ((k : ℕ) → k < count → waitingAt (now waiting) k GUEST ≡ guest → d ≤ waitingAt (now waiting) k RTAG) ⌝ }
     ensures { λ _. ⌜ now (waiting .exit) ≡ tagsDropped guest d (now (waiting .entry)) count ⌝ }
 {
     let mut i: usize = 0;
     while i < count {
-        let g = waiting[i * 5 + GUEST];
-        let r = waiting[i * 5 + RTAG];
+        let g = waiting[i * WAITING_WIDE + GUEST];
+        let r = waiting[i * WAITING_WIDE + RTAG];
         let q = lowered(g, guest, r, d);
-        waiting[i * 5 + RTAG] = q;
+        waiting[i * WAITING_WIDE + RTAG] = q;
         i += 1;
     }
 }
 
 // After a weight send: the next reservation number of `guest`, and each of its reservation tags, drop by its spacing, if it has one.
 pub fn drop_tags(guests: &mut [u64], waiting: &mut [u64], count: usize, guest: u64)
-    requires { ⌜ (guest * 6 + 6 ≤ length (now guests)) × (count * 5 ≤ length (now waiting)) ⌝ }
-    requires { ⌜ spacingOf guest (now guests) ≤ getD (now guests) (guest * 6 + 3) 0 ⌝ }
-    requires { ⌜ ((k : ℕ) → k < count → getD (now waiting) (k * 5 + 0) 0 ≡ guest → spacingOf guest (now guests) ≤ getD (now waiting) (k * 5 + 2) 0) ⌝ }
+    requires { ⌜ (guest * guestWide + guestWide ≤ length (now guests)) × (count * waitingWide ≤ length (now waiting)) ⌝ }
+    requires { ⌜ spacingOf guest (now guests) ≤ guestAt (now guests) guest RNEXT ⌝ }
+    requires { ⌜ ((k : ℕ) → k < count → waitingAt (now waiting) k GUEST ≡ guest → spacingOf guest (now guests) ≤ waitingAt (now waiting) k RTAG) ⌝ }
     ensures { λ _. ⌜ now (guests .exit) ≡ nextDropped guest (now (guests .entry)) ⌝ }
     ensures { λ _. ⌜ now (waiting .exit) ≡ tagsDropped guest (spacingOf guest (now (guests .entry))) (now (waiting .entry)) count ⌝ }
 {
     let g = guest as usize;
-    let r = guests[g * 6 + RESERVATION];
+    let r = guests[g * GUEST_WIDE + RESERVATION];
     if r == 0 {
         return;
     }
     let d = spacing_down(r);
-    let n = guests[g * 6 + RNEXT];
-    guests[g * 6 + RNEXT] = n - d;
+    let n = guests[g * GUEST_WIDE + RNEXT];
+    guests[g * GUEST_WIDE + RNEXT] = n - d;
     lower(waiting, count, guest, d);
 }
 
 // After an arrival: the next numbers of `guest` become the request's tags plus its spacings.
 pub fn follow(guests: &mut [u64], guest: u64, rtag: u64, ltag: u64, stag: u64)
-    requires { ⌜ (guest * 6 + 6 ≤ length (now guests)) × (getD (now guests) (guest * 6 + 1) 0 ≤ 1000000) ⌝ }
+    requires { ⌜ (guest * guestWide + guestWide ≤ length (now guests)) × (guestAt (now guests) guest LIMIT ≤ 1000000) ⌝ }
     requires { ⌜ (rtag ≤ 4611686018427387904) × (ltag ≤ 4611686018427387904) × (stag ≤ 4611686018427387904) ⌝ }
     ensures { λ _. ⌜ now (guests .exit) ≡ followed guest rtag ltag stag (now (guests .entry)) ⌝ }
 {
     let g = guest as usize;
-    let reservation = guests[g * 6 + RESERVATION];
-    let limit = guests[g * 6 + LIMIT];
-    let shares = guests[g * 6 + SHARES];
+    let reservation = guests[g * GUEST_WIDE + RESERVATION];
+    let limit = guests[g * GUEST_WIDE + LIMIT];
+    let shares = guests[g * GUEST_WIDE + SHARES];
     let r = spacing_down(reservation);
     let l = spacing_up(limit);
     let s = spacing_down(shares);
-    guests[g * 6 + RNEXT] = rtag + r;
-    guests[g * 6 + LNEXT] = ltag + l;
-    guests[g * 6 + SNEXT] = stag + s;
+    guests[g * GUEST_WIDE + RNEXT] = rtag + r;
+    guests[g * GUEST_WIDE + LNEXT] = ltag + l;
+    guests[g * GUEST_WIDE + SNEXT] = stag + s;
 }
 
 // At opening: each guest has its three settings, and its next numbers are 0.
 pub fn start(guests: &mut [u64], settings: &[u64], known: usize)
-    requires { ⌜ (known * 6 ≤ length (now guests)) × (known * 3 ≤ length (now settings)) ⌝ }
+    requires { ⌜ (known * guestWide ≤ length (now guests)) × (known * settingsWide ≤ length (now settings)) ⌝ }
     ensures { λ _. ⌜ now (guests .exit) ≡ started (now (settings .entry)) known (now (guests .entry)) ⌝ }
 {
     let mut i: usize = 0;
     while i < known {
-        let reservation = settings[i * 3 + RESERVATION];
-        let limit = settings[i * 3 + LIMIT];
-        let shares = settings[i * 3 + SHARES];
-        guests[i * 6 + RESERVATION] = reservation;
-        guests[i * 6 + LIMIT] = limit;
-        guests[i * 6 + SHARES] = shares;
-        guests[i * 6 + RNEXT] = 0;
-        guests[i * 6 + LNEXT] = 0;
-        guests[i * 6 + SNEXT] = 0;
+        let reservation = settings[i * SETTINGS_WIDE + RESERVATION];
+        let limit = settings[i * SETTINGS_WIDE + LIMIT];
+        let shares = settings[i * SETTINGS_WIDE + SHARES];
+        guests[i * GUEST_WIDE + RESERVATION] = reservation;
+        guests[i * GUEST_WIDE + LIMIT] = limit;
+        guests[i * GUEST_WIDE + SHARES] = shares;
+        guests[i * GUEST_WIDE + RNEXT] = 0;
+        guests[i * GUEST_WIDE + LNEXT] = 0;
+        guests[i * GUEST_WIDE + SNEXT] = 0;
         i += 1;
     }
 }

@@ -40,10 +40,11 @@ use denote.Triple.Spec.{tripleOf}
 use denote.Triple.Statement.{Contract, Triple}
 use denote.Triple.Walked.{says}
 use Rattle.rules.specs.declared.Guest.{Guest}
-use Rattle.records.specs.RecordsLaws.{unpacked, packed}
+use Rattle.table.specs.Columns.{guestWide}
+use Rattle.records.proofs.Rows.{unpacked, packed}
 use Rattle.records.proofs.Rec.{Rec}
-use Rattle.records.proofs.Again.{LentAgain, lends-again, comes-back}
-use Rattle.records.proofs.Lent.{LentShared, shares, unshares}
+use Rattle.lent.proofs.Again.{LentAgain, lends-again, comes-back}
+use Rattle.lent.proofs.Lent.{LentShared, shares, unshares}
 use Rattle.records.proofs.guests.unpack as unpack
 use Rattle.records.proofs.guests.unpack.Symbol.{name as #records·guests·unpack}
 use Rattle.records.proofs.guests.pack as pack
@@ -68,7 +69,7 @@ abbrev pub Guests : Lft → GName → ℕ → ℕ → List Guest → ℕ → Fml
 Guests κ γ b o gs m = MutSlice (named 0) κ Rec .own (guestsAt (b, o) γ gs) (sliceVal (b, o) m ∷ [])
 
 module _ {M : Type 1} (𝓤 : URA M) (H : Heap 𝓤) (A : Atoms 𝓤) (W : Given 𝓤 H A) (mem : Memory → SProp 𝓤) (run : Routine → Fun 𝓤) (κ : Lft) (q : Share) (γ : GName) (b o : ℕ) (gs : List Guest) (rs : List ℕ) (l k : ℕ)
-    (room : Room Rec (length gs)) (room′ : Room u64 (length rs)) (few : k ≤ length gs) (wide : k * 6 ≤ length rs) (fits : k < 2 ^ 64) where
+    (room : Room Rec (length gs)) (room′ : Room u64 (length rs)) (few : k ≤ length gs) (wide : k * guestWide ≤ length rs) (fits : k < 2 ^ 64) where
   abbrev n : ℕ
   n = length gs
 

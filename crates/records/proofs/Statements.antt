@@ -1,11 +1,9 @@
--- The statements that every public call over lent records has in common, as steps of its walk. A local i of the environment E at the place l
--- is `On i τ l`, which a walk answers by `refl`.
---     makes-rows       rows = [0; 384]                   [room of rows]  to  [384 zeros]
---     lends-rows       p = &rows; s = (p, 384)           [room of p; room of s]  to  [p; s]
---     relends          p = &*x.0; s = (p, x.1)           [x; room of p; room of s]  to  [x; p; s]
+-- The statements that both public calls over lent records have in common, as steps of a walk.
+--     makes-rows       rows = [0; guestsLong]                   [room of rows]  to  [guestsLong zeros]
+--     lends-rows       p = &rows; s = (p, guestsLong)           [room of p; room of s]  to  [p; s]
 --     unpacks          the two, and unpack(..)           [guests; its token; zeros; count; x; four rooms; room of _]  to  [guests; its token; the records in the numbers; ..]
 --     packs            the two, and pack(..)             [guests; its token; numbers; count; x; four rooms; _]  to  [guests from the numbers; its token; numbers; ..]
---     rows-gone        384 numbers are the room of rows
+--     rows-gone        guestsLong numbers are the room of rows
 -- Assumes `Given`, and the callees' theorems.
 use mathlib.Core.Path.{_≡_, refl, sym, subst}
 use Prim.Native.Nat.{ℕ, zero, _*_, _≤_, _<_, _^_}
@@ -37,68 +35,51 @@ use denote.Builtin.{u64}
 use denote.Steps.{owned}
 use denote.Triple.Statement.{Triple}
 use Rattle.rules.specs.declared.Guest.{Guest}
-use Rattle.records.specs.RecordsLaws.{unpacked, packed}
+use Rattle.table.specs.Columns.{guestWide, guestsLong}
+use Rattle.records.proofs.Rows.{unpacked, packed}
 use Rattle.records.proofs.Rec.{Rec}
-use Rattle.records.proofs.Lent.{array-made, array-gone, repeat-typed}
+use Rattle.lent.proofs.Statements.{sv, On, from-on, relends}
+use Rattle.lent.proofs.Lent.{array-made, array-gone, repeat-typed}
 use Rattle.records.proofs.CallCopies.{Unpack, Pack, Guests, calls-unpack, calls-pack}
 use Rattle.records.proofs.guests.unpack.Symbol.{name as #records·guests·unpack}
 use Rattle.records.proofs.guests.pack.Symbol.{name as #records·guests·pack}
-
--- the machine value of a slice
-abbrev pub sv : {X : Type 0} → RefT (List X) → Val
-sv x = sliceVal (x .ptr) (length (x .now))
 
 -- what the `&mut [Guest]` owns at the list l
 abbrev pub Records : Lft → RefT (List Guest) → List Guest → Fml
 Records κ x l = Guests κ (x .name) (x .ptr .0) (x .ptr .1) l (length (x .now))
 
 abbrev pub zeros : List ℕ
-zeros = replicate 384 0
+zeros = replicate guestsLong 0
 
-pub zeros-long : length zeros ≡ 384
-zeros-long = length-replicate {A = ℕ} 384 0
+pub zeros-long : length zeros ≡ guestsLong
+zeros-long = length-replicate {A = ℕ} guestsLong 0
 
-pub room-of : (rs : List ℕ) → length rs ≡ 384 → Room u64 (length rs)
+pub room-of : (rs : List ℕ) → length rs ≡ guestsLong → Room u64 (length rs)
 room-of rs e = subst (Room u64) (sym e) (lit< tt, lit< tt)
 
-abbrev pub On : {M : Type 1} (𝓤 : URA M) (H : Heap 𝓤) → Env 𝓤 H → ℕ → Ty → ℕ → Type 0
-On 𝓤 H E i τ l = spotOf 𝓤 H E i ≡ (τ, l, zero)
-
-module _ {M : Type 1} {𝓤 : URA M} {H : Heap 𝓤} {A : Atoms 𝓤} {K : Type 0} {W : Given 𝓤 H A} {Γ : List (Item 𝓤)} {E : Env 𝓤 H} where
-  from-on : K → {i : ℕ} {st : List PStep} {sp sp′ : Spot 𝓤 H} → spotOf 𝓤 H E i ≡ sp → Walks K W Γ E sp st sp′ → Finds K W Γ E (place i st) sp′
-  from-on t {i} {st} {sp} {sp′} e w = from t (subst (λ (z : Spot 𝓤 H). Walks K W Γ E z st sp′) (sym e) w)
-
 module _ {M : Type 1} {𝓤 : URA M} {H : Heap 𝓤} {A : Atoms 𝓤} {K : Type 0} {W : Given 𝓤 H A} {Γ : List (Item 𝓤)} {E : Env 𝓤 H} {C : Calls 𝓤 H} {Λ : Loops 𝓤 H} {qq : Post 𝓤 H} {rest : Body} where
-  pub makes-rows : K → {i l : ℕ} → On 𝓤 H E i (tyArray (tyInt w64) 384) l
-      → Step K W (‵ (cells (memOf u64) zeros l 0) ∷ Γ) (runs C Λ E rest qq) (‵ (froom (tyArray (tyInt w64) 384) l 0) ∷ Γ) (runs C Λ E (seq (assign (place i []) (repeat (int w64 0) 384)) rest) qq)
+  pub makes-rows : K → {i l : ℕ} → On 𝓤 H E i (tyArray (tyInt w64) guestsLong) l
+      → Step K W (‵ (cells (memOf u64) zeros l 0) ∷ Γ) (runs C Λ E rest qq) (‵ (froom (tyArray (tyInt w64) guestsLong) l 0) ∷ Γ) (runs C Λ E (seq (assign (place i []) (repeat (int w64 0) guestsLong)) rest) qq)
   makes-rows t {i} {l} e = step (λ s.
-      assigns t (rep t 384 (lit t tt)) (from-on t e (stop t)) (init t 0 refl (repeat-typed u64 0 (vint w64 0) (refl, lit< tt) (uint-lawful 𝓤 H A W w64 .typed) 384)) $
+      assigns t (rep t guestsLong (lit t tt)) (from-on t e (stop t)) (init t 0 refl (repeat-typed u64 0 (vint w64 0) (refl, lit< tt) (uint-lawful 𝓤 H A W w64 .typed) guestsLong)) $
       owned t u64 (Is u64) (uint-makes 𝓤 H A W w64) 0 (vint w64 0 ∷ []) (refl, lit< tt) $ move t (1 ∷ 0 ∷ []) $
-      use2 W (‵ (cells (memOf u64) zeros l 0)) (array-made 𝓤 H A W u64 tt 384 l (uint-copy 𝓤 H A W w64) 0 (vint w64 0)) $ s)
+      use2 W (‵ (cells (memOf u64) zeros l 0)) (array-made 𝓤 H A W u64 tt guestsLong l (uint-copy 𝓤 H A W w64) 0 (vint w64 0)) $ s)
 
-  pub lends-rows : K → {i j k l lp ls : ℕ} {m : Mutability} {τ τ′ : Ty} → On 𝓤 H E i τ l → On 𝓤 H E j (tyRef erased m τ′) lp → On 𝓤 H E k (sliceTy (tyRef erased m (tyInt w64))) ls → (n : ℕ) → n ≡ 384
+  pub lends-rows : K → {i j k l lp ls : ℕ} {m : Mutability} {τ τ′ : Ty} → On 𝓤 H E i τ l → On 𝓤 H E j (tyRef erased m τ′) lp → On 𝓤 H E k (sliceTy (tyRef erased m (tyInt w64))) ls → (n : ℕ) → n ≡ guestsLong
       → Step K W (‵ (fat fullShare (tyRef erased m τ′) lp 0 (vptr l 0)) ∷ ‵ (fat fullShare (sliceTy (tyRef erased m (tyInt w64))) ls 0 (sliceVal (l, 0) n)) ∷ Γ) (runs C Λ E rest qq)
       (‵ (froom (tyRef erased m τ′) lp 0) ∷ ‵ (froom (sliceTy (tyRef erased m (tyInt w64))) ls 0) ∷ Γ)
-      (runs C Λ E (seq (assign (place j []) (addrOf (place i []))) (seq (assign (place k []) (aggregate (copy (place j []) ∷ int w64 384 ∷ []))) rest)) qq)
+      (runs C Λ E (seq (assign (place j []) (addrOf (place i []))) (seq (assign (place k []) (aggregate (copy (place j []) ∷ int w64 guestsLong ∷ []))) rest)) qq)
   lends-rows t {l = l} {ls = ls} {m = m} ei ej ek n e = step (λ s.
       assigns t (addr t (from-on t ei (stop t))) (from-on t ej (stop t)) (init t 0 refl (tt, tt)) $
       assigns t (agg t (and-then t (load t (from-on t ej (stop t)) (look t 0 refl)) (and-then t (lit t tt) (no-more t)))) (from-on t ek (stop t)) (init t 1 refl (tt, (tt, (record { fits = lit< tt }, tt)))) $
       rewrite t 1 (λ (x : ℕ). ‵ (fat fullShare (sliceTy (tyRef erased m (tyInt w64))) ls 0 (sliceVal (l, 0) x))) (sym e) refl $ s)
 
-  pub relends : K → {i j k lx lp ls b o n : ℕ} {ℓ : Lifetime} {m m′ : Mutability} {τ τ′ τ″ : Ty} → n < 2 ^ 64 → On 𝓤 H E i (sliceTy (tyRef ℓ m τ)) lx → On 𝓤 H E j (tyRef erased m′ τ′) lp → On 𝓤 H E k (sliceTy (tyRef erased m′ τ′)) ls
-      → Step K W (‵ (fat fullShare (sliceTy (tyRef ℓ m τ)) lx 0 (sliceVal (b, o) n)) ∷ ‵ (fat fullShare (tyRef erased m′ τ′) lp 0 (vptr b o)) ∷ ‵ (fat fullShare (sliceTy (tyRef erased m′ τ′)) ls 0 (sliceVal (b, o) n)) ∷ Γ) (runs C Λ E rest qq)
-      (‵ (fat fullShare (sliceTy (tyRef ℓ m τ)) lx 0 (sliceVal (b, o) n)) ∷ ‵ (froom (tyRef erased m′ τ′) lp 0) ∷ ‵ (froom (sliceTy (tyRef erased m′ τ′)) ls 0) ∷ Γ)
-      (runs C Λ E (seq (assign (place j []) (addrOf (place i (field 0 ∷ deref τ″ ∷ [])))) (seq (assign (place k []) (aggregate (copy (place j []) ∷ copy (place i (field 1 ∷ [])) ∷ []))) rest)) qq)
-  relends t fits ei ej ek = step (λ s.
-      assigns t (addr t (from-on t ei (fld t refl (hop t (look-in t 0 (sub t 0 refl (whole t))) (stop t))))) (from-on t ej (stop t)) (init t 1 refl (tt, tt)) $
-      assigns t (agg t (and-then t (load t (from-on t ej (stop t)) (look t 1 refl)) (and-then t (load t (from-on t ei (fld t refl (stop t))) (look-in t 0 (sub t 1 refl (whole t)))) (no-more t)))) (from-on t ek (stop t)) (init t 2 refl (tt, (tt, (record { fits = fits }, tt)))) $ s)
-
 module _ {M : Type 1} {𝓤 : URA M} {H : Heap 𝓤} {A : Atoms 𝓤} {K : Type 0} {W : Given 𝓤 H A} {Γ : List (Item 𝓤)} {G : Goal 𝓤 H} where
-  pub rows-gone : K → {l : ℕ} (rs : List ℕ) → length rs ≡ 384 → Step K W (‵ (froom (tyArray (tyInt w64) 384) l 0) ∷ Γ) G (‵ (cells (memOf u64) rs l 0) ∷ Γ) G
-  rows-gone t {l} rs e = use1 W (‵ (froom (tyArray (tyInt w64) 384) l 0)) (array-gone 𝓤 H A W u64 tt 384 l rs e)
+  pub rows-gone : K → {l : ℕ} (rs : List ℕ) → length rs ≡ guestsLong → Step K W (‵ (froom (tyArray (tyInt w64) guestsLong) l 0) ∷ Γ) G (‵ (cells (memOf u64) rs l 0) ∷ Γ) G
+  rows-gone t {l} rs e = use1 W (‵ (froom (tyArray (tyInt w64) guestsLong) l 0)) (array-gone 𝓤 H A W u64 tt guestsLong l rs e)
 
 -- ---- the calls of unpack and pack, with the statements that lend
-module _ {M : Type 1} (𝓤 : URA M) (H : Heap 𝓤) (A : Atoms 𝓤) (W : Given 𝓤 H A) (mem : Memory → SProp 𝓤) (run : Routine → Fun 𝓤) (κ : Lft) (q : Share) (x : RefT (List Guest)) (k : ℕ) (room : Room Rec (length (x .now))) (few : k ≤ length (x .now)) (wide : k * 6 ≤ 384) (fits : k < 2 ^ 64) where
+module _ {M : Type 1} (𝓤 : URA M) (H : Heap 𝓤) (A : Atoms 𝓤) (W : Given 𝓤 H A) (mem : Memory → SProp 𝓤) (run : Routine → Fun 𝓤) (κ : Lft) (q : Share) (x : RefT (List Guest)) (k : ℕ) (room : Room Rec (length (x .now))) (few : k ≤ length (x .now)) (wide : k * guestWide ≤ guestsLong) (fits : k < 2 ^ 64) where
   abbrev gs : List Guest
   gs = x .now
 
@@ -125,27 +106,27 @@ module _ {M : Type 1} (𝓤 : URA M) (H : Heap 𝓤) (A : Atoms 𝓤) (W : Given
         (‵ (Guests κ γ b o gs (length gs)) ∷ ‵ (flft κ q) ∷ ‵ (cells (memOf u64) zeros l 0) ∷ ‵ (fat fullShare (tyInt w64) lw 0 (vint w64 k)) ∷ ‵ (fat fullShare (sliceTy (tyRef ℓ m τ)) lg 0 s)
         ∷ ‵ (froom (tyRef erased imm τ′) l₁ 0) ∷ ‵ (froom (Slice imm τ′) l₂ 0) ∷ ‵ (froom (tyRef erased mut τ₃) l₃ 0) ∷ ‵ (froom (Slice mut (tyInt w64)) l₄ 0) ∷ ‵ (froom tyUnit lu 0) ∷ Γ)
         (runs C Λ E (seq (assign (place i₁ []) (addrOf (place ig (field 0 ∷ deref τ″ ∷ [])))) (seq (assign (place i₂ []) (aggregate (copy (place i₁ []) ∷ copy (place ig (field 1 ∷ [])) ∷ [])))
-        (seq (assign (place i₃ []) (addrOf (place ir []))) (seq (assign (place i₄ []) (aggregate (copy (place i₃ []) ∷ int w64 384 ∷ []))) (seq (call #records·guests·unpack (copy (place i₂ []) ∷ copy (place iw []) ∷ copy (place i₄ []) ∷ []) (place iu [])) rest))))) qq)
+        (seq (assign (place i₃ []) (addrOf (place ir []))) (seq (assign (place i₄ []) (aggregate (copy (place i₃ []) ∷ int w64 guestsLong ∷ []))) (seq (call #records·guests·unpack (copy (place i₂ []) ∷ copy (place iw []) ∷ copy (place i₄ []) ∷ []) (place iu [])) rest))))) qq)
     unpacks t fm known ew eg er e₁ e₂ e₃ e₄ eu = step (λ z.
         move t (4 ∷ 5 ∷ 6 ∷ []) $ relends t (room .0) eg e₁ e₂ $ move t (7 ∷ 8 ∷ []) $ lends-rows t er e₃ e₄ (length zeros) zeros-long $
         -- [p; s of the numbers; x; p; s of the records; the records; their token; the zeros; wanted; _]
         move t (5 ∷ 6 ∷ 7 ∷ []) $
-        calls-unpack 𝓤 H A W mem run κ q γ b o gs zeros l k room (room-of zeros zeros-long) few (subst (λ (m : ℕ). k * 6 ≤ m) (sym zeros-long) wide) fits t fm known
+        calls-unpack 𝓤 H A W mem run κ q γ b o gs zeros l k room (room-of zeros zeros-long) few (subst (λ (m : ℕ). k * guestWide ≤ m) (sym zeros-long) wide) fits t fm known
         (λ i j. and-then t (load t (from-on t e₂ (stop t)) (look t 6 refl)) (and-then t (load t (from-on t ew (stop t)) (look t 7 refl)) (and-then t (load t (from-on t e₄ (stop t)) (look t 3 refl)) (no-more t)))) $
         land t (from-on t eu (stop t)) (init t 9 refl (tt, tt)) $ move t (0 ∷ 1 ∷ 2 ∷ 8 ∷ 5 ∷ 6 ∷ 7 ∷ 3 ∷ 4 ∷ 9 ∷ []) $ z)
 
-    pub packs : K → FmC 𝓤 H (W .laws) C → Triple 𝓤 (C #records·guests·pack) (Pack 𝓤 H A mem run) → (rs : List ℕ) → length rs ≡ 384
+    pub packs : K → FmC 𝓤 H (W .laws) C → Triple 𝓤 (C #records·guests·pack) (Pack 𝓤 H A mem run) → (rs : List ℕ) → length rs ≡ guestsLong
         → On 𝓤 H E iw (tyInt w64) lw → On 𝓤 H E ig (sliceTy (tyRef ℓ m τ)) lg → On 𝓤 H E ir τr l → On 𝓤 H E i₁ (tyRef erased imm τ₃) l₁ → On 𝓤 H E i₂ (Slice imm (tyInt w64)) l₂ → On 𝓤 H E i₃ (tyRef erased mut τ′) l₃ → On 𝓤 H E i₄ (Slice mut τ′) l₄ → On 𝓤 H E iu tyUnit lu
         → Step K W (‵ (Guests κ γ b o (packed rs gs k) (length gs)) ∷ ‵ (flft κ q) ∷ ‵ (cells (memOf u64) rs l 0) ∷ ‵ (fat fullShare (tyInt w64) lw 0 (vint w64 k)) ∷ ‵ (fat fullShare (sliceTy (tyRef ℓ m τ)) lg 0 s)
         ∷ ‵ (fat fullShare (tyRef erased imm τ₃) l₁ 0 (vptr l 0)) ∷ ‵ (fat fullShare (Slice imm (tyInt w64)) l₂ 0 (sliceVal (l, 0) (length rs))) ∷ ‵ (fat fullShare (tyRef erased mut τ′) l₃ 0 (vptr b o)) ∷ ‵ (fat fullShare (Slice mut τ′) l₄ 0 s) ∷ ‵ (fat fullShare tyUnit lu 0 vunit) ∷ Γ) (runs C Λ E rest qq)
         (‵ (Guests κ γ b o gs (length gs)) ∷ ‵ (flft κ q) ∷ ‵ (cells (memOf u64) rs l 0) ∷ ‵ (fat fullShare (tyInt w64) lw 0 (vint w64 k)) ∷ ‵ (fat fullShare (sliceTy (tyRef ℓ m τ)) lg 0 s)
         ∷ ‵ (froom (tyRef erased imm τ₃) l₁ 0) ∷ ‵ (froom (Slice imm (tyInt w64)) l₂ 0) ∷ ‵ (froom (tyRef erased mut τ′) l₃ 0) ∷ ‵ (froom (Slice mut τ′) l₄ 0) ∷ ‵ (fat fullShare tyUnit lu 0 vunit) ∷ Γ)
-        (runs C Λ E (seq (assign (place i₁ []) (addrOf (place ir []))) (seq (assign (place i₂ []) (aggregate (copy (place i₁ []) ∷ int w64 384 ∷ [])))
+        (runs C Λ E (seq (assign (place i₁ []) (addrOf (place ir []))) (seq (assign (place i₂ []) (aggregate (copy (place i₁ []) ∷ int w64 guestsLong ∷ [])))
         (seq (assign (place i₃ []) (addrOf (place ig (field 0 ∷ deref τ″ ∷ [])))) (seq (assign (place i₄ []) (aggregate (copy (place i₃ []) ∷ copy (place ig (field 1 ∷ [])) ∷ []))) (seq (call #records·guests·pack (copy (place i₂ []) ∷ copy (place iw []) ∷ copy (place i₄ []) ∷ []) (place iu [])) rest))))) qq)
     packs t fm known rs e ew eg er e₁ e₂ e₃ e₄ eu = step (λ z.
         move t (5 ∷ 6 ∷ []) $ lends-rows t er e₁ e₂ (length rs) e $ move t (6 ∷ 7 ∷ 8 ∷ []) $ relends t (room .0) eg e₃ e₄ $
         -- [x; p; s of the records; p; s of the numbers; the records; their token; the numbers; wanted; _]
         move t (5 ∷ 6 ∷ 7 ∷ []) $
-        calls-pack 𝓤 H A W mem run κ q γ b o gs rs l k room (room-of rs e) few (subst (λ (m : ℕ). k * 6 ≤ m) (sym e) wide) fits t fm known
+        calls-pack 𝓤 H A W mem run κ q γ b o gs rs l k room (room-of rs e) few (subst (λ (m : ℕ). k * guestWide ≤ m) (sym e) wide) fits t fm known
         (λ i j. and-then t (load t (from-on t e₂ (stop t)) (look t 6 refl)) (and-then t (load t (from-on t ew (stop t)) (look t 7 refl)) (and-then t (load t (from-on t e₄ (stop t)) (look t 4 refl)) (no-more t)))) $
         land t (from-on t eu (stop t)) (store t 9 refl (tt, tt)) $ move t (0 ∷ 1 ∷ 2 ∷ 8 ∷ 3 ∷ 6 ∷ 7 ∷ 4 ∷ 5 ∷ 9 ∷ []) $ z)

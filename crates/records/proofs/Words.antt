@@ -43,15 +43,17 @@ pub use denote.Triple.Walked.{says, Stays, stay-none, stay-none-slice, stay-slic
 pub use Rattle.rules.specs.declared.Guest.{Guest}
 pub use Rattle.rules.specs.declared.Gate.{Gate}
 pub use Rattle.rules.specs.declared.Outcome.{Outcome}
-pub use Rattle.rules.specs.Events.{Event}
+pub use Rattle.rules.specs.declared.Event.{Event}
+pub use Rattle.table.specs.Columns.{guestWide, guestsLong}
 pub use Rattle.table.specs.View.{Handed}
 pub use Rattle.gate.specs.Promise.{seen, called, opened}
 pub use Rattle.records.specs.Records.{inPart}
 pub use Rattle.records.proofs.Rec.{Rec}
-pub use Rattle.records.proofs.ByValue.{GateR, Gate-val, Gate-vals, Gate-tells, Gate-makes, Gate-typed, Gate-guests-ok, OutcomeR, Outcome-typed}
-pub use Rattle.records.proofs.Steps.{alloc, apart, apart4, apart8, gives, gone, gone4, gone8}
-pub use Rattle.records.proofs.Copies.{count, rows, brought, count-lent, count-room, length-rows-384, length-brought}
+pub use Rattle.records.proofs.ByValue.{GateR, Gate-val, Gate-vals, Gate-tells, Gate-makes, Gate-typed, Gate-guests-ok, EventR, Event-val, Event-vals, Event-tells, Event-makes, Event-typed, OutcomeR, Outcome-typed}
+pub use Rattle.lent.proofs.Steps.{alloc, apart, apart4, apart8, gives, gone, gone4, gone8}
+pub use Rattle.records.proofs.Copies.{count, rows, brought, count-lent, count-room, length-all, length-brought}
 pub use Rattle.records.proofs.Home.{at-home, called-home, opened-home}
 pub use Rattle.records.proofs.CallUsed.{Used, calls-used}
 pub use Rattle.records.proofs.CallCopies.{Unpack, Pack}
-pub use Rattle.records.proofs.Statements.{sv, Records, room-of, makes-rows, lends-rows, relends, unpacks, packs, rows-gone}
+pub use Rattle.lent.proofs.Statements.{sv, relends}
+pub use Rattle.records.proofs.Statements.{Records, room-of, makes-rows, lends-rows, unpacks, packs, rows-gone}

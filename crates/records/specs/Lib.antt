@@ -1,4 +1,2 @@
 pub mod Records
-pub mod RecordsLaws
 pub mod Promise
-pub mod Needs

@@ -1,8 +1,11 @@
-// The thin functions over a lent slice of guest records. Only `read` and `write` touch the slice, one record each; a record's six numbers
+// The thin functions over a lent slice of guest records. Only `read` and `write` touch the slice, one record each; a record's numbers
 // stand in a lent list of numbers, a row for each record.
 use rules::Guest;
+use rules::Settings;
+use table::columns::GUEST_WIDE;
 use table::columns::LIMIT;
 use table::columns::LNEXT;
+use table::columns::MOST_GUESTS;
 use table::columns::RESERVATION;
 use table::columns::RNEXT;
 use table::columns::SHARES;
@@ -14,7 +17,9 @@ ghost use lib.ListN.{length, getD, set, take, drop};
 ghost use Rattle.lists.specs.Stores.{stores};
 ghost use Rattle.lists.specs.Lines.{lineAt};
 ghost use Rattle.lists.specs.Rows.{rowsOf, overRows};
-ghost use Rattle.records.specs.Records.{recordForm, blank, inUse};
+ghost use Rattle.table.specs.Columns.{guestWide};
+ghost use Rattle.table.specs.View.{guestForm};
+ghost use Rattle.records.specs.Records.{blank, inUse};
 
 // The smaller of two numbers.
 pub fn least(a: usize, b: usize) -> usize
@@ -31,7 +36,7 @@ pub fn used(wanted: u64, lent: usize) -> usize
     ensures { λ r. ⌜ r ≡ inUse wanted lent ⌝ }
 {
     let whole = wanted as usize;
-    least(whole, least(lent, 64))
+    least(whole, least(lent, MOST_GUESTS))
 }
 
 // The record at place `at` of the lent slice.
@@ -50,38 +55,40 @@ pub fn write(guests: &mut [Guest], at: usize, guest: Guest)
     guests[at] = guest;
 }
 
-// Writes a record into its row of six numbers.
+// Writes a record into its row of numbers.
 pub fn put_row(rows: &mut [u64], at: usize, guest: Guest)
-    requires { ⌜ at * 6 + 6 ≤ length (now rows) ⌝ }
-    ensures { λ _. ⌜ now (rows .exit) ≡ stores (λ j. at * 6 + j) (λ j. getD (recordForm .line guest) j 0) 6 (now (rows .entry)) ⌝ }
+    requires { ⌜ at * guestWide + guestWide ≤ length (now rows) ⌝ }
+    ensures { λ _. ⌜ now (rows .exit) ≡ stores (λ j. at * guestWide + j) (λ j. getD (guestForm .line guest) j 0) guestWide (now (rows .entry)) ⌝ }
 {
-    rows[at * 6 + RESERVATION] = guest.reservation;
-    rows[at * 6 + LIMIT] = guest.limit;
-    rows[at * 6 + SHARES] = guest.shares;
-    rows[at * 6 + RNEXT] = guest.rnext;
-    rows[at * 6 + LNEXT] = guest.lnext;
-    rows[at * 6 + SNEXT] = guest.snext;
+    rows[at * GUEST_WIDE + RESERVATION] = guest.settings.reservation;
+    rows[at * GUEST_WIDE + LIMIT] = guest.settings.limit;
+    rows[at * GUEST_WIDE + SHARES] = guest.settings.shares;
+    rows[at * GUEST_WIDE + RNEXT] = guest.rnext;
+    rows[at * GUEST_WIDE + LNEXT] = guest.lnext;
+    rows[at * GUEST_WIDE + SNEXT] = guest.snext;
 }
 
-// The record that a row of six numbers holds.
+// The record that a row of numbers holds.
 pub fn row_at(rows: &[u64], at: usize) -> Guest
-    requires { ⌜ at * 6 + 6 ≤ length (now rows) ⌝ }
-    ensures { λ r. ⌜ r ≡ recordForm .read (lineAt 6 (now (rows .entry)) at) ⌝ }
+    requires { ⌜ at * guestWide + guestWide ≤ length (now rows) ⌝ }
+    ensures { λ r. ⌜ r ≡ guestForm .read (lineAt guestWide (now (rows .entry)) at) ⌝ }
 {
     Guest {
-        reservation: rows[at * 6 + RESERVATION],
-        limit: rows[at * 6 + LIMIT],
-        shares: rows[at * 6 + SHARES],
-        rnext: rows[at * 6 + RNEXT],
-        lnext: rows[at * 6 + LNEXT],
-        snext: rows[at * 6 + SNEXT],
+        settings: Settings {
+            reservation: rows[at * GUEST_WIDE + RESERVATION],
+            limit: rows[at * GUEST_WIDE + LIMIT],
+            shares: rows[at * GUEST_WIDE + SHARES],
+        },
+        rnext: rows[at * GUEST_WIDE + RNEXT],
+        lnext: rows[at * GUEST_WIDE + LNEXT],
+        snext: rows[at * GUEST_WIDE + SNEXT],
     }
 }
 
 // Writes the first `count` records into their rows; numbers past them stay.
 pub fn unpack(guests: &[Guest], count: usize, rows: &mut [u64])
-    requires { ⌜ (count ≤ length (now guests)) × (count * 6 ≤ length (now rows)) ⌝ }
-    ensures { λ _. ⌜ now (rows .exit) ≡ overRows recordForm count (take count (now (guests .entry))) (now (rows .entry)) ⌝ }
+    requires { ⌜ (count ≤ length (now guests)) × (count * guestWide ≤ length (now rows)) ⌝ }
+    ensures { λ _. ⌜ now (rows .exit) ≡ overRows guestForm count (take count (now (guests .entry))) (now (rows .entry)) ⌝ }
 {
     let mut i: usize = 0;
     while i < count {
@@ -93,8 +100,8 @@ pub fn unpack(guests: &[Guest], count: usize, rows: &mut [u64])
 
 // Writes what the first `count` rows hold into the first records; records past them stay.
 pub fn pack(rows: &[u64], count: usize, guests: &mut [Guest])
-    requires { ⌜ (count ≤ length (now guests)) × (count * 6 ≤ length (now rows)) ⌝ }
-    ensures { λ _. ⌜ now (guests .exit) ≡ rowsOf recordForm (now (rows .entry)) count ++ drop count (now (guests .entry)) ⌝ }
+    requires { ⌜ (count ≤ length (now guests)) × (count * guestWide ≤ length (now rows)) ⌝ }
+    ensures { λ _. ⌜ now (guests .exit) ≡ rowsOf guestForm (now (rows .entry)) count ++ drop count (now (guests .entry)) ⌝ }
 {
     let mut i: usize = 0;
     while i < count {

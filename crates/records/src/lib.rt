@@ -7,67 +7,28 @@ mod part; // the calls over numbers on the rows in use
 use crate::guests::pack;
 use crate::guests::unpack;
 use crate::guests::used;
+use rules::Event;
 use rules::Gate;
 use rules::Guest;
 use rules::Outcome;
+use table::columns::GUESTS_LONG;
 ghost use mathlib.Core.Path.{_≡_};
-ghost use Rattle.rules.specs.Events.{Event};
 ghost use Rattle.records.specs.Promise.{seen, called, opened};
 
-// An arrival.
-pub fn arrive(
+// One event: an arrival, a completion or a tick.
+pub fn call(
     gate: Gate,
     guests: &mut [Guest],
     waiting: &mut [u64],
     flight: &mut [u64],
-    guest: u64,
-    id: u32,
-    time: u64,
+    event: Event,
 ) -> Outcome
-    ensures { λ r. ⌜ seen (r, now (guests .exit), now (waiting .exit), now (flight .exit)) ≡ seen (called (Event.arrival (record { guest = guest; id = id }) time) gate (now (guests .entry)) (now (waiting .entry)) (now (flight .entry))) ⌝ }
+    ensures { λ r. ⌜ seen (r, now (guests .exit), now (waiting .exit), now (flight .exit)) ≡ seen (called event gate (now (guests .entry)) (now (waiting .entry)) (now (flight .entry))) ⌝ }
 {
-    let mut rows: [u64; 384] = [0; 384];
+    let mut rows: [u64; GUESTS_LONG] = [0; GUESTS_LONG];
     let count = used(gate.guests, guests.len());
     unpack(guests, count, &mut rows);
-    let r = part::arrive(gate, &mut rows, count, waiting, flight, guest, id, time);
-    pack(&rows, count, guests);
-    r
-}
-
-// A completion.
-pub fn complete(
-    gate: Gate,
-    guests: &mut [Guest],
-    waiting: &mut [u64],
-    flight: &mut [u64],
-    guest: u64,
-    id: u32,
-    time: u64,
-) -> Outcome
-    ensures { λ r. ⌜ seen (r, now (guests .exit), now (waiting .exit), now (flight .exit)) ≡ seen (called (Event.completion (record { guest = guest; id = id }) time) gate (now (guests .entry)) (now (waiting .entry)) (now (flight .entry))) ⌝ }
-{
-    let mut rows: [u64; 384] = [0; 384];
-    let count = used(gate.guests, guests.len());
-    unpack(guests, count, &mut rows);
-    let r = part::complete(gate, &mut rows, count, waiting, flight, guest, id, time);
-    pack(&rows, count, guests);
-    r
-}
-
-// A tick.
-pub fn tick(
-    gate: Gate,
-    guests: &mut [Guest],
-    waiting: &mut [u64],
-    flight: &mut [u64],
-    time: u64,
-) -> Outcome
-    ensures { λ r. ⌜ seen (r, now (guests .exit), now (waiting .exit), now (flight .exit)) ≡ seen (called (Event.tick time) gate (now (guests .entry)) (now (waiting .entry)) (now (flight .entry))) ⌝ }
-{
-    let mut rows: [u64; 384] = [0; 384];
-    let count = used(gate.guests, guests.len());
-    unpack(guests, count, &mut rows);
-    let r = part::tick(gate, &mut rows, count, waiting, flight, time);
+    let r = part::call(gate, &mut rows, count, waiting, flight, event);
     pack(&rows, count, guests);
     r
 }
@@ -84,7 +45,7 @@ pub fn open(
 ) -> Outcome
     ensures { λ r. ⌜ seen (r, now (guests .exit), now (waiting .exit), now (flight .exit)) ≡ seen (opened depth known capacity (now (settings .entry)) (now (guests .entry)) (now (waiting .entry)) (now (flight .entry))) ⌝ }
 {
-    let mut rows: [u64; 384] = [0; 384];
+    let mut rows: [u64; GUESTS_LONG] = [0; GUESTS_LONG];
     let count = used(known, guests.len());
     unpack(guests, count, &mut rows);
     let r = part::open(

@@ -19,7 +19,7 @@ use Rattle.rules.specs.Refusals.{passing}
 use Rattle.rules.proofs.Spacings.{no-down, no-up}
 use Rattle.rules.proofs.Names.{distinct-mid, names-mid}
 use Rattle.rules.proofs.Chains.{kept-same, kept-shift, kept-snoc}
-use Rattle.rules.proofs.Settings.{same-ranges, same-count, placed-settings, adjusted-settings}
+use Rattle.rules.proofs.SameSettings.{same-ranges, same-count, placed-settings, adjusted-settings}
 use Rattle.rules.proofs.Facts.{Sound, orderly-is, is-orderly}
 
 -- what an arrival finds and leaves, but for the tags, which it tests, and the number of those that wait

@@ -12,7 +12,7 @@ use Rattle.rules.specs.Choice.{sending, choice}
 use Rattle.rules.specs.Events.{Event, moment, enter}
 use Rattle.rules.specs.Refusals.{accepted}
 use Rattle.rules.specs.Run.{step, after}
-use Rattle.rules.proofs.Settings.{run-settings}
+use Rattle.rules.proofs.SameSettings.{run-settings}
 use Rattle.rules.proofs.Facts.{sound-is}
 use Rattle.rules.proofs.Drops.{dropped-time}
 use Rattle.rules.proofs.EnterSound.{accepted-later, enter-time}

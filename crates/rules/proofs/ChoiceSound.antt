@@ -15,7 +15,7 @@ use Rattle.rules.specs.Choice.{sending, earlier, sooner, dropOf, dropped
 use Rattle.rules.proofs.Spacings.{down-le, up-le, no-down}
 use Rattle.rules.proofs.Names.{distinct-last, names-mid, names-sent}
 use Rattle.rules.proofs.Chains.{kept-tail, kept-above, kept-same, kept-drop}
-use Rattle.rules.proofs.Settings.{same-ranges, same-count, sending-settings, dropped-settings}
+use Rattle.rules.proofs.SameSettings.{same-ranges, same-count, sending-settings, dropped-settings}
 use Rattle.rules.proofs.Facts.{Sound, orderly-is, is-orderly, Lawful, lawful-is, waiting-known, any-orderly}
 use Rattle.rules.proofs.Picks.{Goes, due-goes, open-goes}
 use Rattle.rules.proofs.Drops.{dropped-names, dropped-length, dropped-flight, dropped-time, dropped-lawful, dropped-own, dropped-owner, dropped-others, dropped-other}

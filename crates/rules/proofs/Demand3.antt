@@ -139,7 +139,7 @@ demand-3 t a b x es s w d =
     let goes = begins-run es t (map name (those ++ (x ∷ []))) (front-of t a b x w d) in
     (those, refl, sorted-perm (ahead t x a b), length-sorted (ahead t x a b), in-turn those x (atFree t es) goes)
 
--- "then this request at the (k+1)th": the answer at place k, counted from 0
+-- demand 3, "then this request at the (k+1)th": the answer at place k, counted from 0
 pub demand-3-at : (t : Table) (a b : List Request) (x : Request) (es : List Event) → sound t ≡ true → t .waiting ≡ a ++ x ∷ b → isDue t x ≡ true
     → (k : ℕ) → k ≡ length (ahead t x a b) → k < length (atFree t es) → getD (atFree t es) k Nothing ≡ sentByReservation x
 demand-3-at t a b x es s w d k e h =

@@ -12,7 +12,7 @@ use Rattle.lists.specs.WordsLaws.{all-append, all-parts, all-without, length-wi
 use Rattle.rules.specs.Numbers.{ceiling}
 use Rattle.rules.specs.Tables.{Flight, Table, name, same, lacks, names}
 use Rattle.rules.specs.Sound.{ranges, sound}
-use Rattle.rules.specs.Events.{Event, arrival, completion, tick, moment, calledBy, placed, arriveAs, arrive, complete, wait, enter}
+use Rattle.rules.specs.Events.{Event, Arrival, Completion, Tick, moment, calledBy, placed, arriveAs, arrive, complete, wait, enter}
 use Rattle.rules.specs.Refusals.{tests, eventTests, accepted}
 use Rattle.rules.proofs.Judged.{condition, passed}
 use Rattle.rules.proofs.Names.{distinct-without}
@@ -62,32 +62,32 @@ accepted-finds t e h = sound-is t (not-false (sound t) (passed (tests false (not
 -- its time is not above the ceiling
 pub accepted-fits : (t : Table) (e : Event) → accepted t e ≡ true → moment e ≤ ceiling
 unfolding eventTests
-accepted-fits t (arrival a now) h = ltb-false ceiling now (passed (tests false (not (sound t)) t (arrival a now)) h 5)
-accepted-fits t (completion f now) h = ltb-false ceiling now (passed (tests false (not (sound t)) t (completion f now)) h 5)
-accepted-fits t (tick now) h = ltb-false ceiling now (passed (tests false (not (sound t)) t (tick now)) h 5)
+accepted-fits t (Arrival a now) h = ltb-false ceiling now (passed (tests false (not (sound t)) t (Arrival a now)) h 5)
+accepted-fits t (Completion f now) h = ltb-false ceiling now (passed (tests false (not (sound t)) t (Completion f now)) h 5)
+accepted-fits t (Tick now) h = ltb-false ceiling now (passed (tests false (not (sound t)) t (Tick now)) h 5)
 
 -- and not before the table's
 pub accepted-later : (t : Table) (e : Event) → accepted t e ≡ true → t .time ≤ moment e
 unfolding eventTests
-accepted-later t (arrival a now) h = ltb-false now (t .time) (passed (tests false (not (sound t)) t (arrival a now)) h 6)
-accepted-later t (completion f now) h = ltb-false now (t .time) (passed (tests false (not (sound t)) t (completion f now)) h 6)
-accepted-later t (tick now) h = ltb-false now (t .time) (passed (tests false (not (sound t)) t (tick now)) h 6)
+accepted-later t (Arrival a now) h = ltb-false now (t .time) (passed (tests false (not (sound t)) t (Arrival a now)) h 6)
+accepted-later t (Completion f now) h = ltb-false now (t .time) (passed (tests false (not (sound t)) t (Completion f now)) h 6)
+accepted-later t (Tick now) h = ltb-false now (t .time) (passed (tests false (not (sound t)) t (Tick now)) h 6)
 
 -- the choice is made at the event's own time
 pub enter-time : (t : Table) (e : Event) → (enter t e) .time ≡ moment e
 unfolding enter arrive arriveAs placed complete wait
-enter-time t (arrival a now) = refl
-enter-time t (completion f now) = refl
-enter-time t (tick now) = refl
+enter-time t (Arrival a now) = refl
+enter-time t (Completion f now) = refl
+enter-time t (Tick now) = refl
 
 -- An accepted event enters the table soundly.
 pub enter-sound : (t : Table) (e : Event) → accepted t e ≡ true → Sound (enter t e)
 unfolding eventTests enter
-enter-sound t (arrival a now) h =
-    let no : (n : ℕ) → condition n (tests false (not (sound t)) t (arrival a now)) ≡ false = passed (tests false (not (sound t)) t (arrival a now)) h in
-    let s = accepted-finds t (arrival a now) h in
+enter-sound t (Arrival a now) h =
+    let no : (n : ℕ) → condition n (tests false (not (sound t)) t (Arrival a now)) ≡ false = passed (tests false (not (sound t)) t (Arrival a now)) h in
+    let s = accepted-finds t (Arrival a now) h in
     let full : length (t .waiting) ≡ t .setup .capacity → ⊥ = eqb-false (length (t .waiting)) (t .setup .capacity) (no 8) in
     arrive-sound t s now a (leb-false (length (t .guests)) (a .guest) (no 4)) (not-false (lacks (calledBy a) (names t)) (no 7))
-    (accepted-fits t (arrival a now) h) (omega (arith, s .waiting-fits)) (no 9)
-enter-sound t (completion f now) h = complete-sound now f t (accepted-finds t (completion f now) h) (accepted-fits t (completion f now) h)
-enter-sound t (tick now) h = wait-sound now t (accepted-finds t (tick now) h) (accepted-fits t (tick now) h)
+    (accepted-fits t (Arrival a now) h) (omega (arith, s .waiting-fits)) (no 9)
+enter-sound t (Completion f now) h = complete-sound now f t (accepted-finds t (Completion f now) h) (accepted-fits t (Completion f now) h)
+enter-sound t (Tick now) h = wait-sound now t (accepted-finds t (Tick now) h) (accepted-fits t (Tick now) h)

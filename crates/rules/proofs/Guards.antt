@@ -6,7 +6,7 @@ use Prim.Native.Nat.{ℕ, suc}
 use lib.ListN.{replicate}
 use Rattle.rules.specs.Numbers.{ceiling}
 use Rattle.rules.specs.Tables.{Settings, Guest, Request, Table}
-use Rattle.rules.specs.Events.{Event, arrival, tick}
+use Rattle.rules.specs.Events.{Event, Arrival, Tick}
 use Rattle.rules.specs.Run.{fresh}
 use Rattle.rules.proofs.Trials.{ms, settings, comes, ends, three, -, R, W, X, lines, waitingAfter, guestsAfter, flightAfter, named}
 
@@ -20,7 +20,7 @@ owed = settings 1 0 1
 
 -- an arrival at a time in nanoseconds
 abbrev comesAt : (g i : ℕ) → ℕ → Event
-comesAt g i n = arrival (record { guest = g; id = i }) n
+comesAt g i n = Arrival (record { guest = g; id = i }) n
 
 -- a fresh table with one place at the array and eight to wait; so of three arrivals of one guest at 0 one is in flight and two wait
 abbrev gate : List Settings → Table
@@ -61,7 +61,7 @@ third = gate (settings 3 3 3 ∷ [])
 -- the readings
 pub record Guards : Type 0 where
   -- "Time 2^62 − 1 is accepted, 2^62 is refused 5."
-  pub last-time : lines (gate (free ∷ [])) (tick ceiling ∷ tick (suc ceiling) ∷ []) ≡ - ∷ X 5 ∷ []
+  pub last-time : lines (gate (free ∷ [])) (Tick ceiling ∷ Tick (suc ceiling) ∷ []) ≡ - ∷ X 5 ∷ []
   -- "A second arrival of one guest at 2^62 − 1, with a new id and room to wait, is refused 9": a tag given passes the ceiling
   pub last-arrival : lines (gate (free ∷ [])) (comesAt 0 1 ceiling ∷ comesAt 0 2 ceiling ∷ []) ≡ W 0 1 ∷ X 9 ∷ []
   -- a share tag moved passes the ceiling: that of id 3, one second behind the smallest
@@ -72,7 +72,7 @@ pub record Guards : Type 0 where
   -- "Guest 64 of 64 (number 63) is known; 64 is refused 4."
   pub last-guest : lines (gate (replicate 64 free)) (comes 64 1 0 ∷ comes 63 1 0 ∷ []) ≡ X 4 ∷ W 63 1 ∷ []
   -- each event's time is judged, and an equal time is accepted
-  pub time-before : lines (gate (free ∷ [])) (comes 0 1 5 ∷ comes 0 2 4 ∷ ends 0 1 4 ∷ tick (ms 4) ∷ tick (ms 5) ∷ []) ≡ W 0 1 ∷ X 6 ∷ X 6 ∷ X 6 ∷ - ∷ []
+  pub time-before : lines (gate (free ∷ [])) (comes 0 1 5 ∷ comes 0 2 4 ∷ ends 0 1 4 ∷ Tick (ms 4) ∷ Tick (ms 5) ∷ []) ≡ W 0 1 ∷ X 6 ∷ X 6 ∷ X 6 ∷ - ∷ []
   -- an id is its guest's own: it is in use while it waits or is in flight, another guest may use it, and it is free again after its completion
   pub ids :
       lines (gate (free ∷ free ∷ [])) (comes 0 1 0 ∷ comes 0 1 0 ∷ comes 1 1 0 ∷ comes 1 1 0 ∷ ends 1 1 0 ∷ ends 0 1 0 ∷ comes 0 1 0 ∷ [])

@@ -11,7 +11,7 @@ use Rattle.rules.specs.declared.Answer.the-variants.{Nothing, Sent, Refu
 use Rattle.rules.specs.Tables.{Request, Flight, Table, idle, name, same, lacks}
 use Rattle.rules.specs.Sound.{distinct, sound}
 use Rattle.rules.specs.Choice.{Result, Pick, nobody, picked, least, due, open?, sending, dropped, byWeight, byReservation, room, choice}
-use Rattle.rules.specs.Events.{Arriving, Event, arrival, completion, tick, adjusted, placed, arriveAs, arrive, complete, wait, enter}
+use Rattle.rules.specs.Events.{Arriving, Event, Arrival, Completion, Tick, adjusted, placed, arriveAs, arrive, complete, wait, enter}
 use Rattle.rules.specs.Refusals.{accepted}
 use Rattle.rules.specs.Run.{step}
 use Rattle.rules.proofs.Facts.{sound-is}
@@ -26,9 +26,9 @@ joinedBy (Refused r) l = l
 
 -- what is in flight when the event has taken out what it names: a completion its request, the others none
 abbrev pub leftBy : Event → List Flight → List Flight
-leftBy (arrival a now) l = l
-leftBy (completion f now) l = without (same f) l
-leftBy (tick now) l = l
+leftBy (Arrival a now) l = l
+leftBy (Completion f now) l = without (same f) l
+leftBy (Tick now) l = l
 
 -- THE CHOICE
 
@@ -61,9 +61,9 @@ arrive-flight false now a t = refl
 
 enter-flight : (t : Table) (e : Event) → (enter t e) .flight ≡ leftBy e (t .flight)
 unfolding enter arrive complete wait
-enter-flight t (arrival a now) = arrive-flight (idle t (a .guest)) now a t
-enter-flight t (completion f now) = refl
-enter-flight t (tick now) = refl
+enter-flight t (Arrival a now) = arrive-flight (idle t (a .guest)) now a t
+enter-flight t (Completion f now) = refl
+enter-flight t (Tick now) = refl
 
 -- "in order of sending": an accepted event takes out what it completes, and what it sends is the last
 pub in-order-of-sending : (t : Table) (e : Event) → accepted t e ≡ true
@@ -88,7 +88,7 @@ without-mid f (x ∷ a) b h =
 
 -- "close up": in a sound table the completed request leaves, wherever it stands, and those before and behind it stay in their order
 pub closes-up : (t : Table) → sound t ≡ true → (f : Flight) (now : ℕ) (a b : List Flight) → t .flight ≡ a ++ f ∷ b
-    → leftBy (completion f now) (t .flight) ≡ a ++ b
+    → leftBy (Completion f now) (t .flight) ≡ a ++ b
 closes-up t h f now a b e =
     let d : distinct (a ++ f ∷ b) ≡ true = rw e at (distinct-right (map name (t .waiting)) (t .flight) (sound-is t h .names-once)) in
     let c = both (lacks f (a ++ b)) (distinct (a ++ b)) (rw (distinct-mid a f b) at d) in

@@ -1,30 +1,32 @@
--- The first condition that holds gives the refusal: each number is given exactly when its own condition holds and none before it does.
--- Facts of an accepted event are read by their numbers. Assumes nothing.
+-- THE LAW OF THE LISTS: tests that hold exactly where the conditions of cases do, pairwise and with the same numbers, give the number of the
+-- first case whose condition holds. Facts of a list that is accepted are read by their numbers. Assumes nothing.
 use mathlib.Core.Path.{_≡_, refl, sym, ap, _∙_}
-use mathlib.Core.Bool.{Bool, true, false, not, _&&_, true≢false, false≢true}
-use mathlib.Core.List.{List, [], _∷_, map}
-use mathlib.Core.Logic.{_↔_}
+use mathlib.Core.Bool.{Bool, true, false, false≢true}
+use mathlib.Core.List.{List, [], _∷_, map, List·Memᴰ, List·Memᴰ·head, List·Memᴰ·tail}
+use mathlib.Core.Logic.{_↔_, inl, inr, ⊎-elim}
 use Prim.Native.Nat.{ℕ}
 use lib.Dec.{eqb}
-use lib.ListN.{getD}
-use borrow.Author.Tests.{eqb-true, eqb-false, not-true}
 use Rattle.lists.specs.Words.{if_then_else_}
-use Rattle.lists.specs.WordsLaws.{both}
 use Rattle.rules.specs.Answers.{numberOf}
-use Rattle.rules.specs.Refused.{noneOf}
+use Rattle.rules.specs.Refused.{Case, FirstOf, NoneHolds}
 use Rattle.rules.specs.Refusals.{Test, Verdict, accept, refuse, judged, isAccept}
 use Rattle.rules.specs.declared.Refusal.{Refusal}
 use Rattle.rules.specs.declared.Refusal.the-variants.{BadSetting, ShortTable, Unsound, UnknownGuest, TimeAboveCeiling, TimeBeforeLast, IdInUse, NoRoom, TagAboveCeiling, NotInFlight, BadMark, BadVersion, HeaderCut, BadEvent, EventCut}
 
 -- NUMBERS
 
--- the refusals, each at the place of its number
-abbrev listed : List Refusal
-listed =
-    BadSetting ∷ BadSetting ∷ ShortTable ∷ Unsound ∷ UnknownGuest ∷ TimeAboveCeiling ∷ TimeBeforeLast ∷ IdInUse ∷ NoRoom ∷ TagAboveCeiling
-    ∷ NotInFlight ∷ BadMark ∷ BadVersion ∷ HeaderCut ∷ BadEvent ∷ EventCut ∷ []
+-- every refusal
+abbrev every : List Refusal
+every =
+    BadSetting ∷ ShortTable ∷ Unsound ∷ UnknownGuest ∷ TimeAboveCeiling ∷ TimeBeforeLast ∷ IdInUse ∷ NoRoom ∷ TagAboveCeiling ∷ NotInFlight
+    ∷ BadMark ∷ BadVersion ∷ HeaderCut ∷ BadEvent ∷ EventCut ∷ []
 
-found : (r : Refusal) → getD listed (numberOf r) BadSetting ≡ r
+-- the first of some refusals that has number n
+abbrev withNumber : ℕ → List Refusal → Refusal
+withNumber n [] = BadSetting
+withNumber n (r ∷ rs) = if eqb (numberOf r) n then r else withNumber n rs
+
+found : (r : Refusal) → withNumber (numberOf r) every ≡ r
 found BadSetting = refl
 found ShortTable = refl
 found Unsound = refl
@@ -43,7 +45,7 @@ found EventCut = refl
 
 -- two refusals with one number are the same
 pub numberOf-once : (r s : Refusal) → numberOf r ≡ numberOf s → r ≡ s
-numberOf-once r s e = sym (found r) ∙ ap (λ (n : ℕ). getD listed n BadSetting) e ∙ found s
+numberOf-once r s e = sym (found r) ∙ ap (λ (n : ℕ). withNumber n every) e ∙ found s
 
 -- the verdict refuses with the paper's number n
 abbrev pub Gives : Verdict → ℕ → Type 0
@@ -56,25 +58,15 @@ Gives (refuse r) n = numberOf r ≡ n
 abbrev pub numbers : List Test → List ℕ
 numbers cs = map (λ c. numberOf (c .refusal)) cs
 
--- no number stands twice
-abbrev pub different : List ℕ → Bool
-different [] = true
-different (n ∷ ns) = noneOf n ns && different ns
-
 -- the condition of the first test that has number n; false where none has
 abbrev pub condition : ℕ → List Test → Bool
 condition n [] = false
 condition n (c ∷ cs) = if eqb (numberOf (c .refusal)) n then c .holds else condition n cs
 
--- the tests in front of the first one that has number n
-abbrev pub before : ℕ → List Test → List Test
-before n [] = []
-before n (c ∷ cs) = if eqb (numberOf (c .refusal)) n then [] else c ∷ before n cs
-
--- none of these conditions holds
-abbrev pub NoneHolds : List Test → Type 0
-NoneHolds [] = Unit {0}
-NoneHolds (c ∷ cs) = (c .holds ≡ false) × NoneHolds cs
+-- the tests behind the first one that has number n
+abbrev pub behind : ℕ → List Test → List Test
+behind n [] = []
+behind n (c ∷ cs) = if eqb (numberOf (c .refusal)) n then cs else behind n cs
 
 -- of a list that is accepted no condition holds
 pub passed : (cs : List Test) → isAccept (judged cs) ≡ true → (n : ℕ) → condition n cs ≡ false
@@ -88,40 +80,51 @@ passed (c ∷ cs) h n = go (c .holds) refl (λ k. passed cs k n)
         let r = k (rw e at h) in
         rw (e, r) (elim (eqb (numberOf (c .refusal)) n) as (λ b. (if b then false else false) ≡ false) [ true ↦ refl | false ↦ refl ])
 
--- a number that is not in the list is never given
-pub never-given : (cs : List Test) (n : ℕ) → noneOf n (numbers cs) ≡ true → Gives (judged cs) n → ⊥
-never-given [] n h g = g
-never-given (c ∷ cs) n h g = go (c .holds) (never-given cs n (parts .1)) g
+-- what stands behind is accepted
+passed-behind : (cs : List Test) → isAccept (judged cs) ≡ true → (n : ℕ) → isAccept (judged (behind n cs)) ≡ true
+passed-behind [] h n = refl
+passed-behind (c ∷ cs) h n = go (c .holds) refl (λ k. passed-behind cs k n)
   where
-    parts : (not (eqb (numberOf (c .refusal)) n) ≡ true) × (noneOf n (numbers cs) ≡ true)
-    parts = both (not (eqb (numberOf (c .refusal)) n)) (noneOf n (numbers cs)) h
+    go : (b : Bool) → c .holds ≡ b → (isAccept (judged cs) ≡ true → isAccept (judged (behind n cs)) ≡ true)
+        → isAccept (judged (if eqb (numberOf (c .refusal)) n then cs else behind n cs)) ≡ true
+    go true e k = absurd (false≢true (rw e at h))
+    go false e k =
+        let here : isAccept (judged cs) ≡ true = rw e at h in
+        elim (eqb (numberOf (c .refusal)) n) as (λ b. isAccept (judged (if b then cs else behind n cs)) ≡ true) [ true ↦ here | false ↦ k here ]
 
-    go : (b : Bool) → (Gives (judged cs) n → ⊥) → Gives (if b then refuse (c .refusal) else judged cs) n → ⊥
-    go true k e = eqb-false (numberOf (c .refusal)) n (not-true (eqb (numberOf (c .refusal)) n) (parts .0)) e
-    go false k g = k g
+-- so neither does that of the second test that has number n
+pub passed-again : (cs : List Test) → isAccept (judged cs) ≡ true → (n : ℕ) → condition n (behind n cs) ≡ false
+passed-again cs h n = passed (behind n cs) (passed-behind cs h n) n
 
--- a list of tests is accepted exactly where none of its conditions holds
-pub accepted-exactly : (cs : List Test) → (judged cs ≡ accept) ↔ NoneHolds cs
-accepted-exactly [] = (λ e. tt, λ u. refl)
-accepted-exactly (c ∷ cs) = go (c .holds) (accepted-exactly cs)
-  where
-    go : (b : Bool) → (judged cs ≡ accept) ↔ NoneHolds cs → ((if b then refuse (c .refusal) else judged cs) ≡ accept) ↔ ((b ≡ false) × NoneHolds cs)
-    go true k = (λ e. absurd (false≢true (ap isAccept e)), λ p. absurd (true≢false (p .0)))
-    go false k = (λ e. (refl, k .0 e), λ p. k .1 (p .1))
+-- A LIST OF TESTS AND A LIST OF CASES
 
--- where no number stands twice, each is given exactly where its condition holds and none before it does
-pub given-exactly : (cs : List Test) → different (numbers cs) ≡ true → (n : ℕ) → Gives (judged cs) n ↔ ((condition n cs ≡ true) × NoneHolds (before n cs))
-given-exactly [] d n = (λ g. absurd g, λ p. absurd (false≢true (p .0)))
-given-exactly (c ∷ cs) d n = go (c .holds) (eqb (numberOf (c .refusal)) n) refl refl (given-exactly cs (parts .1) n)
-  where
-    parts : (noneOf (numberOf (c .refusal)) (numbers cs) ≡ true) × (different (numbers cs) ≡ true)
-    parts = both (noneOf (numberOf (c .refusal)) (numbers cs)) (different (numbers cs)) d
+infixr 1 _and_
+-- a test for each case, of one number, which holds exactly where the case's condition does; what tests the rest may take it that the test does not hold
+pub data Tested : List Test → List Case → Type 1 where
+  end : Tested [] []
+  unless : {r : Refusal} {b : Bool} {P : Type 0} {cs : List Test} {ks : List Case} → (b ≡ true) ↔ P → (b ≡ false → Tested cs ks)
+      → Tested (record { refusal = r; holds = b } ∷ cs) (record { number = numberOf r; condition = P } ∷ ks)
 
-    go : (b e : Bool) → c .holds ≡ b → eqb (numberOf (c .refusal)) n ≡ e
-        → Gives (judged cs) n ↔ ((condition n cs ≡ true) × NoneHolds (before n cs))
-        → Gives (if b then refuse (c .refusal) else judged cs) n ↔ (((if e then b else condition n cs) ≡ true) × NoneHolds (if e then [] else c ∷ before n cs))
-    go true true h q k = (λ g. (refl, tt), λ p. eqb-true (numberOf (c .refusal)) n q)
-    go true false h q k = (λ g. absurd (eqb-false (numberOf (c .refusal)) n q g), λ p. absurd (true≢false (sym h ∙ p .1 .0)))
-    go false true h q k =
-        (λ g. absurd (never-given cs n (rw (eqb-true (numberOf (c .refusal)) n q) at (parts .0)) g), λ p. absurd (false≢true (p .0)))
-    go false false h q k = (λ g. (k .0 g .0, (h, k .0 g .1)), λ p. k .1 (p .0, p .1 .1))
+-- a test, and those behind it
+pub _and_ : {r : Refusal} {b : Bool} {P : Type 0} {cs : List Test} {ks : List Case} → (b ≡ true) ↔ P → Tested cs ks
+    → Tested (record { refusal = r; holds = b } ∷ cs) (record { number = numberOf r; condition = P } ∷ ks)
+h and k = unless h (λ e. k)
+
+-- the verdict gives the number of the first case whose condition holds
+pub judged-first : {cs : List Test} {ks : List Case} → Tested cs ks → (n : ℕ) → Gives (judged cs) n ↔ FirstOf n ks
+judged-first end n = (λ g. g, λ p. p)
+judged-first (unless {b = true} h k) n = (λ g. inl (g, h .0 refl), λ p. ⊎-elim (λ q. q .0) (λ q. absurd (q .0 (h .0 refl))) p)
+judged-first (unless {b = false} h k) n =
+    let i = judged-first (k refl) n in
+    (λ g. inr (λ p. false≢true (h .1 p), i .0 g), λ p. ⊎-elim (λ q. absurd (false≢true (h .1 (q .1)))) (λ q. i .1 (q .1)) p)
+
+-- and accepts where none does
+pub judged-none : {cs : List Test} {ks : List Case} → Tested cs ks → (judged cs ≡ accept) ↔ NoneHolds ks
+judged-none end = (λ e. tt, λ u. refl)
+judged-none (unless {b = true} h k) = (λ e. absurd (false≢true (ap isAccept e)), λ p. absurd (p .0 (h .0 refl)))
+judged-none (unless {b = false} h k) = let i = judged-none (k refl) in (λ e. (λ p. false≢true (h .1 p), i .0 e), λ p. i .1 (p .1))
+
+-- a number that is given stands in the list
+pub listed : (ks : List Case) (n : ℕ) → FirstOf n ks → List·Memᴰ n (map Case.number ks)
+listed [] n p = absurd p
+listed (k ∷ ks) n p = ⊎-elim (λ q. List·Memᴰ·head (sym (q .0))) (λ q. List·Memᴰ·tail (listed ks n (q .1))) p

@@ -13,7 +13,7 @@ pub mod Spacings
 pub mod Rounding
 pub mod Names
 pub mod Chains
-pub mod Settings
+pub mod SameSettings
 pub mod Facts
 pub mod Firsts
 pub mod Picks

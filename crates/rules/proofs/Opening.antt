@@ -1,32 +1,20 @@
 -- Opening that is not refused gives a sound table. Assumes nothing.
 use mathlib.Core.Path.{_≡_, refl, ap, _∙_}
-use mathlib.Core.Bool.{Bool, true, false, not, _&&_, false≢true}
-use mathlib.Core.List.{List, [], _∷_, map}
+use mathlib.Core.Bool.{Bool, true}
+use mathlib.Core.List.{List, [], map}
 use Prim.Native.Nat.{ℕ}
 use native.Mathlib.Omega.{arith}
 use lib.ListN.{length, getD, length-map, List·getD-map}
+use borrow.Author.Tests.{not-false}
 use Rattle.lists.specs.Words.{all}
-use Rattle.lists.specs.WordsLaws.{both, join, all-of-map}
+use Rattle.lists.specs.WordsLaws.{join, all-of-map}
 use Rattle.rules.specs.Tables.{Settings, Request, reserved, limited, rspacing, lspacing, sspacing, nobodys}
 use Rattle.rules.specs.Sound.{counted, settled, ranges, distinct, orderly, sound}
-use Rattle.rules.specs.Refusals.{Test, accept, judged, isAccept, openTests}
+use Rattle.rules.specs.Refusals.{accept, judged, isAccept, openTests}
 use Rattle.rules.specs.Run.{newcomer, fresh}
+use Rattle.rules.proofs.Judged.{passed, passed-again}
 use Rattle.rules.proofs.Chains.{kept-fresh}
 use Rattle.rules.proofs.Facts.{is-sound, is-orderly}
-
--- of a list that is accepted no condition holds, at whatever place
-none-holds : (cs : List Test) → isAccept (judged cs) ≡ true → all (λ c. not (c .holds)) cs ≡ true
-none-holds [] h = refl
-none-holds (c ∷ cs) h = go (c .holds) refl (none-holds cs)
-  where
-    go : (b : Bool) → c .holds ≡ b → (isAccept (judged cs) ≡ true → all (λ c. not (c .holds)) cs ≡ true) → not (c .holds) && all (λ c. not (c .holds)) cs ≡ true
-    go true e k = absurd (false≢true (rw e at h))
-    go false e k = join (ap not e) (k (rw e at h))
-
--- two denials
-yes-of : (b : Bool) → not (not b) ≡ true → b ≡ true
-yes-of true e = refl
-yes-of false e = e
 
 -- a newcomer's numbers are in order
 newcomer-orderly : (s : Settings) → orderly (newcomer s) [] ≡ true
@@ -54,13 +42,13 @@ distinct-none = refl
 pub fresh-sound : (short : Bool) (d n c : ℕ) (ss : List Settings) → judged (openTests short d n c ss) ≡ accept → length ss ≡ n → sound (fresh d c ss) ≡ true
 unfolding fresh openTests
 fresh-sound short d n c ss h l =
-    let a = none-holds (openTests short d n c ss) (ap isAccept h) in
-    let b = both (not (not (counted d n c))) (not short && (not (not (all settled ss)) && true)) a in
-    let e = both (not short) (not (not (all settled ss)) && true) (b .1) in
-    let k = both (not (not (all settled ss))) true (e .1) in
+    let cs = openTests short d n c ss in
+    let ok : isAccept (judged cs) ≡ true = ap isAccept h in
+    let counts = not-false (counted d n c) (passed cs ok 1) in
+    let settings = not-false (all settled ss) (passed-again cs ok 1) in
     is-sound (fresh d c ss)
     (record {
-      in-range = fresh-ranges d c ss (rw l (yes-of (counted d n c) (b .0))) (yes-of (all settled ss) (k .0));
+      in-range = fresh-ranges d c ss (rw l counts) settings;
       waiting-fits = omega arith;
       flight-fits = omega arith;
       time-fits = omega arith;

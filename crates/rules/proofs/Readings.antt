@@ -4,7 +4,7 @@ use mathlib.Core.List.{List, [], _∷_}
 use Prim.Native.Nat.{ℕ}
 use Rattle.rules.specs.Numbers.{down, up, tagAt}
 use Rattle.rules.specs.Tables.{Request, Table}
-use Rattle.rules.specs.Events.{Event, tick}
+use Rattle.rules.specs.Events.{Event, Tick}
 use Rattle.rules.specs.Run.{fresh}
 use Rattle.rules.proofs.Trials.{ms, settings, comes, ends, three, -, R, W, X, lines, waitingAfter}
 
@@ -16,7 +16,7 @@ one = fresh 4 8 (settings 100 250 1 ∷ [])
 abbrev pub ten : List Event
 ten =
     comes 0 1 0 ∷ comes 0 2 0 ∷ comes 0 3 0 ∷ comes 0 4 0
-    ∷ tick (ms 4) ∷ tick (ms 8) ∷ tick (ms 10) ∷ tick (ms 9)
+    ∷ Tick (ms 4) ∷ Tick (ms 8) ∷ Tick (ms 10) ∷ Tick (ms 9)
     ∷ ends 0 1 10 ∷ ends 0 1 10 ∷ []
 
 -- "Depth 1, two guests without reservation or limit, A with shares 1, B with shares 2."

@@ -156,7 +156,7 @@ rising-at (q ∷ l) u i zero h k = absurd (omega arith)
 rising-at (q ∷ l) u zero (suc j) h k = each-at _ l (u .0) j (omega arith)
 rising-at (q ∷ l) u (suc i) (suc j) h k = rising-at l (u .1) i j (omega arith) (omega arith)
 
--- those are the requests of l "by reservation tag, equal tags by order of acceptance"
+-- in demand 3's words, those are the requests of l "by reservation tag, equal tags by order of acceptance"
 pub record ByTag (l those : List Request) : Type 0 where
   pub exactly : List·Permᴰ those l
   pub rising : (i j : ℕ) → i < j → j < length those → (at those i) .rtag ≤ (at those j) .rtag

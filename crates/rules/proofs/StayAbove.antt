@@ -21,7 +21,7 @@ use Rattle.rules.specs.Events.{Event, moment, enter}
 use Rattle.rules.specs.Refusals.{Verdict, accept, refuse, isAccept, verdict}
 use Rattle.rules.specs.Run.{decided, step}
 use Rattle.rules.proofs.Chains.{kept-above}
-use Rattle.rules.proofs.Settings.{same-owner, enter-settings}
+use Rattle.rules.proofs.SameSettings.{same-owner, enter-settings}
 use Rattle.rules.proofs.Facts.{Sound, sound-is, orderly-is, any-orderly}
 use Rattle.rules.proofs.Firsts.{First, passes-all, first-open}
 use Rattle.rules.proofs.Picks.{Goes, open-goes, none-ok}

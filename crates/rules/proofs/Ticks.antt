@@ -13,7 +13,7 @@ use Rattle.rules.specs.Numbers.{ceiling}
 use Rattle.rules.specs.Tables.{Request, Setup, Table}
 use Rattle.rules.specs.Sound.{sound}
 use Rattle.rules.specs.Choice.{Result, Pick, nobody, picked, least, due, open?, sending, dropped, byWeight, byReservation, room, choice}
-use Rattle.rules.specs.Events.{tick, wait, enter}
+use Rattle.rules.specs.Events.{Tick, wait, enter}
 use Rattle.rules.specs.Refusals.{eventTests, accepted}
 use Rattle.rules.specs.Run.{step}
 use Rattle.rules.specs.Turn.{isDue, ahead, findsRoom, atFree, sentByReservation}
@@ -22,12 +22,12 @@ use Rattle.rules.proofs.StepSound.{accepted-step, step-sound}
 use Rattle.rules.proofs.Demand3.{demand-3-at}
 
 -- a sound table accepts a tick at any time from its own to the ceiling
-pub not-idle : (t : Table) (n : ℕ) → sound t ≡ true → t .time ≤ n → n ≤ ceiling → accepted t (tick n) ≡ true
+pub not-idle : (t : Table) (n : ℕ) → sound t ≡ true → t .time ≤ n → n ≤ ceiling → accepted t (Tick n) ≡ true
 unfolding eventTests
 not-idle t n s h k = rw (s, le-ltb ceiling n, le-ltb n (t .time))
 
 -- and where a place is free, the tick finds it
-pub tick-finds-room : (t : Table) (n : ℕ) → sound t ≡ true → t .time ≤ n → n ≤ ceiling → room t ≡ true → findsRoom t (tick n) ≡ true
+pub tick-finds-room : (t : Table) (n : ℕ) → sound t ≡ true → t .time ≤ n → n ≤ ceiling → room t ≡ true → findsRoom t (Tick n) ≡ true
 unfolding enter wait room
 tick-finds-room t n s h k r = join (not-idle t n s h k) r
 
@@ -58,26 +58,26 @@ modest-choice t =
     [ true ↦ k | false ↦ record { setup-kept = refl; time-kept = refl; one-more = omega arith } ]
 
 -- and so an accepted tick
-modest-tick : (t : Table) (n : ℕ) → accepted t (tick n) ≡ true → Modest (wait n t) (step t (tick n))
+modest-tick : (t : Table) (n : ℕ) → accepted t (Tick n) ≡ true → Modest (wait n t) (step t (Tick n))
 unfolding enter
-modest-tick t n h = rw (accepted-step t (tick n) h) (modest-choice (wait n t))
+modest-tick t n h = rw (accepted-step t (Tick n) h) (modest-choice (wait n t))
 
 -- each of m ticks at one time finds a place free, where m places are free
 ticks-count : (m : ℕ) (t : Table) (n : ℕ) → sound t ≡ true → t .time ≤ n → n ≤ ceiling → length (t .flight) + m ≤ t .setup .depth
-    → length (atFree t (replicate m (tick n))) ≡ m
+    → length (atFree t (replicate m (Tick n))) ≡ m
 unfolding atFree wait room
 ticks-count zero t n s h k r = refl
 ticks-count (suc m) t n s h k r =
-    let u = step t (tick n) .table in
+    let u = step t (Tick n) .table in
     let i = modest-tick t n (not-idle t n s h k) in
     let f = tick-finds-room t n s h k (lt-ltb (length (t .flight)) (t .setup .depth) (omega arith)) in
     let d : u .setup .depth ≡ t .setup .depth = ap Setup.depth (i .setup-kept) in
-    let g = ticks-count m u n (step-sound t (tick n) s) (omega (arith, i .time-kept)) k (omega (arith, i .one-more, d)) in
+    let g = ticks-count m u n (step-sound t (Tick n) s) (omega (arith, i .time-kept)) k (omega (arith, i .one-more, d)) in
     rw f (ap suc g)
 
 -- so the request goes at the last of k + 1 ticks, where k + 1 places are free
 pub ticks-send : (t : Table) (a b : List Request) (x : Request) (n : ℕ) → sound t ≡ true → t .waiting ≡ a ++ x ∷ b → isDue t x ≡ true
     → t .time ≤ n → n ≤ ceiling → (k : ℕ) → k ≡ length (ahead t x a b) → length (t .flight) + suc k ≤ t .setup .depth
-    → getD (atFree t (replicate (suc k) (tick n))) k Nothing ≡ sentByReservation x
+    → getD (atFree t (replicate (suc k) (Tick n))) k Nothing ≡ sentByReservation x
 ticks-send t a b x n s w d h c k e r =
-    demand-3-at t a b x (replicate (suc k) (tick n)) s w d k e (omega (arith, ticks-count (suc k) t n s h c r))
+    demand-3-at t a b x (replicate (suc k) (Tick n)) s w d k e (omega (arith, ticks-count (suc k) t n s h c r))

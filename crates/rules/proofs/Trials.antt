@@ -7,7 +7,7 @@ use Rattle.rules.specs.Tables.{Settings, Guest, Request, Flight, Table, 
 use Rattle.rules.specs.Answers.{Printed, shown}
 use Rattle.rules.specs.Sound.{counted, settled, ranges, distinct, lawful, kept, orderly, sound}
 use Rattle.rules.specs.Choice.{dueAt, openAt, passes, sending, earlier, sooner, dropped, byWeight, byReservation, room, choice}
-use Rattle.rules.specs.Events.{Event, arrival, completion, shifted, shiftedNext, adjusted, shareTag, stamped, following, placed, arriveAs, arrive, complete, wait, enter}
+use Rattle.rules.specs.Events.{Event, Arrival, Completion, shifted, shiftedNext, adjusted, shareTag, stamped, following, placed, arriveAs, arrive, complete, wait, enter}
 use Rattle.rules.specs.Refusals.{eventTests}
 use Rattle.rules.specs.Run.{decided, step, after, answers, fresh}
 
@@ -21,11 +21,11 @@ settings r l s = record { reservation = r; limit = l; shares = s }
 
 -- an arrival of guest g's id i, n ms after 0
 abbrev pub comes : (g i : ℕ) → ℕ → Event
-comes g i n = arrival (record { guest = g; id = i }) (ms n)
+comes g i n = Arrival (record { guest = g; id = i }) (ms n)
 
 -- its completion, n ms after 0
 abbrev pub ends : (g i : ℕ) → ℕ → Event
-ends g i n = completion (record { guest = g; id = i }) (ms n)
+ends g i n = Completion (record { guest = g; id = i }) (ms n)
 
 -- guest 0's ids 1, 2, 3 at 0, and then es
 abbrev pub three : List Event → List Event

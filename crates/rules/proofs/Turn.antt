@@ -13,7 +13,7 @@ use Rattle.lists.specs.Words.{if_then_else_}
 use Rattle.lists.specs.WordsLaws.{join, map-append, map-same, map-each}
 use Rattle.rules.specs.Tables.{Settings, Guest, Request, Flight, Table, nobodys, settingsOf, idle, name}
 use Rattle.rules.specs.Choice.{Pick, picked, least, dueAt, passes, due, sending, byReservation, room, choice}
-use Rattle.rules.specs.Events.{Arriving, Event, arrival, completion, tick, moment, smallest, shifted, shiftedNext, adjusted, stamped, stampedFor, following, placed, arriveAs, arrive, complete, wait, enter}
+use Rattle.rules.specs.Events.{Arriving, Event, Arrival, Completion, Tick, moment, smallest, shifted, shiftedNext, adjusted, stamped, stampedFor, following, placed, arriveAs, arrive, complete, wait, enter}
 use Rattle.rules.specs.Turn.{tagged}
 use Rattle.rules.specs.declared.Phase.the-variants.{Reservation}
 use Rattle.rules.specs.declared.Answer.{Answer}
@@ -116,9 +116,9 @@ front-arrive b now a t n h c =
 -- and so does every event that is not before the table's time
 pub front-enter : (t : Table) (e : Event) (n : List Flight) → t .time ≤ moment e → Front t n → Front (enter t e) n
 unfolding enter arrive complete wait
-front-enter t (arrival a m) n h c = front-arrive (idle t (a .guest)) m a t n h c
-front-enter t (completion f m) n h c = record { head = c .head; rest = c .rest; stands = c .stands; named = c .named; ready = each-weaken _ _ (λ p i. omega arith) (c .head) (c .ready) }
-front-enter t (tick m) n h c = record { head = c .head; rest = c .rest; stands = c .stands; named = c .named; ready = each-weaken _ _ (λ p i. omega arith) (c .head) (c .ready) }
+front-enter t (Arrival a m) n h c = front-arrive (idle t (a .guest)) m a t n h c
+front-enter t (Completion f m) n h c = record { head = c .head; rest = c .rest; stands = c .stands; named = c .named; ready = each-weaken _ _ (λ p i. omega arith) (c .head) (c .ready) }
+front-enter t (Tick m) n h c = record { head = c .head; rest = c .rest; stands = c .stands; named = c .named; ready = each-weaken _ _ (λ p i. omega arith) (c .head) (c .ready) }
 
 -- THE CHOICE sends the first
 

@@ -1,4 +1,5 @@
 -- Document 01, "Refusal numbers" and the printed lines: the paper's number and values for each case of an answer.
+use mathlib.Core.Bool.{Bool, true, false}
 use mathlib.Core.List.{List, [], _∷_}
 use Prim.Native.Nat.{ℕ}
 use Rattle.rules.specs.declared.Phase.{Phase}
@@ -41,3 +42,9 @@ abbrev pub shown : Answer → Printed
 shown Nothing = record { letter = 45; values = [] }
 shown (Sent p g i) = record { letter = letterOf p; values = g ∷ i ∷ [] }
 shown (Refused r) = record { letter = 88; values = numberOf r ∷ [] }
+
+-- the answer is no refusal
+abbrev pub taken : Answer → Bool
+taken Nothing = true
+taken (Sent p g i) = true
+taken (Refused r) = false

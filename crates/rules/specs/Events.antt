@@ -6,23 +6,17 @@ use lib.ListN.{set}
 use Rattle.lists.specs.Words.{if_then_else_, each, lowest, without}
 use Rattle.rules.specs.Numbers.{tagAt}
 use Rattle.rules.specs.Tables.{Guest, Request, Flight, Table, reserved, limited, rspacing, lspacing, sspacing, owner, idle, same}
-
--- the request that an arrival brings: whose, and its id
-pub record Arriving : Type 0 where
-  pub guest : ℕ
-  pub id : ℕ
-
+-- the request that an arrival brings: its guest, and its id
+pub use Rattle.rules.specs.declared.Arriving.{Arriving}
 -- "Events: an arrival (guest, 32-bit id, time), a completion (guest, id, time), a tick (time)."
-pub data Event : Type 0 where
-  arrival : Arriving → (now : ℕ) → Event
-  completion : Flight → (now : ℕ) → Event
-  tick : (now : ℕ) → Event
+pub use Rattle.rules.specs.declared.Event.{Event}
+pub use Rattle.rules.specs.declared.Event.the-variants.{Arrival, Completion, Tick}
 
 -- the time of an event
 abbrev pub moment : Event → ℕ
-moment (arrival a now) = now
-moment (completion f now) = now
-moment (tick now) = now
+moment (Arrival a now) = now
+moment (Completion f now) = now
+moment (Tick now) = now
 
 -- the name of the request that an arrival brings
 abbrev pub calledBy : Arriving → Flight
@@ -116,6 +110,6 @@ wait now t = record { setup = t .setup; time = now; guests = t .guests; waiting 
 
 -- what an event does before the choice is made: the table as the choice finds it
 unfoldable pub enter : Table → Event → Table
-enter t (arrival a now) = arrive now a t
-enter t (completion f now) = complete now f t
-enter t (tick now) = wait now t
+enter t (Arrival a now) = arrive now a t
+enter t (Completion f now) = complete now f t
+enter t (Tick now) = wait now t

@@ -4,7 +4,7 @@ use Prim.Native.Nat.{ℕ}
 use lib.Dec.{eqb}
 use Rattle.lists.specs.Words.{if_then_else_}
 use Rattle.rules.specs.Tables.{Request, Table, mine}
-use Rattle.rules.specs.Events.{Event, arrival, completion, tick}
+use Rattle.rules.specs.Events.{Event, Arrival, Completion, Tick}
 use Rattle.rules.specs.Refusals.{accepted}
 use Rattle.rules.specs.Run.{step}
 use Rattle.rules.specs.declared.Answer.{Answer}
@@ -16,9 +16,9 @@ waits g t = map Request.id (mine g (t .waiting))
 
 -- the id of guest g that an event brings, if it brings one
 abbrev pub brings : ℕ → Event → List ℕ
-brings g (arrival a now) = if eqb (a .guest) g then a .id ∷ [] else []
-brings g (completion f now) = []
-brings g (tick now) = []
+brings g (Arrival a now) = if eqb (a .guest) g then a .id ∷ [] else []
+brings g (Completion f now) = []
+brings g (Tick now) = []
 
 -- the id of guest g that an answer sends, if it sends one
 abbrev pub sends : ℕ → Answer → List ℕ

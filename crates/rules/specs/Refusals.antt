@@ -8,7 +8,7 @@ use Rattle.lists.specs.Words.{if_then_else_, all}
 use Rattle.rules.specs.Numbers.{ceiling}
 use Rattle.rules.specs.Tables.{Settings, Table, idle, lacks, names}
 use Rattle.rules.specs.Sound.{counted, settled, lawful, sound}
-use Rattle.rules.specs.Events.{Arriving, Event, arrival, completion, tick, calledBy, adjusted, stampedFor}
+use Rattle.rules.specs.Events.{Arriving, Event, Arrival, Completion, Tick, calledBy, adjusted, stampedFor}
 use Rattle.rules.specs.declared.Refusal.{Refusal}
 use Rattle.rules.specs.declared.Refusal.the-variants.{BadSetting, ShortTable, Unsound, UnknownGuest, TimeAboveCeiling, TimeBeforeLast, IdInUse, NoRoom, TagAboveCeiling, NotInFlight}
 
@@ -44,14 +44,14 @@ passing idle now a t = not (all lawful ((adjusted idle now t) .waiting) && lawfu
 
 -- an event's own tests: "Arrival: .. 4, 5, 6, 7, 8, 9. Completion: .. 4, 5, 6, 10. Tick: .. 5, 6."
 unfoldable pub eventTests : Table → Event → List Test
-eventTests t (arrival a now) =
+eventTests t (Arrival a now) =
     guestTests (a .guest) now t
     (record { refusal = IdInUse; holds = not (lacks (calledBy a) (names t)) }
     ∷ record { refusal = NoRoom; holds = eqb (length (t .waiting)) (t .setup .capacity) }
     ∷ record { refusal = TagAboveCeiling; holds = passing (idle t (a .guest)) now a t }
     ∷ [])
-eventTests t (completion f now) = guestTests (f .guest) now t (record { refusal = NotInFlight; holds = lacks f (t .flight) } ∷ [])
-eventTests t (tick now) = timeTests now t []
+eventTests t (Completion f now) = guestTests (f .guest) now t (record { refusal = NotInFlight; holds = lacks f (t .flight) } ∷ [])
+eventTests t (Tick now) = timeTests now t []
 
 -- all tests of an event: "2, 3", then its own. That a lent table is short, or the table not sound, is told to this list: the lengths and the unused
 -- places are the lent numbers', and `short` is false where guests, depth or capacity are out of range, so that those "give 3 at once".

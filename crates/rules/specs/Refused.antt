@@ -1,21 +1,40 @@
--- Which refusal number is given when, in plain facts beside the tests of Refusals.antt: document 01, "Refusal numbers". Each record is the list of one call: a number is given
--- exactly where its condition holds and no earlier one of that list does. `gives n` is that the call gives number n, `accepts` that it
--- gives none. A call is told whether a lent table is short, and whether the table is not sound.
+-- Which refusal number is given when, in plain facts beside the tests of Refusals.antt: document 01, "Refusal numbers". The refusals of a call
+-- are one list of cases in the order in which they are judged, and one record says of any such list that a number is given exactly where its
+-- condition holds and none before it does. A call is told whether a lent table is short, and whether the table is not sound.
 use mathlib.Core.Path.{_≡_}
-use mathlib.Core.Bool.{Bool, true, false, not}
+use mathlib.Core.Bool.{Bool, true}
 use mathlib.Core.List.{List, [], _∷_, List·Memᴰ}
 use mathlib.Core.Logic.{_↔_, _⊎_}
 use Prim.Native.Nat.{ℕ, _+_, _-_, _≤_, _<_}
-use lib.Dec.{eqb}
 use lib.ListN.{length}
-use Rattle.lists.specs.Words.{all}
 use Rattle.rules.specs.Numbers.{ceiling}
-use Rattle.rules.specs.Tables.{Settings, Request, Flight, Table, idle, names}
-use Rattle.rules.specs.Events.{Arriving, calledBy, smallest, stampedFor}
+use Rattle.rules.specs.Tables.{Settings, Request, Table, idle, names}
+use Rattle.rules.specs.Events.{Arriving, Event, Arrival, Completion, Tick, calledBy, smallest, stampedFor}
 
--- n is none of these numbers
-abbrev pub noneOf : ℕ → List ℕ → Bool
-noneOf n ns = all (λ m. not (eqb m n)) ns
+-- LISTS OF CASES
+
+-- a refusal's number, and its condition
+pub record Case : Type 1 where
+  pub number : ℕ
+  pub condition : Type 0
+
+-- n is the number of a case whose condition holds, and no condition before it does
+abbrev pub FirstOf : ℕ → List Case → Type 0
+FirstOf n [] = ⊥
+FirstOf n (c ∷ cs) = ((c .number ≡ n) × c .condition) ⊎ ((c .condition → ⊥) × FirstOf n cs)
+
+-- no condition holds
+abbrev pub NoneHolds : List Case → Type 0
+NoneHolds [] = Unit {0}
+NoneHolds (c ∷ cs) = (c .condition → ⊥) × NoneHolds cs
+
+-- when each number is given: `gives n` is that a call gives number n, `accepts` that it gives none. A number may stand twice; one that does not stand in the
+-- list is never given
+pub record RefusedExactly (cases : List Case) (gives : ℕ → Type 0) (accepts : Type 0) : Type 0 where
+  pub number : (n : ℕ) → gives n ↔ FirstOf n cases
+  pub no-number : accepts ↔ NoneHolds cases
+
+-- CONDITIONS
 
 -- a tag of the request passes the ceiling
 abbrev pub Above : Request → Type 0
@@ -39,60 +58,39 @@ pub record Good (s : Settings) : Type 0 where
   pub share-count : (1 ≤ s .shares) × (s .shares ≤ 1000000)
   pub not-above : 0 < s .limit → s .reservation ≤ s .limit
 
--- "Arrival: 2, 3, 4, 5, 6, 7, 8, 9."
-pub record ArrivalRefused (short unsound : Bool) (t : Table) (a : Arriving) (now : ℕ) (gives : ℕ → Type 0) (accepts : Type 0) : Type 0 where
-  pub number-2 : gives 2 ↔ (short ≡ true)
-  pub number-3 : gives 3 ↔ ((short ≡ false) × (unsound ≡ true))
-  pub number-4 : gives 4 ↔ ((short ≡ false) × (unsound ≡ false) × (length (t .guests) ≤ a .guest))
-  pub number-5 : gives 5 ↔ ((short ≡ false) × (unsound ≡ false) × (a .guest < length (t .guests)) × (ceiling < now))
-  pub number-6 : gives 6 ↔ ((short ≡ false) × (unsound ≡ false) × (a .guest < length (t .guests)) × (now ≤ ceiling) × (now < t .time))
-  pub number-7 :
-      gives 7
-      ↔ ((short ≡ false) × (unsound ≡ false) × (a .guest < length (t .guests)) × (now ≤ ceiling) × (t .time ≤ now) × List·Memᴰ (calledBy a) (names t))
-  pub number-8 :
-      gives 8
-      ↔ ((short ≡ false) × (unsound ≡ false) × (a .guest < length (t .guests)) × (now ≤ ceiling) × (t .time ≤ now) × (List·Memᴰ (calledBy a) (names t) → ⊥)
-      × (length (t .waiting) ≡ t .setup .capacity))
-  pub number-9 :
-      gives 9
-      ↔ ((short ≡ false) × (unsound ≡ false) × (a .guest < length (t .guests)) × (now ≤ ceiling) × (t .time ≤ now) × (List·Memᴰ (calledBy a) (names t) → ⊥)
-      × (length (t .waiting) ≡ t .setup .capacity → ⊥) × Passing (idle t (a .guest)) now a t)
-  pub no-other : (n : ℕ) → noneOf n (2 ∷ 3 ∷ 4 ∷ 5 ∷ 6 ∷ 7 ∷ 8 ∷ 9 ∷ []) ≡ true → gives n → ⊥
-  pub no-number :
-      accepts
-      ↔ ((short ≡ false) × (unsound ≡ false) × (a .guest < length (t .guests)) × (now ≤ ceiling) × (t .time ≤ now) × (List·Memᴰ (calledBy a) (names t) → ⊥)
-      × (length (t .waiting) ≡ t .setup .capacity → ⊥) × (Passing (idle t (a .guest)) now a t → ⊥))
+-- THE CASES OF EACH CALL
 
--- "Completion: 2, 3, 4, 5, 6, 10."
-pub record CompletionRefused (short unsound : Bool) (t : Table) (f : Flight) (now : ℕ) (gives : ℕ → Type 0) (accepts : Type 0) : Type 0 where
-  pub number-2 : gives 2 ↔ (short ≡ true)
-  pub number-3 : gives 3 ↔ ((short ≡ false) × (unsound ≡ true))
-  pub number-4 : gives 4 ↔ ((short ≡ false) × (unsound ≡ false) × (length (t .guests) ≤ f .guest))
-  pub number-5 : gives 5 ↔ ((short ≡ false) × (unsound ≡ false) × (f .guest < length (t .guests)) × (ceiling < now))
-  pub number-6 : gives 6 ↔ ((short ≡ false) × (unsound ≡ false) × (f .guest < length (t .guests)) × (now ≤ ceiling) × (now < t .time))
-  pub number-10 :
-      gives 10
-      ↔ ((short ≡ false) × (unsound ≡ false) × (f .guest < length (t .guests)) × (now ≤ ceiling) × (t .time ≤ now) × (List·Memᴰ f (t .flight) → ⊥))
-  pub no-other : (n : ℕ) → noneOf n (2 ∷ 3 ∷ 4 ∷ 5 ∷ 6 ∷ 10 ∷ []) ≡ true → gives n → ⊥
-  pub no-number :
-      accepts
-      ↔ ((short ≡ false) × (unsound ≡ false) × (f .guest < length (t .guests)) × (now ≤ ceiling) × (t .time ≤ now) × List·Memᴰ f (t .flight))
+-- 5, "time above the ceiling", and 6, "time before the last accepted time"; then the cases cs
+abbrev pub timeCases : (now : ℕ) → Table → List Case → List Case
+timeCases now t cs =
+    record { number = 5; condition = ceiling < now }
+    ∷ record { number = 6; condition = now < t .time }
+    ∷ cs
 
--- "Tick: 2, 3, 5, 6."
-pub record TickRefused (short unsound : Bool) (t : Table) (now : ℕ) (gives : ℕ → Type 0) (accepts : Type 0) : Type 0 where
-  pub number-2 : gives 2 ↔ (short ≡ true)
-  pub number-3 : gives 3 ↔ ((short ≡ false) × (unsound ≡ true))
-  pub number-5 : gives 5 ↔ ((short ≡ false) × (unsound ≡ false) × (ceiling < now))
-  pub number-6 : gives 6 ↔ ((short ≡ false) × (unsound ≡ false) × (now ≤ ceiling) × (now < t .time))
-  pub no-other : (n : ℕ) → noneOf n (2 ∷ 3 ∷ 5 ∷ 6 ∷ []) ≡ true → gives n → ⊥
-  pub no-number : accepts ↔ ((short ≡ false) × (unsound ≡ false) × (now ≤ ceiling) × (t .time ≤ now))
+-- 4, "unknown guest", then the time, then the cases cs
+abbrev pub guestCases : (g now : ℕ) → Table → List Case → List Case
+guestCases g now t cs = record { number = 4; condition = length (t .guests) ≤ g } ∷ timeCases now t cs
 
--- "Opening: depth, guests and capacity (1), lengths (2), guest settings (1)."
-pub record OpeningRefused (short : Bool) (depth guests capacity : ℕ) (ss : List Settings) (gives : ℕ → Type 0) (accepts : Type 0) : Type 0 where
-  pub number-1 :
-      gives 1
-      ↔ ((Countable depth guests capacity → ⊥)
-      ⊎ (Countable depth guests capacity × (short ≡ false) × ((s : Settings) × List·Memᴰ s ss × (Good s → ⊥))))
-  pub number-2 : gives 2 ↔ (Countable depth guests capacity × (short ≡ true))
-  pub no-other : (n : ℕ) → noneOf n (1 ∷ 2 ∷ 1 ∷ []) ≡ true → gives n → ⊥
-  pub no-number : accepts ↔ (Countable depth guests capacity × (short ≡ false) × ((s : Settings) → List·Memᴰ s ss → Good s))
+-- an event's own cases. 7, "arrival: guest has this id waiting or in flight"; 8, "arrival: waiting count equals capacity"; 9, "arrival: a tag
+-- given, or a share tag moved, would pass the ceiling"; 10, "completion: guest has no such id in flight"
+unfoldable pub eventCases : Table → Event → List Case
+eventCases t (Arrival a now) =
+    guestCases (a .guest) now t
+    (record { number = 7; condition = List·Memᴰ (calledBy a) (names t) }
+    ∷ record { number = 8; condition = length (t .waiting) ≡ t .setup .capacity }
+    ∷ record { number = 9; condition = Passing (idle t (a .guest)) now a t }
+    ∷ [])
+eventCases t (Completion f now) = guestCases (f .guest) now t (record { number = 10; condition = List·Memᴰ f (t .flight) → ⊥ } ∷ [])
+eventCases t (Tick now) = timeCases now t []
+
+-- all cases of a call: 2, "a lent table .. is shorter than the settings need", and 3, "the table is not sound", then the event's own
+abbrev pub callCases : (short unsound : Bool) → Table → Event → List Case
+callCases short unsound t e = record { number = 2; condition = short ≡ true } ∷ record { number = 3; condition = unsound ≡ true } ∷ eventCases t e
+
+-- the cases of an opening: "depth, guests and capacity (1), lengths (2), guest settings (1)."
+unfoldable pub openCases : (short : Bool) (depth guests capacity : ℕ) → List Settings → List Case
+openCases short d n c ss =
+    record { number = 1; condition = Countable d n c → ⊥ }
+    ∷ record { number = 2; condition = short ≡ true }
+    ∷ record { number = 1; condition = (s : Settings) × List·Memᴰ s ss × (Good s → ⊥) }
+    ∷ []

@@ -7,19 +7,15 @@ use lib.Dec.{ltb, eqb}
 use lib.ListN.{getD}
 use Rattle.lists.specs.Words.{all, filter, empty}
 use Rattle.rules.specs.Numbers.{down, up}
-
--- "Per guest: reservation .. 0 meaning none; limit .. 0 meaning unlimited; shares"
-pub record Settings : Type 0 where
-  pub reservation : ℕ
-  pub limit : ℕ
-  pub shares : ℕ
-
--- "A guest record holds its settings and three next numbers: the tag its next request would get were time not looked at."
-pub record Guest : Type 0 where
-  pub settings : Settings
-  pub rnext : ℕ
-  pub lnext : ℕ
-  pub snext : ℕ
+-- "Per guest: reservation .. 0 meaning none; limit .. 0 meaning unlimited; shares": the fields reservation, limit, shares
+pub use Rattle.rules.specs.declared.Settings.{Settings}
+-- "A guest record holds its settings and three next numbers: the tag its next request would get were time not looked at.": settings, rnext,
+-- lnext, snext
+pub use Rattle.rules.specs.declared.Guest.{Guest}
+-- a request in flight: its guest, and its id. The same two numbers name any request
+pub use Rattle.rules.specs.declared.Flight.{Flight}
+-- "Depth (places at the array)", "Capacity (waiting places)": depth and capacity, what is set at opening for the whole array
+pub use Rattle.rules.specs.declared.Setup.{Setup}
 
 -- a waiting request: whose, its id, and its reservation, limit and share tag
 pub record Request : Type 0 where
@@ -28,16 +24,6 @@ pub record Request : Type 0 where
   pub rtag : ℕ
   pub ltag : ℕ
   pub stag : ℕ
-
--- a request in flight: whose, and its id. The same two numbers name any request
-pub record Flight : Type 0 where
-  pub guest : ℕ
-  pub id : ℕ
-
--- "Depth (places at the array)", "Capacity (waiting places)": what is set at opening for the whole array
-pub record Setup : Type 0 where
-  pub depth : ℕ
-  pub capacity : ℕ
 
 -- "Waiting requests stand in order of acceptance .. Requests in flight stand in order of sending"
 pub record Table : Type 0 where

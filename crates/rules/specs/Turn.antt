@@ -1,5 +1,5 @@
 -- What demand 3 speaks of: who stands before a request by reservation tag, and the accepted events that find a place free. Words in quotes are
--- the demand's.
+-- demand 3's.
 use mathlib.Core.Path.{_≡_}
 use mathlib.Core.Bool.{Bool, _&&_}
 use mathlib.Core.List.{List, [], _∷_, _++_}

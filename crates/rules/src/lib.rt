@@ -2,24 +2,53 @@
 ghost use mathlib.Core.Path.{_≡_};
 ghost use Rattle.rules.specs.Answers.{numberOf};
 
-// One guest of the lent table of records: its settings and its three next numbers.
-pub struct Guest {
+// What is set of a guest: its reservation, 0 for none, its limit, 0 for unlimited, and its shares.
+pub struct Settings {
     pub reservation: u64,
     pub limit: u64,
     pub shares: u64,
+}
+
+// One guest: its settings and its three next numbers. A host lends a slice of these.
+pub struct Guest {
+    pub settings: Settings,
     pub rnext: u64,
     pub lnext: u64,
     pub snext: u64,
 }
 
-// The settings and the counts of an open table, and its last accepted time.
-pub struct Gate {
+// A request in flight: whose, and its id. The same two numbers name any request.
+pub struct Flight {
+    pub guest: u64,
+    pub id: u32,
+}
+
+// What is set at opening for the whole array: its places, and the places to wait in.
+pub struct Setup {
     pub depth: u64,
-    pub guests: u64,
     pub capacity: u64,
+}
+
+// An open table but for its rows: what was set, how many guests there are, the last accepted time, how many wait and how many are in flight.
+pub struct Gate {
+    pub setup: Setup,
+    pub guests: u64,
     pub time: u64,
     pub waiting: u64,
     pub flight: u64,
+}
+
+// The request that an arrival brings: whose, and its id.
+pub struct Arriving {
+    pub guest: u64,
+    pub id: u32,
+}
+
+// An event and its time: a request arrives, one completes, or only time passes.
+pub enum Event {
+    Arrival(Arriving, u64),
+    Completion(Flight, u64),
+    Tick(u64),
 }
 
 // The phase of the choice that sent a request.

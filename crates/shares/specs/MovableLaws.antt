@@ -1,20 +1,22 @@
 -- Where the tags that wait are lawful and every guest's numbers are in order, as in a sound table, all that the settling of the shares
 -- moves can move. Assumes nothing.
-use Prim.Native.Nat.{ℕ, _+_, _*_, _≤_, _<_}
+use Prim.Native.Nat.{ℕ, _+_, _≤_, _<_}
 use mathlib.Core.Path.{_≡_, refl, sym, ap, _∙_}
 use mathlib.Core.Bool.{Bool, true, false, _&&_, true≢false}
 use mathlib.Core.List.{List, [], _∷_, map}
 use native.Mathlib.Omega.{arith}
 use lib.Dec.{leb}
-use lib.ListN.{getD}
 use borrow.Author.Tests.{leb-true, eqb-true}
 use Rattle.lists.specs.Words.{all, empty, lowest}
 use Rattle.lists.specs.WordsLaws.{both, join, all-at, all-filter, lowest-all}
 use Rattle.lists.specs.RowsLaws.{length-rows, row-at}
 use Rattle.rules.specs.Numbers.{ceiling, second, down}
-use Rattle.rules.specs.Tables.{Settings, Guest, Request, reserved, limited, rspacing, lspacing, sspacing, owner, of, mine}
+use Rattle.rules.specs.Tables.{Request, reserved, limited, rspacing, lspacing, sspacing, owner, of, mine}
+use Rattle.rules.specs.declared.Settings.{Settings}
+use Rattle.rules.specs.declared.Guest.{Guest}
 use Rattle.rules.proofs.Spacings.{down-le}
 use Rattle.rules.specs.Sound.{lawful, apart, follows, kept, orderly}
+use Rattle.table.specs.Columns.{SNEXT, STAG, guestAt, waitingAt}
 use Rattle.table.specs.View.{guestForm, requestForm, guestsOf, waitingOf}
 use Rattle.walks.specs.Survey.{idleIn}
 use Rattle.shares.specs.Shares.{TagsMove, NextsMove}
@@ -70,8 +72,8 @@ module _ (gs ws : List ℕ) (known count time : ℕ) (timely : time ≤ ceiling)
   pub tags-movable : TagsMove time m ws count
   tags-movable k h =
       let here = sym (ap (inside m) (row-at requestForm ws count k h)) ∙ all-at (inside m) (waitingOf ws count) (requestForm .read []) all-inside k (omega (arith, length-rows requestForm ws count)) in
-      let c = both (leb m (getD ws (k * 5 + 4) 0)) (leb (getD ws (k * 5 + 4) 0) ceiling) here in
-      record { low = leb-true m (getD ws (k * 5 + 4) 0) (c .0); high = omega (arith, leb-true (getD ws (k * 5 + 4) 0) ceiling (c .1)) }
+      let c = both (leb m (waitingAt ws k STAG)) (leb (waitingAt ws k STAG) ceiling) here in
+      record { low = leb-true m (waitingAt ws k STAG) (c .0); high = omega (arith, leb-true (waitingAt ws k STAG) ceiling (c .1)) }
 
   -- every next share number of a guest with something waiting
   pub nexts-movable : ((g : ℕ) → g < known → orderly (owner (guestsOf gs known) g) (mine g (waitingOf ws count)) ≡ true)
@@ -79,5 +81,5 @@ module _ (gs ws : List ℕ) (known count time : ℕ) (timely : time ≤ ceiling)
   nexts-movable ordered g h busy =
       let own : Guest = owner (guestsOf gs known) g in
       let c = follows-inside (own .settings) m (mine g (waitingOf ws count)) (own .snext) (all-filter (inside m) (of g) (waitingOf ws count) all-inside) busy (orderly-follows own (mine g (waitingOf ws count)) (ordered g h)) in
-      let is : own .snext ≡ getD gs (g * 6 + 5) 0 = ap Guest.snext (row-at guestForm gs known g h) in
+      let is : own .snext ≡ guestAt gs g SNEXT = ap Guest.snext (row-at guestForm gs known g h) in
       record { low = omega arith; high = omega arith }

@@ -11,7 +11,8 @@ use Rattle.lists.specs.WordsLaws.{both}
 use Rattle.rules.specs.Numbers.{ceiling}
 use Rattle.rules.specs.Tables.{Request, Table, reserved, limited, owner}
 use Rattle.rules.specs.Sound.{lawful}
-use Rattle.rules.specs.Events.{Arriving, smallest, shifted, adjusted, tagIf, shareTag, stamped}
+use Rattle.rules.specs.Events.{smallest, shifted, adjusted, tagIf, shareTag, stamped}
+use Rattle.rules.specs.declared.Arriving.{Arriving}
 use Rattle.rules.specs.Refusals.{passing}
 use Rattle.walks.specs.Survey.{highest}
 use Rattle.table.specs.Stamp.{lawfulTags, movesFit}

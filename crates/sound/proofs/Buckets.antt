@@ -14,6 +14,7 @@ use lib.Dec.{eqb}
 use borrow.Author.Tests.{eq-eqb, ne-eqb, eqb-true}
 use Rattle.lists.specs.Tab.{lt-or-le}
 use Rattle.lists.specs.Lines.{whether}
+use Rattle.table.specs.Columns.{mostDepth, mostCapacity}
 use Rattle.sound.specs.Names.{bucketOf}
 
 -- 1 + the largest place before i whose bucket is b, or 0
@@ -81,23 +82,23 @@ module _ (at : ℕ → ℕ) (b : ℕ) where
 -- what the arrays hold before place i
 pub record Linked (at : ℕ → ℕ) (heads links : List ℕ) (i : ℕ) : Type 0 where
   pub heads-long : length heads ≡ 4096
-  pub links-long : length links ≡ 1088
+  pub links-long : length links ≡ mostCapacity + mostDepth
   pub head : (b : ℕ) → b < 4096 → getD heads b 0 ≡ lastBefore at b i
   pub link : (k : ℕ) → k < i → getD links k 0 ≡ lastBefore at (at k) k
 
 -- before the first place they hold zeros
-pub linked-start : (at : ℕ → ℕ) → Linked at (replicate 4096 0) (replicate 1088 0) 0
+pub linked-start : (at : ℕ → ℕ) → Linked at (replicate 4096 0) (replicate (mostCapacity + mostDepth) 0) 0
 unfolding lastBefore
 linked-start at =
     record {
       heads-long = length-replicate {A = ℕ} 4096 0;
-      links-long = length-replicate {A = ℕ} 1088 0;
+      links-long = length-replicate {A = ℕ} (mostCapacity + mostDepth) 0;
       head = λ b l. getD-replicate {A = ℕ} 4096 b 0 0 l;
       link = λ k l. absurd (not-suc-le-zero l);
     }
 
 -- place i joins the chain of its bucket
-pub linked-next : (at : ℕ → ℕ) (heads links : List ℕ) (i b v u : ℕ) → Linked at heads links i → i < 1088 → b < 4096 → b ≡ at i → v ≡ getD heads b 0 → u ≡ i + 1 → Linked at (set heads b u) (set links i v) (i + 1)
+pub linked-next : (at : ℕ → ℕ) (heads links : List ℕ) (i b v u : ℕ) → Linked at heads links i → i < mostCapacity + mostDepth → b < 4096 → b ≡ at i → v ≡ getD heads b 0 → u ≡ i + 1 → Linked at (set heads b u) (set links i v) (i + 1)
 linked-next at heads links i b v u s l m e f g =
     record {
       heads-long = length-set heads b u ∙ s .heads-long;

@@ -10,10 +10,12 @@ use Rattle.lists.specs.Words.{all, below}
 use Rattle.lists.specs.WordsLaws.{both, join, all-append, all-parts, all-of-map, at-below, below-at}
 use Rattle.lists.specs.RowsLaws.{length-rows}
 use Rattle.rules.specs.Numbers.{ceiling}
-use Rattle.rules.specs.Tables.{Flight, Table, name, names, owner, mine}
+use Rattle.rules.specs.Tables.{Table, name, names, owner, mine}
+use Rattle.rules.specs.declared.Flight.{Flight}
 use Rattle.rules.specs.Sound.{counted, ranges, lawful, distinct, orderly, sound}
 use Rattle.rules.specs.declared.Gate.{Gate}
 use Rattle.rules.proofs.Facts.{sound-is, is-sound}
+use Rattle.table.specs.Columns.{flightWide, waitingWide}
 use Rattle.table.specs.View.{guestForm, requestForm, flightForm, guestsOf, waitingOf, flightsOf, tableOf, countable, identified, zeroed, soundNumbers}
 use Rattle.entries.specs.Tests.{settledGuest, named}
 use Rattle.sound.specs.Names.{namesOf}
@@ -26,15 +28,15 @@ inOrder gate gs ws g = orderly (owner (guestsOf gs (gate .guests)) g) (mine g (w
 pub record Judged (gate : Gate) (gs ws fs : List ℕ) : Type 0 where
   pub isCounted : countable gate ≡ true
   pub isSettled : all settledGuest (guestsOf gs (gate .guests)) ≡ true
-  pub waits : gate .waiting ≤ gate .capacity
-  pub flies : gate .flight ≤ gate .depth
+  pub waits : gate .waiting ≤ gate .setup .capacity
+  pub flies : gate .flight ≤ gate .setup .depth
   pub timed : gate .time ≤ ceiling
   pub isNamed : all (λ q. named (gate .guests) (name q)) (waitingOf ws (gate .waiting)) ≡ true
   pub isFlown : all (named (gate .guests)) (flightsOf fs (gate .flight)) ≡ true
   pub once : distinct (namesOf ws (gate .waiting) fs (gate .flight)) ≡ true
   pub isLawful : all lawful (waitingOf ws (gate .waiting)) ≡ true
   pub isOrderly : below (gate .guests) (inOrder gate gs ws) ≡ true
-  pub isClear : zeroed 5 (gate .capacity) (gate .waiting) ws && zeroed 2 (gate .depth) (gate .flight) fs ≡ true
+  pub isClear : zeroed waitingWide (gate .setup .capacity) (gate .waiting) ws && zeroed flightWide (gate .setup .depth) (gate .flight) fs ≡ true
 
 -- a name's guest exists and its id has 32 bits
 named-is : (n : ℕ) (l : List Flight) → all (λ f. ltb (f .guest) n) l ≡ true → all (λ f. ltb (f .id) 4294967296) l ≡ true → all (named n) l ≡ true
@@ -65,11 +67,11 @@ module _ (gate : Gate) (gs ws fs : List ℕ) where
   pub judged-is : soundNumbers gate gs ws fs ≡ true → Judged gate gs ws fs
   unfolding soundNumbers ranges
   judged-is h =
-      let h4 = both (sound t && identified t && zeroed 5 (gate .capacity) (gate .waiting) ws) (zeroed 2 (gate .depth) (gate .flight) fs) h in
-      let h3 = both (sound t && identified t) (zeroed 5 (gate .capacity) (gate .waiting) ws) (h4 .0) in
+      let h4 = both (sound t && identified t && zeroed waitingWide (gate .setup .capacity) (gate .waiting) ws) (zeroed flightWide (gate .setup .depth) (gate .flight) fs) h in
+      let h3 = both (sound t && identified t) (zeroed waitingWide (gate .setup .capacity) (gate .waiting) ws) (h4 .0) in
       let h2 = both (sound t) (identified t) (h3 .0) in
       let s = sound-is t (h2 .0) in
-      let r = both (counted (gate .depth) (length (t .guests)) (gate .capacity)) (all settledGuest (t .guests)) (s .in-range) in
+      let r = both (counted (gate .setup .depth) (length (t .guests)) (gate .setup .capacity)) (all settledGuest (t .guests)) (s .in-range) in
       let n = named-is (gate .guests) (names t) (rw size at (s .guests-known)) (h2 .1) in
       let m = all-parts (named (gate .guests)) (map name (t .waiting)) (t .flight) n in
       record {
@@ -92,7 +94,7 @@ module _ (gate : Gate) (gs ws fs : List ℕ) where
   is-judged j =
       let n = all-append (named (gate .guests)) (map name (t .waiting)) (t .flight) (all-of-map (named (gate .guests)) name (t .waiting) ∙ j .isNamed) (j .isFlown) in
       let m = named-parts (gate .guests) (names t) n in
-      let e : counted (gate .depth) (length (t .guests)) (gate .capacity) ≡ true = rw size (j .isCounted) in
+      let e : counted (gate .setup .depth) (length (t .guests)) (gate .setup .capacity) ≡ true = rw size (j .isCounted) in
       let s =
       is-sound t
       (record {
@@ -106,7 +108,7 @@ module _ (gate : Gate) (gs ws fs : List ℕ) where
         guests-orderly = λ g k. below-at (gate .guests) (inOrder gate gs ws) (j .isOrderly) g (rw size at k);
       })
       in
-      let z = both (zeroed 5 (gate .capacity) (gate .waiting) ws) (zeroed 2 (gate .depth) (gate .flight) fs) (j .isClear) in
+      let z = both (zeroed waitingWide (gate .setup .capacity) (gate .waiting) ws) (zeroed flightWide (gate .setup .depth) (gate .flight) fs) (j .isClear) in
       join (join (join s (m .1)) (z .0)) (z .1)
 
   -- a test that fails

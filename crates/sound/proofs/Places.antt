@@ -12,7 +12,8 @@ use borrow.Author.Tests.{eq-eqb, eqb-true, lt-ltb, le-ltb}
 use Rattle.lists.specs.WordsLaws.{join, place-not}
 use Rattle.lists.specs.Tab.{lt-or-le}
 use Rattle.lists.specs.RowsLaws.{row-at, length-rows}
-use Rattle.rules.specs.Tables.{Flight, name, same, lacks}
+use Rattle.rules.specs.Tables.{name, same, lacks}
+use Rattle.rules.specs.declared.Flight.{Flight}
 use Rattle.rules.specs.Sound.{distinct}
 use Rattle.table.specs.View.{requestForm, flightForm, waitingOf, flightsOf, nameless}
 use Rattle.sound.specs.Names.{namesOf, partAt}

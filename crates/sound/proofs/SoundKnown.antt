@@ -10,14 +10,15 @@ use Rattle.lists.specs.RowsLaws.{length-rows}
 use Rattle.rules.specs.Sound.{sound}
 use Rattle.rules.specs.declared.Gate.{Gate}
 use Rattle.rules.proofs.Facts.{sound-is}
+use Rattle.table.specs.Columns.{flightWide, waitingWide}
 use Rattle.table.specs.View.{requestForm, flightForm, tableOf, identified, zeroed, soundNumbers, Known}
 use Rattle.sound.specs.Fitting.{Fitting}
 use Rattle.sound.proofs.Zeros.{zeroed-unused, unused-zeroed}
 
 -- the counts of a sound table do not exceed capacity and depth
 record Roomy (g : Gate) : Type 0 where
-  waits : g .waiting ≤ g .capacity
-  flies : g .flight ≤ g .depth
+  waits : g .waiting ≤ g .setup .capacity
+  flies : g .flight ≤ g .setup .depth
 
 -- by the rule of counts
 roomy : (g : Gate) (gs ws fs : List ℕ) → sound (tableOf g gs ws fs) ≡ true → Roomy g
@@ -34,8 +35,8 @@ module _ (g : Gate) (gs ws fs : List ℕ) where
   unfolding soundNumbers
   sound-known f h =
       let t = tableOf g gs ws fs in
-      let h4 = both (sound t && identified t && zeroed 5 (g .capacity) (g .waiting) ws) (zeroed 2 (g .depth) (g .flight) fs) h in
-      let h3 = both (sound t && identified t) (zeroed 5 (g .capacity) (g .waiting) ws) (h4 .0) in
+      let h4 = both (sound t && identified t && zeroed waitingWide (g .setup .capacity) (g .waiting) ws) (zeroed flightWide (g .setup .depth) (g .flight) fs) h in
+      let h3 = both (sound t && identified t) (zeroed waitingWide (g .setup .capacity) (g .waiting) ws) (h4 .0) in
       let h2 = both (sound t) (identified t) (h3 .0) in
       let r = roomy g gs ws fs (h2 .0) in
       record {
@@ -45,8 +46,8 @@ module _ (g : Gate) (gs ws fs : List ℕ) where
         isSound = h2 .0;
         isIdentified = h2 .1;
         whole = record {
-          waitingUnused = zeroed-unused 5 (g .capacity) (g .waiting) (lit< tt) ws (f .waitingRoom) (r .waits) (h3 .1);
-          flightUnused = zeroed-unused 2 (g .depth) (g .flight) (lit< tt) fs (f .flightRoom) (r .flies) (h4 .1);
+          waitingUnused = zeroed-unused waitingWide (g .setup .capacity) (g .waiting) (lit< tt) ws (f .waitingRoom) (r .waits) (h3 .1);
+          flightUnused = zeroed-unused flightWide (g .setup .depth) (g .flight) (lit< tt) fs (f .flightRoom) (r .flies) (h4 .1);
         };
       }
 
@@ -55,5 +56,5 @@ module _ (g : Gate) (gs ws fs : List ℕ) where
   unfolding soundNumbers
   known-sound k =
       let r = roomy g gs ws fs (k .isSound) in
-      join (join (join (k .isSound) (k .isIdentified)) (unused-zeroed 5 (g .capacity) (g .waiting) (lit< tt) ws (k .waitingRoom) (r .waits) (k .whole .waitingUnused)))
-      (unused-zeroed 2 (g .depth) (g .flight) (lit< tt) fs (k .flightRoom) (r .flies) (k .whole .flightUnused))
+      join (join (join (k .isSound) (k .isIdentified)) (unused-zeroed waitingWide (g .setup .capacity) (g .waiting) (lit< tt) ws (k .waitingRoom) (r .waits) (k .whole .waitingUnused)))
+      (unused-zeroed flightWide (g .setup .depth) (g .flight) (lit< tt) fs (k .flightRoom) (r .flies) (k .whole .flightUnused))

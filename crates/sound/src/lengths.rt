@@ -1,5 +1,8 @@
 // Whether the counts of a gate lie in their ranges, and whether lent tables are long enough for them.
 use rules::Gate;
+use table::columns::FLIGHT_WIDE;
+use table::columns::GUEST_WIDE;
+use table::columns::WAITING_WIDE;
 use table::ranges::is_counted;
 ghost use mathlib.Core.Path.{_≡_};
 ghost use Rattle.table.specs.View.{countable, short};
@@ -8,7 +11,7 @@ ghost use Rattle.table.specs.View.{countable, short};
 pub fn is_countable(gate: Gate) -> bool
     ensures { λ b. ⌜ b ≡ countable gate ⌝ }
 {
-    is_counted(gate.depth, gate.guests, gate.capacity)
+    is_counted(gate.setup.depth, gate.guests, gate.setup.capacity)
 }
 
 // A lent table is shorter than the settings need; where the counts are out of range nothing is known to be needed.
@@ -19,13 +22,13 @@ pub fn is_short(gate: Gate, guests: &[u64], waiting: &[u64], flight: &[u64]) -> 
         return false;
     }
     let known = gate.guests as usize;
-    let capacity = gate.capacity as usize;
-    let depth = gate.depth as usize;
-    if guests.len() < known * 6 {
+    let capacity = gate.setup.capacity as usize;
+    let depth = gate.setup.depth as usize;
+    if guests.len() < known * GUEST_WIDE {
         return true;
     }
-    if waiting.len() < capacity * 5 {
+    if waiting.len() < capacity * WAITING_WIDE {
         return true;
     }
-    flight.len() < depth * 2
+    flight.len() < depth * FLIGHT_WIDE
 }

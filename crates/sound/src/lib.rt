@@ -22,8 +22,8 @@ pub fn is_sound(gate: Gate, guests: &[u64], waiting: &[u64], flight: &[u64]) -> 
     ensures { λ b. ⌜ b ≡ soundNumbers gate (now (guests .entry)) (now (waiting .entry)) (now (flight .entry)) ⌝ }
 {
     let known = gate.guests as usize;
-    let capacity = gate.capacity as usize;
-    let depth = gate.depth as usize;
+    let capacity = gate.setup.capacity as usize;
+    let depth = gate.setup.depth as usize;
     let count = gate.waiting as usize;
     let sent = gate.flight as usize;
     if !all_settled(guests, known) {

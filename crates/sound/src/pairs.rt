@@ -1,20 +1,25 @@
-// Whether no guest has one id twice, among waiting requests (five numbers each) and requests in flight (two numbers each).
+// Whether no guest has one id twice, among waiting requests and requests in flight.
+use table::columns::FLIGHT_WIDE;
 use table::columns::GUEST;
 use table::columns::ID;
+use table::columns::MOST_CAPACITY;
+use table::columns::MOST_DEPTH;
+use table::columns::WAITING_WIDE;
 ghost use mathlib.Core.Path.{_≡_};
-ghost use Prim.Native.Nat.{_+_, _*_, _<_};
+ghost use Prim.Native.Nat.{_+_, _≤_, _<_};
 ghost use Rattle.rules.specs.Sound.{distinct};
+ghost use Rattle.table.specs.Columns.{ID};
 ghost use Rattle.sound.specs.Names.{Rooms, namesOf, partAt, bucketOf};
 
 // The guest or the id of request k, counted through the waiting ones and then those in flight.
 fn part_of(waiting: &[u64], count: usize, flight: &[u64], sent: usize, k: usize, part: usize) -> u64
-    requires { ⌜ Rooms (now waiting) count (now flight) sent × (k < count + sent) × (part < 2) ⌝ }
+    requires { ⌜ Rooms (now waiting) count (now flight) sent × (k < count + sent) × (part ≤ ID) ⌝ }
     ensures { λ n. ⌜ n ≡ partAt (now (waiting .entry)) count (now (flight .entry)) part k ⌝ }
 {
     if k < count {
-        waiting[k * 5 + part]
+        waiting[k * WAITING_WIDE + part]
     } else {
-        flight[(k - count) * 2 + part]
+        flight[(k - count) * FLIGHT_WIDE + part]
     }
 }
 
@@ -38,7 +43,7 @@ pub fn all_once(waiting: &[u64], count: usize, flight: &[u64], sent: usize) -> b
     ensures { λ b. ⌜ b ≡ distinct (namesOf (now (waiting .entry)) count (now (flight .entry)) sent) ⌝ }
 {
     let mut heads: [u16; 4096] = [0; 4096];
-    let mut links: [u16; 1088] = [0; 1088];
+    let mut links: [u16; MOST_CAPACITY + MOST_DEPTH] = [0; MOST_CAPACITY + MOST_DEPTH];
     let total = count + sent;
     let mut once = true;
     let mut i: usize = 0;

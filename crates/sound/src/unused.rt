@@ -1,10 +1,13 @@
 // Whether the unused places of the two tables of requests are zero.
+use table::columns::FLIGHT_WIDE;
+use table::columns::WAITING_WIDE;
 ghost use mathlib.Core.Path.{_≡_};
 ghost use mathlib.Core.Bool.{_&&_};
 ghost use Prim.Native.Nat.{_*_, _≤_};
 ghost use lib.Dec.{eqb};
 ghost use lib.ListN.{length};
 ghost use Rattle.lists.specs.Words.{all};
+ghost use Rattle.table.specs.Columns.{flightWide, waitingWide};
 ghost use Rattle.table.specs.View.{zeroed};
 
 // Every number of a part is zero.
@@ -30,15 +33,15 @@ pub fn is_clear(
     sent: usize,
     depth: usize,
 ) -> bool
-    requires { ⌜ (count ≤ capacity) × (capacity * 5 ≤ length (now waiting)) × (sent ≤ depth) × (depth * 2 ≤ length (now flight)) ⌝ }
-    ensures { λ b. ⌜ b ≡ (zeroed 5 capacity count (now (waiting .entry)) && zeroed 2 depth sent (now (flight .entry))) ⌝ }
+    requires { ⌜ (count ≤ capacity) × (capacity * waitingWide ≤ length (now waiting)) × (sent ≤ depth) × (depth * flightWide ≤ length (now flight)) ⌝ }
+    ensures { λ b. ⌜ b ≡ (zeroed waitingWide capacity count (now (waiting .entry)) && zeroed flightWide depth sent (now (flight .entry))) ⌝ }
 {
-    let from = count * 5;
-    let to = capacity * 5;
+    let from = count * WAITING_WIDE;
+    let to = capacity * WAITING_WIDE;
     if !is_blank(&waiting[from..to]) {
         return false;
     }
-    let start = sent * 2;
-    let end = depth * 2;
+    let start = sent * FLIGHT_WIDE;
+    let end = depth * FLIGHT_WIDE;
     is_blank(&flight[start..end])
 }

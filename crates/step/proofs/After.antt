@@ -6,18 +6,21 @@ use mathlib.Core.Bool.{Bool, true, false}
 use mathlib.Core.List.{List}
 use Rattle.rules.specs.Tables.{Table}
 use Rattle.rules.specs.Sound.{sound}
-use Rattle.rules.specs.Choice.{Result}
-use Rattle.rules.specs.Events.{Event, enter}
+use Rattle.rules.specs.Choice.{Result, choice}
+use Rattle.rules.specs.Events.{enter}
+use Rattle.rules.specs.declared.Event.{Event}
 use Rattle.rules.specs.Refusals.{accepted}
 use Rattle.rules.specs.Run.{step}
-use Rattle.rules.proofs.Settings.{SameSettings, step-settings}
+use Rattle.rules.proofs.SameSettings.{SameSettings, choice-settings, step-settings}
+use Rattle.rules.proofs.Facts.{sound-is, is-sound}
+use Rattle.rules.proofs.ChoiceSound.{choice-sound}
 use Rattle.rules.proofs.StepSound.{accepted-step, refused-keeps, step-sound}
 use Rattle.rules.specs.declared.Gate.{Gate}
 use Rattle.table.specs.View.{tableOf, Handed, handed, identified, Known}
-use Rattle.step.specs.Does.{does}
-use Rattle.step.proofs.Lens.{written-shown, written-known, known-room}
-use Rattle.step.proofs.Ids.{Brings, choice-all, enter-all}
-use Rattle.step.proofs.Enter.{narrow}
+use Rattle.table.specs.Does.{does}
+use Rattle.table.proofs.Lens.{written-shown, written-known, known-room}
+use Rattle.enter.proofs.Ids.{Brings, choice-all, enter-all}
+use Rattle.enter.proofs.Entering.{narrow}
 
 -- what a call handed back is known
 abbrev pub KnownAfter : Handed → Type 0
@@ -40,6 +43,11 @@ module _ (g : Gate) (gs ws fs : List ℕ) (k : Known g gs ws fs) where
     pub handed-shown : shownAfter (handed gs ws fs r) ≡ r .table
     unfolding handed
     handed-shown = written-shown gs ws fs (r .table) (known-room g gs ws fs k (r .table) same) firm
+
+  -- after a choice all is known again
+  pub choice-known : KnownAfter (does choice g gs ws fs)
+  choice-known =
+      handed-known (choice t) (choice-settings t) (is-sound (choice t .table) (choice-sound t (sound-is t (k .isSound)))) (choice-all narrow t (k .isIdentified))
 
   module _ (e : Event) (brings : Brings narrow e) where
     -- a step brings only the id that arrives

@@ -1,16 +1,2 @@
-pub mod Lens
-pub mod Ids
-pub mod Enter
-pub mod Facts
-pub mod Judges
-pub mod Rising
-pub mod Sends
-pub mod WeightSend
-pub mod Ticks
-pub mod Phases
-pub mod Returns
-pub mod EventReturns
-pub mod Arrivals
-pub mod ArriveReturns
-pub mod Settles
 pub mod After
+pub mod Moves

@@ -1,6 +1,29 @@
-// One event on a table that is known to be sound: functions for this repository's own crates, and no public call. Soundness is shown once,
-// where a table comes from, and kept by every step: nothing here tests it.
-pub mod arrive; // an arrival
-pub mod choose; // the choice, phase by phase
-pub mod events; // tick and completion
-pub mod gates; // the gate and the outcome after each kind of move
+// One event on a table that is known to be sound: it enters, then the choice is made. For this repository's own crates, and no public call.
+// Soundness is shown once, where a table comes from, and kept by every step: nothing here tests it.
+use enter::Entered;
+use rules::Event;
+use rules::Gate;
+use rules::Outcome;
+ghost use mathlib.Core.Path.{_≡_};
+ghost use Rattle.rules.specs.Run.{step as stepAt};
+ghost use Rattle.table.specs.View.{Known};
+ghost use Rattle.table.specs.Does.{does};
+
+// One event: refused, and every number stands as it did, or entered, and the choice made.
+pub fn step(
+    gate: Gate,
+    guests: &mut [u64],
+    waiting: &mut [u64],
+    flight: &mut [u64],
+    event: Event,
+) -> Outcome
+    requires { ⌜ Known gate (now guests) (now waiting) (now flight) ⌝ }
+    ensures { λ r. ⌜ (r, now (guests .exit), now (waiting .exit), now (flight .exit)) ≡ does (λ t. stepAt t event) gate (now (guests .entry)) (now (waiting .entry)) (now (flight .entry)) ⌝ }
+    ensures { λ r. ⌜ Known (r .gate) (now (guests .exit)) (now (waiting .exit)) (now (flight .exit)) ⌝ }
+{
+    let entered = enter::enter(gate, guests, waiting, flight, event);
+    match entered {
+        Entered::Refused(why) => table::gates::refused(gate, why),
+        Entered::At(moved) => choose::choose(moved, guests, waiting, flight),
+    }
+}

@@ -1,4 +1,4 @@
--- The lent numbers as a table of document 01, and a table written over the numbers. Six numbers a guest, five a waiting request, two a request in flight.
+-- The lent numbers as a table of document 01, and a table written over the numbers. Where each number stands in its row, Columns says.
 use Prim.Native.Nat.{ℕ, _*_, _-_, _≤_}
 use mathlib.Core.Path.{_≡_}
 use mathlib.Core.Bool.{Bool, true, _&&_, _||_}
@@ -7,42 +7,48 @@ use lib.Dec.{ltb, eqb}
 use lib.ListN.{length, getD, take, drop}
 use Rattle.lists.specs.Words.{all}
 use Rattle.lists.specs.Rows.{Form, rowsOf, overRows, Unused}
-use Rattle.rules.specs.Tables.{Settings, Guest, Request, Flight, Table, names}
+use Rattle.rules.specs.Tables.{Request, Table, names}
+use Rattle.rules.specs.declared.Setup.{Setup}
+use Rattle.rules.specs.declared.Settings.{Settings}
+use Rattle.rules.specs.declared.Guest.{Guest}
+use Rattle.rules.specs.declared.Flight.{Flight}
 use Rattle.rules.specs.Sound.{counted, sound}
 use Rattle.rules.specs.Choice.{Result}
 use Rattle.rules.specs.declared.Gate.{Gate}
+use Rattle.rules.specs.declared.Answer.{Answer}
 use Rattle.rules.specs.declared.Outcome.{Outcome}
+use Rattle.table.specs.Columns.{RESERVATION, LIMIT, SHARES, RNEXT, LNEXT, SNEXT, GUEST, ID, RTAG, LTAG, STAG, guestWide, settingsWide, waitingWide, flightWide}
 
--- a guest's settings as three numbers
+-- a guest's settings as numbers
 abbrev pub settingsForm : Form Settings
 settingsForm =
     record {
-      wide = 3;
-      read = λ v. record { reservation = getD v 0 0; limit = getD v 1 0; shares = getD v 2 0 };
+      wide = settingsWide;
+      read = λ v. record { reservation = getD v RESERVATION 0; limit = getD v LIMIT 0; shares = getD v SHARES 0 };
       line = λ s. s .reservation ∷ s .limit ∷ s .shares ∷ [];
     }
 
--- a guest as six numbers: its settings, then its next numbers
+-- a guest as numbers: its settings, then its next numbers
 abbrev pub guestForm : Form Guest
 guestForm =
     record {
-      wide = 6;
-      read = λ v. record { settings = record { reservation = getD v 0 0; limit = getD v 1 0; shares = getD v 2 0 }; rnext = getD v 3 0; lnext = getD v 4 0; snext = getD v 5 0 };
+      wide = guestWide;
+      read = λ v. record { settings = record { reservation = getD v RESERVATION 0; limit = getD v LIMIT 0; shares = getD v SHARES 0 }; rnext = getD v RNEXT 0; lnext = getD v LNEXT 0; snext = getD v SNEXT 0 };
       line = λ h. h .settings .reservation ∷ h .settings .limit ∷ h .settings .shares ∷ h .rnext ∷ h .lnext ∷ h .snext ∷ [];
     }
 
--- a waiting request as five numbers
+-- a waiting request as numbers
 abbrev pub requestForm : Form Request
 requestForm =
     record {
-      wide = 5;
-      read = λ v. record { guest = getD v 0 0; id = getD v 1 0; rtag = getD v 2 0; ltag = getD v 3 0; stag = getD v 4 0 };
+      wide = waitingWide;
+      read = λ v. record { guest = getD v GUEST 0; id = getD v ID 0; rtag = getD v RTAG 0; ltag = getD v LTAG 0; stag = getD v STAG 0 };
       line = λ q. q .guest ∷ q .id ∷ q .rtag ∷ q .ltag ∷ q .stag ∷ [];
     }
 
--- a request in flight as two numbers
+-- a request in flight as numbers
 abbrev pub flightForm : Form Flight
-flightForm = record { wide = 2; read = λ v. record { guest = getD v 0 0; id = getD v 1 0 }; line = λ f. f .guest ∷ f .id ∷ [] }
+flightForm = record { wide = flightWide; read = λ v. record { guest = getD v GUEST 0; id = getD v ID 0 }; line = λ f. f .guest ∷ f .id ∷ [] }
 
 -- the first n guests of the guest table
 abbrev pub guestsOf : List ℕ → ℕ → List Guest
@@ -68,24 +74,24 @@ nameless = nameIs 0 0
 abbrev pub tableOf : Gate → (gs ws fs : List ℕ) → Table
 tableOf g gs ws fs =
     record {
-      setup = record { depth = g .depth; capacity = g .capacity };
+      setup = g .setup;
       time = g .time;
       guests = guestsOf gs (g .guests);
       waiting = waitingOf ws (g .waiting);
       flight = flightsOf fs (g .flight);
     }
 
--- the gate of a table: its settings, its time and its counts
+-- the gate of this setup and so many guests at a time, with so many waiting and so many in flight
+abbrev pub gateAt : Setup → (guests time waiting flight : ℕ) → Gate
+gateAt s n time w f = record { setup = s; guests = n; time = time; waiting = w; flight = f }
+
+-- the gate of a table: its setup, its time and its counts
 abbrev pub gateOf : Table → Gate
-gateOf t =
-    record {
-      depth = t .setup .depth;
-      guests = length (t .guests);
-      capacity = t .setup .capacity;
-      time = t .time;
-      waiting = length (t .waiting);
-      flight = length (t .flight);
-    }
+gateOf t = gateAt (t .setup) (length (t .guests)) (t .time) (length (t .waiting)) (length (t .flight))
+
+-- the outcome of a call: the gate after it, and its answer
+abbrev pub outcomeOf : Gate → Answer → Outcome
+outcomeOf g a = record { gate = g; answer = a }
 
 -- an outcome and the three lent tables as a call hands them back
 abbrev pub Handed : Type 0
@@ -94,7 +100,7 @@ Handed = Outcome × List ℕ × List ℕ × List ℕ
 -- THE WAY BACK: a table and an answer written over what was lent; places beyond what the settings need stay as they were
 unfoldable pub handed : (gs ws fs : List ℕ) → Result → Handed
 handed gs ws fs r = (
-  record { gate = gateOf (r .table); answer = r .answer },
+  outcomeOf (gateOf (r .table)) (r .answer),
   overRows guestForm (length (r .table .guests)) (r .table .guests) gs,
   overRows requestForm (r .table .setup .capacity) (r .table .waiting) ws,
   overRows flightForm (r .table .setup .depth) (r .table .flight) fs,
@@ -102,12 +108,12 @@ handed gs ws fs r = (
 
 -- guests, depth and capacity are in range, so that the lengths needed are known
 abbrev pub countable : Gate → Bool
-countable g = counted (g .depth) (g .guests) (g .capacity)
+countable g = counted (g .setup .depth) (g .guests) (g .setup .capacity)
 
 -- refusal 2: "a lent table .. is shorter than the settings need"; where the counts are out of range nothing is needed, and 3 is given
 unfoldable pub short : Gate → (gs ws fs : List ℕ) → Bool
 short g gs ws fs =
-    countable g && (ltb (length gs) (g .guests * 6) || ltb (length ws) (g .capacity * 5) || ltb (length fs) (g .depth * 2))
+    countable g && (ltb (length gs) (g .guests * guestWide) || ltb (length ws) (g .setup .capacity * waitingWide) || ltb (length fs) (g .setup .depth * flightWide))
 
 -- every id is a number of 32 bits: document 01's ids are, and another number in a place for one is no request
 abbrev pub identified : Table → Bool
@@ -121,18 +127,18 @@ zeroed s cap n xs = all (λ x. eqb x 0) (take (cap * s - n * s) (drop (n * s) xs
 unfoldable pub soundNumbers : Gate → (gs ws fs : List ℕ) → Bool
 soundNumbers g gs ws fs =
     sound (tableOf g gs ws fs) && identified (tableOf g gs ws fs)
-    && zeroed 5 (g .capacity) (g .waiting) ws && zeroed 2 (g .depth) (g .flight) fs
+    && zeroed waitingWide (g .setup .capacity) (g .waiting) ws && zeroed flightWide (g .setup .depth) (g .flight) fs
 
 -- the unused places of the waiting table and of the flight table are zero
 pub record Whole (g : Gate) (ws fs : List ℕ) : Type 0 where
-  pub waitingUnused : Unused requestForm (g .capacity) (g .waiting) ws
-  pub flightUnused : Unused flightForm (g .depth) (g .flight) fs
+  pub waitingUnused : Unused requestForm (g .setup .capacity) (g .waiting) ws
+  pub flightUnused : Unused flightForm (g .setup .depth) (g .flight) fs
 
 -- what a call may rely on once lengths and soundness were judged
 pub record Known (g : Gate) (gs ws fs : List ℕ) : Type 0 where
-  pub guestRoom : g .guests * 6 ≤ length gs
-  pub waitingRoom : g .capacity * 5 ≤ length ws
-  pub flightRoom : g .depth * 2 ≤ length fs
+  pub guestRoom : g .guests * guestWide ≤ length gs
+  pub waitingRoom : g .setup .capacity * waitingWide ≤ length ws
+  pub flightRoom : g .setup .depth * flightWide ≤ length fs
   pub isSound : sound (tableOf g gs ws fs) ≡ true
   pub isIdentified : identified (tableOf g gs ws fs) ≡ true
   pub whole : Whole g ws fs

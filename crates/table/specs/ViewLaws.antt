@@ -4,14 +4,14 @@ use lib.Dec.{lit<}
 use Rattle.lists.specs.Rows.{Exact}
 use Rattle.table.specs.View.{guestForm, requestForm, flightForm}
 
--- the six numbers of a guest
+-- the numbers of a guest
 pub guest-exact : Exact guestForm
 guest-exact = record { some = lit< tt; size = λ a. refl; back = λ a. refl; forth = λ v. refl }
 
--- the five numbers of a waiting request
+-- the numbers of a waiting request
 pub request-exact : Exact requestForm
 request-exact = record { some = lit< tt; size = λ a. refl; back = λ a. refl; forth = λ v. refl }
 
--- the two numbers of a request in flight
+-- the numbers of a request in flight
 pub flight-exact : Exact flightForm
 flight-exact = record { some = lit< tt; size = λ a. refl; back = λ a. refl; forth = λ v. refl }

@@ -1,4 +1,5 @@
-// Where each number stands in its row: six a guest, of which the first three are its settings, five a waiting request, two a request in flight.
+// Where each number stands in its row, how many numbers a row has, and how large a table may be. Columns.antt in specs/ has these names for the
+// contracts.
 
 // A guest's reservation.
 pub const RESERVATION: usize = 0;
@@ -18,11 +19,20 @@ pub const LNEXT: usize = 4;
 // A guest's next share number.
 pub const SNEXT: usize = 5;
 
+// The numbers of a guest.
+pub const GUEST_WIDE: usize = 6;
+
+// The numbers of a guest's settings in a list of settings.
+pub const SETTINGS_WIDE: usize = 3;
+
 // Whose a request is, waiting or in flight.
 pub const GUEST: usize = 0;
 
 // A request's id, waiting or in flight.
 pub const ID: usize = 1;
+
+// The numbers of a request in flight.
+pub const FLIGHT_WIDE: usize = 2;
 
 // A waiting request's reservation tag.
 pub const RTAG: usize = 2;
@@ -32,3 +42,27 @@ pub const LTAG: usize = 3;
 
 // A waiting request's share tag.
 pub const STAG: usize = 4;
+
+// The numbers of a waiting request.
+pub const WAITING_WIDE: usize = 5;
+
+// The most guests.
+pub const MOST_GUESTS: usize = 64;
+
+// The most places at the array.
+pub const MOST_DEPTH: usize = 64;
+
+// The most waiting places.
+pub const MOST_CAPACITY: usize = 1024;
+
+// The numbers of the largest guest table.
+pub const GUESTS_LONG: usize = MOST_GUESTS * GUEST_WIDE;
+
+// The numbers of the largest list of settings.
+pub const SETTINGS_LONG: usize = MOST_GUESTS * SETTINGS_WIDE;
+
+// The numbers of the largest waiting table.
+pub const WAITING_LONG: usize = MOST_CAPACITY * WAITING_WIDE;
+
+// The numbers of the largest flight table.
+pub const FLIGHT_LONG: usize = MOST_DEPTH * FLIGHT_WIDE;

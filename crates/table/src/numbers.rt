@@ -2,7 +2,7 @@
 ghost use mathlib.Core.Path.{_≡_};
 ghost use Prim.Native.Nat.{_≤_};
 ghost use Rattle.rules.specs.Numbers.{down, up, tagAt};
-ghost use Rattle.rules.specs.Tables.{Guest};
+ghost use Rattle.rules.specs.declared.Guest.{Guest};
 ghost use Rattle.rules.specs.Events.{tagIf, shareTag};
 ghost use Rattle.table.specs.Stamp.{lawfulTags};
 

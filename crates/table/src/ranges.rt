@@ -1,4 +1,7 @@
 // Whether counts and settings lie in their ranges, on plain numbers.
+use super::columns::MOST_CAPACITY;
+use super::columns::MOST_DEPTH;
+use super::columns::MOST_GUESTS;
 ghost use mathlib.Core.Path.{_≡_};
 ghost use Rattle.rules.specs.Numbers.{within as withinOf};
 ghost use Rattle.rules.specs.Sound.{counted, settled};
@@ -20,13 +23,13 @@ fn within(low: u64, high: u64, n: u64) -> bool
 pub fn is_counted(depth: u64, guests: u64, capacity: u64) -> bool
     ensures { λ b. ⌜ b ≡ counted depth guests capacity ⌝ }
 {
-    if !within(1, 64, depth) {
+    if !within(1, MOST_DEPTH as u64, depth) {
         return false;
     }
-    if !within(1, 64, guests) {
+    if !within(1, MOST_GUESTS as u64, guests) {
         return false;
     }
-    within(1, 1024, capacity)
+    within(1, MOST_CAPACITY as u64, capacity)
 }
 
 // One guest's settings lie in their ranges. A reservation above a non-zero limit is bad; equal is good.

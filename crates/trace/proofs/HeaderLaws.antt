@@ -14,8 +14,8 @@ use Rattle.lists.specs.WordsLaws.{both, join, all-append}
 use Rattle.lists.specs.Tab.{tab, tab-snoc}
 use Rattle.rules.specs.Answers.{numberOf}
 use Rattle.rules.specs.Sound.{counted, settled}
-use Rattle.rules.specs.Refusals.{Verdict, accept, refuse, judged}
-use Rattle.rules.proofs.Judged.{accepted-exactly}
+use Rattle.rules.specs.Refusals.{Verdict, accept, refuse, judged, isAccept}
+use Rattle.rules.proofs.Judged.{passed, passed-again}
 use Rattle.trace.specs.Header.{same, depthOf, guestsOf, capacityOf, body, settingsIn, headerTests, headerOf}
 use Rattle.trace.specs.declared.Header.the-variants.{Opened, Refused}
 
@@ -80,14 +80,16 @@ pub record Opens (bs : List ℕ) (depth guests capacity : ℕ) : Type 0 where
 opens : (bs : List ℕ) → judged (headerTests bs) ≡ accept → Opens bs (depthOf bs) (guestsOf bs) (capacityOf bs)
 unfolding headerTests
 opens bs e =
-    let n = accepted-exactly (headerTests bs) .0 e .1 .1 .1 in
+    let ok : isAccept (judged (headerTests bs)) ≡ true = ap isAccept e in
+    let no = passed (headerTests bs) ok in
+    let again = passed-again (headerTests bs) ok in
     record {
       depthIs = refl;
       guestsIs = refl;
       capacityIs = refl;
-      counts = not-false _ (n .0);
-      whole = ltb-false (length bs) (body (guestsOf bs)) (n .1 .0);
-      settings = not-false _ (n .1 .1 .0);
+      counts = not-false _ (no 1);
+      whole = ltb-false (length bs) (body (guestsOf bs)) (again 13);
+      settings = not-false _ (again 1);
     }
 
 -- a header that opens

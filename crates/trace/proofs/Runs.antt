@@ -5,20 +5,18 @@ use mathlib.Core.List.{List, [], _∷_, _++_}
 use lib.ListN.{length, take, drop}
 use Rattle.lists.specs.Words.{if_then_else_, empty}
 use Rattle.rules.specs.Tables.{Table}
-use Rattle.rules.specs.Events.{Event, arrival, completion, tick}
+use Rattle.rules.specs.declared.Event.{Event}
 use Rattle.rules.specs.Run.{step, after, answers}
 use Rattle.rules.specs.declared.Refusal.the-variants.{BadEvent}
 use Rattle.rules.specs.declared.Answer.{Answer}
 use Rattle.rules.specs.declared.Answer.the-variants.{Refused}
 use Rattle.trace.specs.Printed.{answered, answersTo, tableAfter}
 use Rattle.trace.specs.declared.Read.{Read}
-use Rattle.trace.specs.declared.Read.the-variants.{Arrival, Completion, Tick, Bad}
+use Rattle.trace.specs.declared.Read.the-variants.{Good, Bad}
 
 -- what an event that was read means to the rules: an event, or none where it is bad
 abbrev pub meant : Read → List Event
-meant (Arrival g i now) = arrival (record { guest = g; id = i }) now ∷ []
-meant (Completion g i now) = completion (record { guest = g; id = i }) now ∷ []
-meant (Tick now) = tick now ∷ []
+meant (Good e) = e ∷ []
 meant Bad = []
 
 -- the run of a list of events that were read
@@ -35,16 +33,12 @@ woven (e ∷ es) l = (if empty (meant e) then Refused BadEvent ∷ [] else take 
 pub table-run : (t : Table) (es : List Read) → tableAfter t es ≡ after t (run es)
 unfolding tableAfter after answered
 table-run t [] = refl
-table-run t (Arrival g i now ∷ es) = table-run (step t (arrival (record { guest = g; id = i }) now) .table) es
-table-run t (Completion g i now ∷ es) = table-run (step t (completion (record { guest = g; id = i }) now) .table) es
-table-run t (Tick now ∷ es) = table-run (step t (tick now) .table) es
+table-run t (Good e ∷ es) = table-run (step t e .table) es
 table-run t (Bad ∷ es) = table-run t es
 
 -- the answers are those to the run
 pub answers-run : (t : Table) (es : List Read) → answersTo t es ≡ woven es (answers t (run es))
 unfolding answersTo answers answered
 answers-run t [] = refl
-answers-run t (Arrival g i now ∷ es) = ap (λ (l : List Answer). step t (arrival (record { guest = g; id = i }) now) .answer ∷ l) (answers-run (step t (arrival (record { guest = g; id = i }) now) .table) es)
-answers-run t (Completion g i now ∷ es) = ap (λ (l : List Answer). step t (completion (record { guest = g; id = i }) now) .answer ∷ l) (answers-run (step t (completion (record { guest = g; id = i }) now) .table) es)
-answers-run t (Tick now ∷ es) = ap (λ (l : List Answer). step t (tick now) .answer ∷ l) (answers-run (step t (tick now) .table) es)
+answers-run t (Good e ∷ es) = ap (λ (l : List Answer). step t e .answer ∷ l) (answers-run (step t e .table) es)
 answers-run t (Bad ∷ es) = ap (λ (l : List Answer). Refused BadEvent ∷ l) (answers-run t es)

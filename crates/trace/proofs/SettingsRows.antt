@@ -10,29 +10,30 @@ use Rattle.lists.specs.Lines.{lineAt}
 use Rattle.lists.specs.Rows.{rowsOf}
 use Rattle.lists.specs.RowsLaws.{rows-tab}
 use Rattle.lists.specs.Sets.{getD-sets}
+use Rattle.table.specs.Columns.{settingsWide, RESERVATION, LIMIT, SHARES}
 use Rattle.table.specs.View.{settingsForm}
 use Rattle.trace.specs.Header.{numberAt, settingsAt}
 
-module _ (bs old : List ℕ) (n : ℕ) (room : n * 3 ≤ length old) where
+module _ (bs old : List ℕ) (n : ℕ) (room : n * settingsWide ≤ length old) where
   -- what `read_settings` leaves
   abbrev written : List ℕ
-  written = sets old 0 (tab (n * 3) (numberAt bs))
+  written = sets old 0 (tab (n * settingsWide) (numberAt bs))
 
   -- number j of it
-  at : (j : ℕ) → j < n * 3 → getD written j 0 ≡ numberAt bs j
+  at : (j : ℕ) → j < n * settingsWide → getD written j 0 ≡ numberAt bs j
   at j h =
-      getD-sets old (tab (n * 3) (numberAt bs)) j 0 (omega (arith, length-tab (n * 3) (numberAt bs))) (omega (arith, length-tab (n * 3) (numberAt bs)))
-      ∙ getD-tab (n * 3) (numberAt bs) j 0 h
+      getD-sets old (tab (n * settingsWide) (numberAt bs)) j 0 (omega (arith, length-tab (n * settingsWide) (numberAt bs))) (omega (arith, length-tab (n * settingsWide) (numberAt bs)))
+      ∙ getD-tab (n * settingsWide) (numberAt bs) j 0 h
 
   -- row k of it
-  row : (k : ℕ) → k < n → settingsForm .read (lineAt 3 written k) ≡ settingsAt bs k
+  row : (k : ℕ) → k < n → settingsForm .read (lineAt settingsWide written k) ≡ settingsAt bs k
   row k h =
-      let z : k * 3 + 0 ≡ k * 3 = omega arith in
-      let r : getD written (k * 3 + 0) 0 ≡ numberAt bs (k * 3) = ap (λ (i : ℕ). getD written i 0) z ∙ at (k * 3) (omega arith) in
-      let l = at (k * 3 + 1) (omega arith) in
-      let s = at (k * 3 + 2) (omega arith) in
+      let z : k * settingsWide + RESERVATION ≡ k * settingsWide = omega arith in
+      let r : getD written (k * settingsWide + RESERVATION) 0 ≡ numberAt bs (k * settingsWide) = ap (λ (i : ℕ). getD written i 0) z ∙ at (k * settingsWide) (omega arith) in
+      let l = at (k * settingsWide + LIMIT) (omega arith) in
+      let s = at (k * settingsWide + SHARES) (omega arith) in
       λ i. record { reservation = r i; limit = l i; shares = s i }
 
   -- all rows of it
   pub settings-rows : rowsOf settingsForm written n ≡ tab n (settingsAt bs)
-  settings-rows = rows-tab settingsForm written n ∙ tab-ext n (λ k. settingsForm .read (lineAt 3 written k)) (settingsAt bs) row
+  settings-rows = rows-tab settingsForm written n ∙ tab-ext n (λ k. settingsForm .read (lineAt settingsWide written k)) (settingsAt bs) row

@@ -10,8 +10,9 @@ use Rattle.trace.specs.Header.{headerShown}
 use Rattle.trace.specs.Event.{readShown}
 use Rattle.trace.specs.declared.Header.{Header}
 use Rattle.trace.specs.declared.Header.the-variants.{Opened, Refused}
+use Rattle.rules.specs.declared.Event.the-variants.{Arrival, Completion, Tick}
 use Rattle.trace.specs.declared.Read.{Read}
-use Rattle.trace.specs.declared.Read.the-variants.{Arrival, Completion, Tick, Bad}
+use Rattle.trace.specs.declared.Read.the-variants.{Good, Bad}
 
 -- the number that is shown at place n
 at : ℕ → List ℕ → ℕ
@@ -28,19 +29,19 @@ header-shown-once (Refused r) (Refused s) h = ap Refused (numberOf-once r s (ap 
 -- two events that are shown alike are equal
 pub read-shown-once : (a b : Read) → readShown a ≡ readShown b → a ≡ b
 unfolding at
-read-shown-once (Arrival g i t) (Arrival k j u) h = λ n. Arrival (ap (at 1) h n) (ap (at 2) h n) (ap (at 3) h n)
-read-shown-once (Arrival g i t) (Completion k j u) h = absurd (omega (arith, ap (at 0) h))
-read-shown-once (Arrival g i t) (Tick u) h = absurd (omega (arith, ap (at 0) h))
-read-shown-once (Arrival g i t) Bad h = absurd (omega (arith, ap (at 0) h))
-read-shown-once (Completion g i t) (Arrival k j u) h = absurd (omega (arith, ap (at 0) h))
-read-shown-once (Completion g i t) (Completion k j u) h = λ n. Completion (ap (at 1) h n) (ap (at 2) h n) (ap (at 3) h n)
-read-shown-once (Completion g i t) (Tick u) h = absurd (omega (arith, ap (at 0) h))
-read-shown-once (Completion g i t) Bad h = absurd (omega (arith, ap (at 0) h))
-read-shown-once (Tick t) (Arrival k j u) h = absurd (omega (arith, ap (at 0) h))
-read-shown-once (Tick t) (Completion k j u) h = absurd (omega (arith, ap (at 0) h))
-read-shown-once (Tick t) (Tick u) h = ap Tick (ap (at 3) h)
-read-shown-once (Tick t) Bad h = absurd (omega (arith, ap (at 0) h))
-read-shown-once Bad (Arrival k j u) h = absurd (omega (arith, ap (at 0) h))
-read-shown-once Bad (Completion k j u) h = absurd (omega (arith, ap (at 0) h))
-read-shown-once Bad (Tick u) h = absurd (omega (arith, ap (at 0) h))
+read-shown-once (Good (Arrival x t)) (Good (Arrival y u)) h = λ n. Good (Arrival (record { guest = ap (at 1) h n; id = ap (at 2) h n }) (ap (at 3) h n))
+read-shown-once (Good (Arrival x t)) (Good (Completion y u)) h = absurd (omega (arith, ap (at 0) h))
+read-shown-once (Good (Arrival x t)) (Good (Tick u)) h = absurd (omega (arith, ap (at 0) h))
+read-shown-once (Good (Arrival x t)) Bad h = absurd (omega (arith, ap (at 0) h))
+read-shown-once (Good (Completion x t)) (Good (Arrival y u)) h = absurd (omega (arith, ap (at 0) h))
+read-shown-once (Good (Completion x t)) (Good (Completion y u)) h = λ n. Good (Completion (record { guest = ap (at 1) h n; id = ap (at 2) h n }) (ap (at 3) h n))
+read-shown-once (Good (Completion x t)) (Good (Tick u)) h = absurd (omega (arith, ap (at 0) h))
+read-shown-once (Good (Completion x t)) Bad h = absurd (omega (arith, ap (at 0) h))
+read-shown-once (Good (Tick t)) (Good (Arrival y u)) h = absurd (omega (arith, ap (at 0) h))
+read-shown-once (Good (Tick t)) (Good (Completion y u)) h = absurd (omega (arith, ap (at 0) h))
+read-shown-once (Good (Tick t)) (Good (Tick u)) h = ap (λ (n : ℕ). Good (Tick n)) (ap (at 3) h)
+read-shown-once (Good (Tick t)) Bad h = absurd (omega (arith, ap (at 0) h))
+read-shown-once Bad (Good (Arrival y u)) h = absurd (omega (arith, ap (at 0) h))
+read-shown-once Bad (Good (Completion y u)) h = absurd (omega (arith, ap (at 0) h))
+read-shown-once Bad (Good (Tick u)) h = absurd (omega (arith, ap (at 0) h))
 read-shown-once Bad Bad h = refl

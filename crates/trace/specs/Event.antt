@@ -7,24 +7,25 @@ use lib.Dec.{eqb}
 use lib.ListN.{length, drop}
 use Rattle.lists.specs.Words.{if_then_else_}
 use Rattle.rules.specs.Answers.{numberOf}
+use Rattle.rules.specs.declared.Event.the-variants.{Arrival, Completion, Tick}
 use Rattle.rules.specs.declared.Refusal.the-variants.{BadEvent}
 use Rattle.trace.specs.Little.{byteAt, fourAt, eightAt}
 use Rattle.trace.specs.declared.Read.{Read}
-use Rattle.trace.specs.declared.Read.the-variants.{Arrival, Completion, Tick, Bad}
+use Rattle.trace.specs.declared.Read.the-variants.{Good, Bad}
 
 -- the paper's number and values of an event: its kind, guest, id and time as they stand in the bytes, or 14 where it is bad
 abbrev pub readShown : Read → List ℕ
-readShown (Arrival guest id time) = 0 ∷ guest ∷ id ∷ time ∷ []
-readShown (Completion guest id time) = 1 ∷ guest ∷ id ∷ time ∷ []
-readShown (Tick time) = 2 ∷ 0 ∷ 0 ∷ time ∷ []
+readShown (Good (Arrival a time)) = 0 ∷ a .guest ∷ a .id ∷ time ∷ []
+readShown (Good (Completion f time)) = 1 ∷ f .guest ∷ f .id ∷ time ∷ []
+readShown (Good (Tick time)) = 2 ∷ 0 ∷ 0 ∷ time ∷ []
 readShown Bad = numberOf BadEvent ∷ []
 
 -- an event of this kind, guest, id and time
 unfoldable pub eventFrom : (kind guest id time : ℕ) → Read
 eventFrom kind guest id time =
-    if eqb kind 0 then Arrival guest id time
-    else if eqb kind 1 then Completion guest id time
-    else if eqb kind 2 && eqb guest 0 && eqb id 0 then Tick time
+    if eqb kind 0 then Good (Arrival (record { guest = guest; id = id }) time)
+    else if eqb kind 1 then Good (Completion (record { guest = guest; id = id }) time)
+    else if eqb kind 2 && eqb guest 0 && eqb id 0 then Good (Tick time)
     else Bad
 
 -- the event that stands at the front of the bytes

@@ -8,7 +8,7 @@ use lib.Dec.{eqb, ltb}
 use lib.ListN.{length, take}
 use Rattle.lists.specs.Words.{all}
 use Rattle.lists.specs.Tab.{tab}
-use Rattle.rules.specs.Tables.{Settings}
+use Rattle.rules.specs.declared.Settings.{Settings}
 use Rattle.rules.specs.Sound.{counted, settled}
 use Rattle.rules.specs.Answers.{numberOf}
 use Rattle.rules.specs.Refusals.{Test, Verdict, accept, refuse, judged}
@@ -16,6 +16,7 @@ use Rattle.rules.specs.declared.Refusal.the-variants.{BadSetting, BadMark, BadV
 use Rattle.trace.specs.Little.{byteAt, twoAt, fourAt}
 use Rattle.trace.specs.declared.Header.{Header}
 use Rattle.trace.specs.declared.Header.the-variants.{Opened, Refused}
+use Rattle.table.specs.Columns.{settingsWide, LIMIT, SHARES}
 
 -- the letters S, G and Q as bytes
 abbrev pub mark : List ℕ
@@ -54,7 +55,7 @@ numberAt bs j = fourAt bs (9 + 4 * j)
 
 -- the record of guest k: "reservation, limit, shares"
 abbrev pub settingsAt : List ℕ → ℕ → Settings
-settingsAt bs k = record { reservation = numberAt bs (k * 3); limit = numberAt bs (k * 3 + 1); shares = numberAt bs (k * 3 + 2) }
+settingsAt bs k = record { reservation = numberAt bs (k * settingsWide); limit = numberAt bs (k * settingsWide + LIMIT); shares = numberAt bs (k * settingsWide + SHARES) }
 
 -- the records of all guests
 abbrev pub settingsIn : List ℕ → List Settings

@@ -2,6 +2,9 @@
 use crate::Read;
 use crate::little::four;
 use crate::little::wide;
+use rules::Arriving;
+use rules::Event;
+use rules::Flight;
 ghost use mathlib.Core.Path.{_≡_};
 ghost use Prim.Native.Nat.{_≤_};
 ghost use lib.ListN.{length};
@@ -20,15 +23,15 @@ fn event_from(kind: u8, guest: u64, id: u32, time: u64) -> Read
     ensures { λ r. ⌜ r ≡ eventFrom kind guest id time ⌝ }
 {
     if kind == 0 {
-        return Read::Arrival { guest, id, time };
+        return Read::Good(Event::Arrival(Arriving { guest, id }, time));
     }
     if kind == 1 {
-        return Read::Completion { guest, id, time };
+        return Read::Good(Event::Completion(Flight { guest, id }, time));
     }
     if kind == 2 {
         if guest == 0 {
             if id == 0 {
-                return Read::Tick { time };
+                return Read::Good(Event::Tick(time));
             }
         }
     }

@@ -1,4 +1,5 @@
 // The trace of document 01 as bytes: its header and its events, read from slices. What is printed of it is in specs/Printed.antt.
+use rules::Event;
 use rules::Refusal;
 
 pub mod little; // numbers from bytes
@@ -15,10 +16,8 @@ pub enum Header {
     Refused(Refusal),
 }
 
-// One event as its 14 bytes have it. Bad is refusal 14.
+// An event as its 14 bytes have it, or a bad one: refusal 14.
 pub enum Read {
-    Arrival { guest: u64, id: u32, time: u64 },
-    Completion { guest: u64, id: u32, time: u64 },
-    Tick { time: u64 },
+    Good(Event),
     Bad,
 }

@@ -4,6 +4,7 @@ use crate::little::four;
 use crate::little::two;
 use crate::little::wide;
 use rules::Refusal;
+use table::columns::SETTINGS_WIDE;
 use table::ranges::is_counted;
 use table::ranges::is_settled;
 ghost use mathlib.Core.Path.{_≡_};
@@ -15,6 +16,7 @@ ghost use Rattle.lists.specs.Words.{all};
 ghost use Rattle.lists.specs.Tab.{tab};
 ghost use Rattle.rules.specs.Sound.{counted, settled};
 ghost use Rattle.trace.specs.Header.{mark, same, versionOf, depthOf, guestsOf, capacityOf, body, numberAt, settingsAt, headerShown, headerOf};
+ghost use Rattle.table.specs.Columns.{settingsWide};
 
 // The three letters.
 fn is_marked(bytes: &[u8]) -> bool
@@ -78,7 +80,7 @@ fn has_settings_at(bytes: &[u8], k: usize) -> bool
     requires { ⌜ 21 + 12 * k ≤ length (now bytes) ⌝ }
     ensures { λ r. ⌜ r ≡ settled (settingsAt (now (bytes .entry)) k) ⌝ }
 {
-    let j = k * 3;
+    let j = k * SETTINGS_WIDE;
     is_settled(
         number_at(bytes, j),
         number_at(bytes, j + 1),
@@ -135,10 +137,10 @@ pub fn read_header(bytes: &[u8]) -> Header
 
 // The settings of the guests, three numbers for each, as the opening call takes them.
 pub fn read_settings(bytes: &[u8], guests: usize, into: &mut [u64])
-    requires { ⌜ (body guests ≤ length (now bytes)) × (guests * 3 ≤ length (now into)) ⌝ }
-    ensures { λ _. ⌜ now (into .exit) ≡ sets (now (into .entry)) 0 (tab (guests * 3) (numberAt (now (bytes .entry)))) ⌝ }
+    requires { ⌜ (body guests ≤ length (now bytes)) × (guests * settingsWide ≤ length (now into)) ⌝ }
+    ensures { λ _. ⌜ now (into .exit) ≡ sets (now (into .entry)) 0 (tab (guests * settingsWide) (numberAt (now (bytes .entry)))) ⌝ }
 {
-    let n = guests * 3;
+    let n = guests * SETTINGS_WIDE;
     let mut j: usize = 0;
     while j < n {
         into[j] = number_at(bytes, j);

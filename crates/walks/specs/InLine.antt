@@ -14,21 +14,22 @@ use Rattle.lists.specs.RowsLaws.{length-rows}
 use Rattle.rules.specs.Numbers.{ceiling}
 use Rattle.rules.specs.Tables.{Request}
 use Rattle.rules.specs.Chosen.{at}
+use Rattle.table.specs.Columns.{RESERVATION, GUEST, RTAG, LTAG, STAG, waitingWide, mostGuests, guestAt, waitingAt}
 use Rattle.table.specs.View.{requestForm, waitingOf}
 use Rattle.walks.specs.Walks.{Picks, Owned, Rising, SharesFit, placeIn}
 use Rattle.walks.specs.WalksLaws.{walk-behind, Told, told-start, told-take, told-pass, told-picks}
-use Rattle.walks.specs.WalksRows.{dueIn, openIn, rtag-at, stag-at, due-at, due-tag, open-at, open-is, due-behind, open-behind}
+use Rattle.walks.specs.WalksRows.{dueIn, openIn, row-from, rtag-at, stag-at, due-at, due-tag, open-at, open-is, due-behind, open-behind}
 
 -- guest g has one of the first i rows
 pub record Stood (ws : List ℕ) (i g : ℕ) : Type 0 where
   pub place : ℕ
   pub before : place < i
-  pub own : getD ws (place * 5 + 0) 0 ≡ g
+  pub own : waitingAt ws place GUEST ≡ g
 
 -- every guest that is marked has one of the first i rows
 pub record Marks (ws : List ℕ) (i : ℕ) (seen : List ℕ) : Type 0 where
-  pub long : length seen ≡ 64
-  pub stood : (g : ℕ) → g < 64 → (getD seen g 0 ≡ 0 → ⊥) → Stood ws i g
+  pub long : length seen ≡ mostGuests
+  pub stood : (g : ℕ) → g < mostGuests → (getD seen g 0 ≡ 0 → ⊥) → Stood ws i g
 
 module _ (ws : List ℕ) where
   -- a row more
@@ -36,30 +37,30 @@ module _ (ws : List ℕ) where
   stood-later i g s = record { place = s .place; before = omega (arith, s .before); own = s .own }
 
   -- nobody is marked at first
-  marks-start : Marks ws 0 (replicate 64 0)
-  marks-start = record { long = length-replicate {A = ℕ} 64 0; stood = λ g h marked. absurd (marked (getD-replicate {A = ℕ} 64 g 0 0 h)) }
+  marks-start : Marks ws 0 (replicate mostGuests 0)
+  marks-start = record { long = length-replicate {A = ℕ} mostGuests 0; stood = λ g h marked. absurd (marked (getD-replicate {A = ℕ} mostGuests g 0 0 h)) }
 
   -- row i is passed over
   marks-later : (i : ℕ) (seen : List ℕ) → Marks ws i seen → Marks ws (i + 1) seen
   marks-later i seen m = record { long = m .long; stood = λ g h marked. stood-later i g (m .stood g h marked) }
 
   -- the guest of row i is marked
-  marks-mark : (i : ℕ) (seen : List ℕ) → Marks ws i seen → Marks ws (i + 1) (set seen (getD ws (i * 5 + 0) 0) 1)
+  marks-mark : (i : ℕ) (seen : List ℕ) → Marks ws i seen → Marks ws (i + 1) (set seen (waitingAt ws i GUEST) 1)
   marks-mark i seen m =
       record {
-        long = length-set seen (getD ws (i * 5 + 0) 0) 1 ∙ m .long;
-        stood = λ g h marked. go g h marked (eqb g (getD ws (i * 5 + 0) 0)) refl;
+        long = length-set seen (waitingAt ws i GUEST) 1 ∙ m .long;
+        stood = λ g h marked. go g h marked (eqb g (waitingAt ws i GUEST)) refl;
       }
     where
-      go : (g : ℕ) → g < 64 → (getD (set seen (getD ws (i * 5 + 0) 0) 1) g 0 ≡ 0 → ⊥) → (b : Bool) → eqb g (getD ws (i * 5 + 0) 0) ≡ b → Stood ws (i + 1) g
-      go g h marked true e = record { place = i; before = omega arith; own = sym (eqb-true g (getD ws (i * 5 + 0) 0) e) }
+      go : (g : ℕ) → g < mostGuests → (getD (set seen (waitingAt ws i GUEST) 1) g 0 ≡ 0 → ⊥) → (b : Bool) → eqb g (waitingAt ws i GUEST) ≡ b → Stood ws (i + 1) g
+      go g h marked true e = record { place = i; before = omega arith; own = sym (eqb-true g (waitingAt ws i GUEST) e) }
       go g h marked false e =
-          stood-later i g (m .stood g h (λ z. marked (getD-set-other seen (getD ws (i * 5 + 0) 0) g 1 0 (eqb-false g (getD ws (i * 5 + 0) 0) e) ∙ z)))
+          stood-later i g (m .stood g h (λ z. marked (getD-set-other seen (waitingAt ws i GUEST) g 1 0 (eqb-false g (waitingAt ws i GUEST) e) ∙ z)))
 
 -- the walk at the row whose numbers begin at `from`: the marks, and what each phase would send of the rows passed
 pub record InLine (gs ws : List ℕ) (known count time : ℕ) (seen : List ℕ) (first soonest spare smallest from : ℕ) : Type 0 where
   pub row : ℕ
-  pub begins : from ≡ row * 5
+  pub begins : from ≡ row * waitingWide
   pub inside : row ≤ count
   pub marks : Marks ws row seen
   pub byTag : Told (dueIn gs known time) Request.rtag (waitingOf ws count) (time + 1) count row first soonest
@@ -67,70 +68,70 @@ pub record InLine (gs ws : List ℕ) (known count time : ℕ) (seen : List ℕ) 
 
 module _ (gs ws : List ℕ) (known count time : ℕ) where
   -- before the first row
-  pub line-start : InLine gs ws known count time (replicate 64 0) (count * 5) (time + 1) (count * 5) (ceiling + 1) 0
+  pub line-start : InLine gs ws known count time (replicate mostGuests 0) (count * waitingWide) (time + 1) (count * waitingWide) (ceiling + 1) 0
   line-start = record { row = 0; begins = refl; inside = omega arith; marks = marks-start ws; byTag = told-start; byShare = told-start }
 
-  module _ {seen : List ℕ} {first soonest spare smallest from : ℕ} (l : InLine gs ws known count time seen first soonest spare smallest from) (more : from < count * 5) where
+  module _ {seen : List ℕ} {first soonest spare smallest from : ℕ} (l : InLine gs ws known count time seen first soonest spare smallest from) (more : from < count * waitingWide) where
     -- the row is one of those that are used
     pub here : l .row < count
     here = omega (arith, l .begins)
 
     -- the guest of the row, as the code reads it
-    pub guest-here : getD ws (from + 0) 0 ≡ getD ws (l .row * 5 + 0) 0
-    guest-here = ap (λ (k : ℕ). getD ws (k + 0) 0) (l .begins)
+    pub guest-here : getD ws (from + GUEST) 0 ≡ waitingAt ws (l .row) GUEST
+    guest-here = row-from ws (l .row) GUEST (l .begins)
 
     -- the guest of the row exists
-    pub known-here : Owned ws count known → getD ws (from + 0) 0 < known
+    pub known-here : Owned ws count known → getD ws (from + GUEST) 0 < known
     known-here owned = omega (arith, guest-here, owned (l .row) here)
 
     -- the row's reservation tag is below the bound and its guest has a reservation: it is due, and taken
-    pub due-take : Owned ws count known → (ltb (getD ws (from + 2) 0) soonest && ltb 0 (getD gs (getD ws (from + 0) 0 * 6 + 0) 0)) ≡ true
-        → Told (dueIn gs known time) Request.rtag (waitingOf ws count) (time + 1) count (l .row + 1) from (getD ws (from + 2) 0)
+    pub due-take : Owned ws count known → (ltb (getD ws (from + RTAG) 0) soonest && ltb 0 (guestAt gs (getD ws (from + GUEST) 0) RESERVATION)) ≡ true
+        → Told (dueIn gs known time) Request.rtag (waitingOf ws count) (time + 1) count (l .row + 1) from (getD ws (from + RTAG) 0)
     due-take owned e =
-        let b = both (ltb (getD ws (from + 2) 0) soonest) (ltb 0 (getD gs (getD ws (from + 0) 0 * 6 + 0) 0)) e in
-        let low = ltb-true (getD ws (from + 2) 0) soonest (b .0) in
-        let tag = ap (λ (k : ℕ). getD ws (k + 2) 0) (l .begins) in
-        let has : ltb 0 (getD gs (getD ws (l .row * 5 + 0) 0 * 6 + 0) 0) ≡ true = rw guest-here at (b .1) in
-        let soon = le-leb (getD ws (l .row * 5 + 2) 0) time (omega (arith, low, tag, l .byTag .walk .low)) in
+        let b = both (ltb (getD ws (from + RTAG) 0) soonest) (ltb 0 (guestAt gs (getD ws (from + GUEST) 0) RESERVATION)) e in
+        let low = ltb-true (getD ws (from + RTAG) 0) soonest (b .0) in
+        let tag = row-from ws (l .row) RTAG (l .begins) in
+        let has : ltb 0 (guestAt gs (waitingAt ws (l .row) GUEST) RESERVATION) ≡ true = rw guest-here at (b .1) in
+        let soon = le-leb (waitingAt ws (l .row) RTAG) time (omega (arith, low, tag, l .byTag .walk .low)) in
         told-take (l .byTag) (l .begins) (due-at ws count (l .row) here gs known time owned ∙ join has soon) (rtag-at ws count (l .row) here ∙ sym tag) low
 
     -- else it is no due row with a smaller tag
-    pub due-pass : Owned ws count known → (ltb (getD ws (from + 2) 0) soonest && ltb 0 (getD gs (getD ws (from + 0) 0 * 6 + 0) 0)) ≡ false
+    pub due-pass : Owned ws count known → (ltb (getD ws (from + RTAG) 0) soonest && ltb 0 (guestAt gs (getD ws (from + GUEST) 0) RESERVATION)) ≡ false
         → Told (dueIn gs known time) Request.rtag (waitingOf ws count) (time + 1) count (l .row + 1) first soonest
-    due-pass owned e = told-pass (l .byTag) (λ o. go (both (ltb 0 (getD gs (getD ws (l .row * 5 + 0) 0 * 6 + 0) 0)) (leb (getD ws (l .row * 5 + 2) 0) time) (sym (due-at ws count (l .row) here gs known time owned) ∙ o) .0))
+    due-pass owned e = told-pass (l .byTag) (λ o. go (both (ltb 0 (guestAt gs (waitingAt ws (l .row) GUEST) RESERVATION)) (leb (waitingAt ws (l .row) RTAG) time) (sym (due-at ws count (l .row) here gs known time owned) ∙ o) .0))
       where
-        go : ltb 0 (getD gs (getD ws (l .row * 5 + 0) 0 * 6 + 0) 0) ≡ true → soonest ≤ (at (waitingOf ws count) (l .row)) .rtag
+        go : ltb 0 (guestAt gs (waitingAt ws (l .row) GUEST) RESERVATION) ≡ true → soonest ≤ (at (waitingOf ws count) (l .row)) .rtag
         go has =
-            let h : ltb 0 (getD gs (getD ws (from + 0) 0 * 6 + 0) 0) ≡ true = rw guest-here has in
-            let f : ltb (getD ws (from + 2) 0) soonest ≡ false = sym (and-true _) ∙ rw h at e in
-            omega (arith, ltb-false (getD ws (from + 2) 0) soonest f, rtag-at ws count (l .row) here, ap (λ (k : ℕ). getD ws (k + 2) 0) (l .begins))
+            let h : ltb 0 (guestAt gs (getD ws (from + GUEST) 0) RESERVATION) ≡ true = rw guest-here has in
+            let f : ltb (getD ws (from + RTAG) 0) soonest ≡ false = sym (and-true _) ∙ rw h at e in
+            omega (arith, ltb-false (getD ws (from + RTAG) 0) soonest f, rtag-at ws count (l .row) here, row-from ws (l .row) RTAG (l .begins))
 
     -- the row's share tag is below the bound and its limit tag at or before the time: it is open, and taken
-    pub open-take : (ltb (getD ws (from + 4) 0) smallest && leb (getD ws (from + 3) 0) time) ≡ true
-        → Told (openIn time) Request.stag (waitingOf ws count) (ceiling + 1) count (l .row + 1) from (getD ws (from + 4) 0)
+    pub open-take : (ltb (getD ws (from + STAG) 0) smallest && leb (getD ws (from + LTAG) 0) time) ≡ true
+        → Told (openIn time) Request.stag (waitingOf ws count) (ceiling + 1) count (l .row + 1) from (getD ws (from + STAG) 0)
     open-take e =
-        let b = both (ltb (getD ws (from + 4) 0) smallest) (leb (getD ws (from + 3) 0) time) e in
-        let within = leb-true (getD ws (from + 3) 0) time (b .1) in
-        told-take (l .byShare) (l .begins) (open-is ws count (l .row) here time (omega (arith, within, ap (λ (k : ℕ). getD ws (k + 3) 0) (l .begins))))
-        (stag-at ws count (l .row) here ∙ sym (ap (λ (k : ℕ). getD ws (k + 4) 0) (l .begins))) (ltb-true (getD ws (from + 4) 0) smallest (b .0))
+        let b = both (ltb (getD ws (from + STAG) 0) smallest) (leb (getD ws (from + LTAG) 0) time) e in
+        let within = leb-true (getD ws (from + LTAG) 0) time (b .1) in
+        told-take (l .byShare) (l .begins) (open-is ws count (l .row) here time (omega (arith, within, row-from ws (l .row) LTAG (l .begins))))
+        (stag-at ws count (l .row) here ∙ sym (row-from ws (l .row) STAG (l .begins))) (ltb-true (getD ws (from + STAG) 0) smallest (b .0))
 
     -- else it is no open row with a smaller tag
-    pub open-pass : (ltb (getD ws (from + 4) 0) smallest && leb (getD ws (from + 3) 0) time) ≡ false
+    pub open-pass : (ltb (getD ws (from + STAG) 0) smallest && leb (getD ws (from + LTAG) 0) time) ≡ false
         → Told (openIn time) Request.stag (waitingOf ws count) (ceiling + 1) count (l .row + 1) spare smallest
     open-pass e = told-pass (l .byShare) go
       where
         go : openIn time (at (waitingOf ws count) (l .row)) ≡ true → smallest ≤ (at (waitingOf ws count) (l .row)) .stag
         go o =
-            let z = leb-true (getD ws (l .row * 5 + 3) 0) time (sym (open-at ws count (l .row) here time) ∙ o) in
-            let h = le-leb (getD ws (from + 3) 0) time (omega (arith, z, ap (λ (k : ℕ). getD ws (k + 3) 0) (l .begins))) in
-            let f : ltb (getD ws (from + 4) 0) smallest ≡ false = sym (and-true _) ∙ rw h at e in
-            omega (arith, ltb-false (getD ws (from + 4) 0) smallest f, stag-at ws count (l .row) here, ap (λ (k : ℕ). getD ws (k + 4) 0) (l .begins))
+            let z = leb-true (waitingAt ws (l .row) LTAG) time (sym (open-at ws count (l .row) here time) ∙ o) in
+            let h = le-leb (getD ws (from + LTAG) 0) time (omega (arith, z, row-from ws (l .row) LTAG (l .begins))) in
+            let f : ltb (getD ws (from + STAG) 0) smallest ≡ false = sym (and-true _) ∙ rw h at e in
+            omega (arith, ltb-false (getD ws (from + STAG) 0) smallest f, stag-at ws count (l .row) here, row-from ws (l .row) STAG (l .begins))
 
     -- a row whose guest is marked
-    pub line-skip : Owned ws count known → known ≤ 64 → Rising ws count → (getD seen (getD ws (from + 0) 0) 0 ≡ 0 → ⊥)
-        → InLine gs ws known count time seen first soonest spare smallest (from + 5)
+    pub line-skip : Owned ws count known → known ≤ mostGuests → Rising ws count → (getD seen (getD ws (from + GUEST) 0) 0 ≡ 0 → ⊥)
+        → InLine gs ws known count time seen first soonest spare smallest (from + waitingWide)
     line-skip owned few rising marked =
-        let g = getD ws (l .row * 5 + 0) 0 in
+        let g = waitingAt ws (l .row) GUEST in
         let s : Stood ws (l .row) g = l .marks .stood g (omega (arith, owned (l .row) here)) (λ z. marked (ap (λ (k : ℕ). getD seen k 0) guest-here ∙ z)) in
         record {
           row = l .row + 1;
@@ -144,7 +145,7 @@ module _ (gs ws : List ℕ) (known count time : ℕ) where
     -- the first row of its guest, with what each phase would send of the rows up to it
     pub line-next : {d' soonest' o' smallest' : ℕ} → Told (dueIn gs known time) Request.rtag (waitingOf ws count) (time + 1) count (l .row + 1) d' soonest'
         → Told (openIn time) Request.stag (waitingOf ws count) (ceiling + 1) count (l .row + 1) o' smallest'
-        → InLine gs ws known count time (set seen (getD ws (from + 0) 0) 1) d' soonest' o' smallest' (from + 5)
+        → InLine gs ws known count time (set seen (getD ws (from + GUEST) 0) 1) d' soonest' o' smallest' (from + waitingWide)
     line-next d o =
         record {
           row = l .row + 1;
@@ -156,15 +157,15 @@ module _ (gs ws : List ℕ) (known count time : ℕ) where
         }
 
   -- behind the last row
-  module _ {seen : List ℕ} {first soonest spare smallest from : ℕ} (l : InLine gs ws known count time seen first soonest spare smallest from) (done : count * 5 ≤ from) where
+  module _ {seen : List ℕ} {first soonest spare smallest from : ℕ} (l : InLine gs ws known count time seen first soonest spare smallest from) (done : count * waitingWide ≤ from) where
     -- every row is passed
     all-rows : l .row ≡ count
     all-rows = omega (arith, l .begins, l .inside)
 
     -- the walk answers what the reservation phase picks
-    pub line-due : Owned ws count known → Picks (dueIn gs known time) Request.rtag (waitingOf ws count) (placeIn first (count * 5))
+    pub line-due : Owned ws count known → Picks (dueIn gs known time) Request.rtag (waitingOf ws count) (placeIn first (count * waitingWide))
     line-due owned = told-picks (length-rows requestForm ws count) (rw all-rows at (l .byTag)) (λ j h. due-tag ws count j h gs known time owned)
 
     -- and what the weight phase picks
-    pub line-open : SharesFit ws count → Picks (openIn time) Request.stag (waitingOf ws count) (placeIn spare (count * 5))
+    pub line-open : SharesFit ws count → Picks (openIn time) Request.stag (waitingOf ws count) (placeIn spare (count * waitingWide))
     line-open fit = told-picks (length-rows requestForm ws count) (rw all-rows at (l .byShare)) (λ j h _. omega (arith, stag-at ws count j h, fit j h))

@@ -7,7 +7,8 @@ use native.Mathlib.Omega.{arith}
 use lib.Dec.{leb}
 use lib.ListN.{length}
 use borrow.Author.Tests.{le-leb}
-use Rattle.rules.specs.Tables.{Settings, Request, limited}
+use Rattle.rules.specs.Tables.{Request, limited}
+use Rattle.rules.specs.declared.Settings.{Settings}
 use Rattle.rules.specs.Choice.{least, openAt}
 use Rattle.rules.specs.Chosen.{at}
 

@@ -3,7 +3,8 @@ use mathlib.Core.Path.{_≡_, refl}
 use mathlib.Core.Bool.{Bool, true, false}
 use mathlib.Core.List.{List, map}
 use Rattle.lists.specs.Words.{if_then_else_, empty}
-use Rattle.rules.specs.Tables.{Request, Flight, mine, name, lacks}
+use Rattle.rules.specs.Tables.{Request, mine, name, lacks}
+use Rattle.rules.specs.declared.Flight.{Flight}
 use Rattle.walks.specs.Survey.{ownOf}
 use Rattle.walks.specs.declared.survey.Own.{Own}
 use Rattle.walks.specs.declared.survey.Own.the-variants.{Repeated, Waits, Idle}

@@ -1,10 +1,11 @@
 -- What an arrival has to know of the waiting requests: what waits of its guest, and the smallest and the largest share tag.
-use Prim.Native.Nat.{ℕ, _+_, _*_, max}
+use Prim.Native.Nat.{ℕ, max}
 use mathlib.Core.Bool.{Bool}
 use mathlib.Core.List.{List, [], _∷_, map}
-use lib.ListN.{getD}
 use Rattle.lists.specs.Words.{if_then_else_, empty}
-use Rattle.rules.specs.Tables.{Request, Flight, mine, name, lacks}
+use Rattle.rules.specs.Tables.{Request, mine, name, lacks}
+use Rattle.rules.specs.declared.Flight.{Flight}
+use Rattle.table.specs.Columns.{STAG, waitingAt}
 use Rattle.table.specs.View.{waitingOf}
 use Rattle.walks.specs.declared.survey.Own.{Own}
 use Rattle.walks.specs.declared.survey.Own.the-variants.{Repeated, Waits, Idle}
@@ -19,7 +20,7 @@ idleIn ws n g = empty (mine g (waitingOf ws n))
 
 -- the share tag of waiting row k
 abbrev pub tagOf : List ℕ → ℕ → ℕ
-tagOf ws k = getD ws (k * 5 + 4) 0
+tagOf ws k = waitingAt ws k STAG
 
 -- the largest number of the list, 0 where it has none
 unfoldable pub highest : List ℕ → ℕ

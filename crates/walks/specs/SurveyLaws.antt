@@ -16,14 +16,16 @@ use Rattle.lists.specs.Lines.{lineAt, linesOf}
 use Rattle.lists.specs.Rows.{rowsOf}
 use Rattle.lists.specs.RowsLaws.{length-rows, row-at, rows-snoc, map-snoc}
 use Rattle.rules.specs.Tables.{Request, of, name, same, lacks}
+use Rattle.table.specs.Columns.{GUEST, ID, waitingWide, waitingAt}
 use Rattle.table.specs.View.{requestForm, waitingOf, nameIs}
 use Rattle.walks.specs.Survey.{idleIn, tagOf, highest}
+use Rattle.walks.specs.WalksRows.{row-from}
 
 -- THE GUEST'S OWN ROWS
 
 -- row k of the waiting table
 abbrev rowAt : List ℕ → ℕ → Request
-rowAt ws k = requestForm .read (lineAt 5 ws k)
+rowAt ws k = requestForm .read (lineAt waitingWide ws k)
 
 -- a test of every waiting request, one row more
 all-next : (f : Request → Bool) (ws : List ℕ) (k : ℕ) → all f (waitingOf ws (k + 1)) ≡ all f (waitingOf ws k) && f (rowAt ws k)
@@ -42,11 +44,11 @@ module _ (ws : List ℕ) (g : ℕ) where
       ∙ ap (λ (b : Bool). b && not (of g (rowAt ws k))) (sym (none-left (of g) (waitingOf ws k)))
 
   -- a row of another guest
-  pub idle-same : (k : ℕ) → (getD ws (k * 5 + 0) 0 ≡ g → ⊥) → idleIn ws (k + 1) g ≡ idleIn ws k g
+  pub idle-same : (k : ℕ) → (waitingAt ws k GUEST ≡ g → ⊥) → idleIn ws (k + 1) g ≡ idleIn ws k g
   idle-same k h = idle-next k ∙ ap (λ (b : Bool). idleIn ws k g && not b) (ne-eqb _ _ h) ∙ and-true (idleIn ws k g)
 
   -- a row of the guest
-  pub idle-not : (k : ℕ) → getD ws (k * 5 + 0) 0 ≡ g → idleIn ws (k + 1) g ≡ false
+  pub idle-not : (k : ℕ) → waitingAt ws k GUEST ≡ g → idleIn ws (k + 1) g ≡ false
   idle-not k h = idle-next k ∙ ap (λ (b : Bool). idleIn ws k g && not b) (eq-eqb _ _ h) ∙ and-false (idleIn ws k g)
 
 -- no request of this guest and this id stands in the first n rows
@@ -72,24 +74,24 @@ module _ (ws : List ℕ) (g id : ℕ) where
   lacks-next k e h = lacks-all (k + 1) ∙ all-next another ws k ∙ join (sym (lacks-all k) ∙ e) h
 
   -- a row of another guest
-  lacks-guest : (k : ℕ) → lacksIn ws k g id ≡ true → (getD ws (k * 5 + 0) 0 ≡ g → ⊥) → lacksIn ws (k + 1) g id ≡ true
-  lacks-guest k e h = lacks-next k e (rw (ne-eqb g (getD ws (k * 5 + 0) 0) (λ q. h (sym q))))
+  lacks-guest : (k : ℕ) → lacksIn ws k g id ≡ true → (waitingAt ws k GUEST ≡ g → ⊥) → lacksIn ws (k + 1) g id ≡ true
+  lacks-guest k e h = lacks-next k e (rw (ne-eqb g (waitingAt ws k GUEST) (λ q. h (sym q))))
 
   -- a row with another id
-  lacks-id : (k : ℕ) → lacksIn ws k g id ≡ true → (getD ws (k * 5 + 1) 0 ≡ id → ⊥) → lacksIn ws (k + 1) g id ≡ true
-  lacks-id k e h = lacks-next k e (rw (ne-eqb id (getD ws (k * 5 + 1) 0) (λ q. h (sym q)), and-false (eqb g (getD ws (k * 5 + 0) 0))))
+  lacks-id : (k : ℕ) → lacksIn ws k g id ≡ true → (waitingAt ws k ID ≡ id → ⊥) → lacksIn ws (k + 1) g id ≡ true
+  lacks-id k e h = lacks-next k e (rw (ne-eqb id (waitingAt ws k ID) (λ q. h (sym q)), and-false (eqb g (waitingAt ws k GUEST))))
 
   -- the row is there
-  lacks-not : (n k : ℕ) → k < n → getD ws (k * 5 + 0) 0 ≡ g → getD ws (k * 5 + 1) 0 ≡ id → lacksIn ws n g id ≡ false
+  lacks-not : (n k : ℕ) → k < n → waitingAt ws k GUEST ≡ g → waitingAt ws k ID ≡ id → lacksIn ws n g id ≡ false
   lacks-not n k h e i =
       lacks-all n
       ∙ place-not another (waitingOf ws n) (requestForm .read []) k (omega (arith, length-rows requestForm ws n))
-      (ap another (row-at requestForm ws n k h) ∙ rw (eq-eqb g (getD ws (k * 5 + 0) 0) (sym e), eq-eqb id (getD ws (k * 5 + 1) 0) (sym i)))
+      (ap another (row-at requestForm ws n k h) ∙ rw (eq-eqb g (waitingAt ws k GUEST) (sym e), eq-eqb id (waitingAt ws k ID) (sym i)))
 
 -- the walk over the rows, at the one whose numbers begin at `from`: none passed is this request, and whether one is of its guest
 pub record Searched (ws : List ℕ) (count g id : ℕ) (waits : Bool) (from : ℕ) : Type 0 where
   pub row : ℕ
-  pub begins : from ≡ row * 5
+  pub begins : from ≡ row * waitingWide
   pub inside : row ≤ count
   pub lacking : lacksIn ws row g id ≡ true
   pub idling : idleIn ws row g ≡ not waits
@@ -99,30 +101,26 @@ module _ (ws : List ℕ) (count g id : ℕ) where
   pub search-start : Searched ws count g id false 0
   search-start = record { row = 0; begins = refl; inside = omega arith; lacking = lacks-none ws g id; idling = idle-none ws g }
 
-  module _ {waits : Bool} {from : ℕ} (s : Searched ws count g id waits from) (more : from < count * 5) where
-    -- the number n places into the row, as the code reads it
-    number-here : (n : ℕ) → getD ws (s .row * 5 + n) 0 ≡ getD ws (from + n) 0
-    number-here n = ap (λ (k : ℕ). getD ws (k + n) 0) (sym (s .begins))
-
+  module _ {waits : Bool} {from : ℕ} (s : Searched ws count g id waits from) (more : from < count * waitingWide) where
     -- the row is this request
-    pub search-hit : getD ws (from + 0) 0 ≡ g → getD ws (from + 1) 0 ≡ id → lacksIn ws count g id ≡ false
-    search-hit e i = lacks-not ws g id count (s .row) (omega (arith, s .begins)) (number-here 0 ∙ e) (number-here 1 ∙ i)
+    pub search-hit : getD ws (from + GUEST) 0 ≡ g → getD ws (from + ID) 0 ≡ id → lacksIn ws count g id ≡ false
+    search-hit e i = lacks-not ws g id count (s .row) (omega (arith, s .begins)) (sym (row-from ws (s .row) GUEST (s .begins)) ∙ e) (sym (row-from ws (s .row) ID (s .begins)) ∙ i)
 
     -- another request of the guest
-    pub search-own : getD ws (from + 0) 0 ≡ g → (getD ws (from + 1) 0 ≡ id → ⊥) → Searched ws count g id true (from + 5)
+    pub search-own : getD ws (from + GUEST) 0 ≡ g → (getD ws (from + ID) 0 ≡ id → ⊥) → Searched ws count g id true (from + waitingWide)
     search-own e i =
         record {
           row = s .row + 1;
           begins = omega (arith, s .begins);
           inside = omega (arith, s .begins);
-          lacking = lacks-id ws g id (s .row) (s .lacking) (λ q. i (sym (number-here 1) ∙ q));
-          idling = idle-not ws g (s .row) (number-here 0 ∙ e);
+          lacking = lacks-id ws g id (s .row) (s .lacking) (λ q. i (row-from ws (s .row) ID (s .begins) ∙ q));
+          idling = idle-not ws g (s .row) (sym (row-from ws (s .row) GUEST (s .begins)) ∙ e);
         }
 
     -- another guest's
-    pub search-other : (getD ws (from + 0) 0 ≡ g → ⊥) → Searched ws count g id waits (from + 5)
+    pub search-other : (getD ws (from + GUEST) 0 ≡ g → ⊥) → Searched ws count g id waits (from + waitingWide)
     search-other d =
-        let h : getD ws (s .row * 5 + 0) 0 ≡ g → ⊥ = λ q. d (sym (number-here 0) ∙ q) in
+        let h : waitingAt ws (s .row) GUEST ≡ g → ⊥ = λ q. d (row-from ws (s .row) GUEST (s .begins) ∙ q) in
         record {
           row = s .row + 1;
           begins = omega (arith, s .begins);
@@ -132,7 +130,7 @@ module _ (ws : List ℕ) (count g id : ℕ) where
         }
 
   -- behind the last row
-  pub search-end : {waits : Bool} {from : ℕ} → Searched ws count g id waits from → count * 5 ≤ from → (lacksIn ws count g id ≡ true) × (idleIn ws count g ≡ not waits)
+  pub search-end : {waits : Bool} {from : ℕ} → Searched ws count g id waits from → count * waitingWide ≤ from → (lacksIn ws count g id ≡ true) × (idleIn ws count g ≡ not waits)
   search-end s done =
       let q : s .row ≡ count = omega (arith, s .begins, s .inside) in
       (rw q at (s .lacking), rw q at (s .idling))

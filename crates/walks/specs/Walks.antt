@@ -1,35 +1,37 @@
 -- What the walks over the lent rows answer: the place of the request that the choice picks, and the place of a name in flight.
-use Prim.Native.Nat.{ℕ, _+_, _*_, _≤_, _<_, _/_}
+use Prim.Native.Nat.{ℕ, _≤_, _<_, _/_}
 use mathlib.Core.Path.{_≡_}
 use mathlib.Core.Bool.{Bool, true, false}
 use mathlib.Core.List.{List}
 use lib.Dec.{ltb}
-use lib.ListN.{length, getD}
+use lib.ListN.{length}
 use Rattle.lists.specs.Words.{if_then_else_, without}
 use Rattle.lists.specs.Tab.{removeAt}
 use Rattle.rules.specs.Numbers.{ceiling}
-use Rattle.rules.specs.Tables.{Request, Flight, same, lacks}
+use Rattle.rules.specs.Tables.{Request, same, lacks}
+use Rattle.rules.specs.declared.Flight.{Flight}
 use Rattle.rules.specs.Choice.{Pick, nobody, picked, least}
 use Rattle.rules.specs.Chosen.{at}
+use Rattle.table.specs.Columns.{GUEST, RTAG, LTAG, STAG, waitingWide, waitingAt}
 use Rattle.walks.specs.declared.Found.{Found}
 use Rattle.walks.specs.declared.Found.the-variants.{At, Nothing}
 
 -- every waiting request's guest is one of the first n
 abbrev pub Owned : List ℕ → (count n : ℕ) → Type 0
-Owned ws count n = (k : ℕ) → k < count → getD ws (k * 5 + 0) 0 < n
+Owned ws count n = (k : ℕ) → k < count → waitingAt ws k GUEST < n
 
 -- within a guest no later row has a smaller tag of any kind
 abbrev pub Rising : List ℕ → (count : ℕ) → Type 0
-Rising ws count = (j k : ℕ) → j < k → k < count → getD ws (j * 5 + 0) 0 ≡ getD ws (k * 5 + 0) 0
-    → (getD ws (j * 5 + 2) 0 ≤ getD ws (k * 5 + 2) 0) × (getD ws (j * 5 + 3) 0 ≤ getD ws (k * 5 + 3) 0) × (getD ws (j * 5 + 4) 0 ≤ getD ws (k * 5 + 4) 0)
+Rising ws count = (j k : ℕ) → j < k → k < count → waitingAt ws j GUEST ≡ waitingAt ws k GUEST
+    → (waitingAt ws j RTAG ≤ waitingAt ws k RTAG) × (waitingAt ws j LTAG ≤ waitingAt ws k LTAG) × (waitingAt ws j STAG ≤ waitingAt ws k STAG)
 
 -- every share tag is at most the ceiling
 abbrev pub SharesFit : List ℕ → (count : ℕ) → Type 0
-SharesFit ws count = (k : ℕ) → k < count → getD ws (k * 5 + 4) 0 ≤ ceiling
+SharesFit ws count = (k : ℕ) → k < count → waitingAt ws k STAG ≤ ceiling
 
 -- the place of the row whose numbers begin at `at`, or none where the rows that are used end before it
 unfoldable pub placeIn : (at used : ℕ) → Found
-placeIn at used = if ltb at used then At (at / 5) else Nothing
+placeIn at used = if ltb at used then At (at / waitingWide) else Nothing
 
 -- a place that is found is one of n
 abbrev pub Inside : Found → ℕ → Type 0

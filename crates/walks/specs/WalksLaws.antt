@@ -14,6 +14,7 @@ use Rattle.lists.specs.Words.{if_then_else_}
 use Rattle.rules.specs.Tables.{Request}
 use Rattle.rules.specs.Chosen.{at, Foremost}
 use Rattle.rules.proofs.Places.{least-at, least-none}
+use Rattle.table.specs.Columns.{waitingWide}
 use Rattle.walks.specs.Walks.{Picks, placeIn}
 use Rattle.walks.specs.declared.Found.the-variants.{At, Nothing}
 
@@ -85,20 +86,20 @@ module _ {ok : Request → Bool} {tag : Request → ℕ} {rows : List Request} {
         go (inl e) j k false o = refl
         go (inl e) j k true o = absurd (omega (arith, w .above j k o, small j k o))
 
--- the walk, its place told by where the numbers of that row begin: five a row
+-- the walk, its place told by where the numbers of that row begin
 pub record Told (ok : Request → Bool) (tag : Request → ℕ) (rows : List Request) (top none i from bound : ℕ) : Type 0 where
   pub place : ℕ
-  pub begins : from ≡ place * 5
+  pub begins : from ≡ place * waitingWide
   pub walk : Walk ok tag rows top none i place bound
 
 module _ {ok : Request → Bool} {tag : Request → ℕ} {rows : List Request} {top none : ℕ} where
   -- before the first row
-  pub told-start : Told ok tag rows top none 0 (none * 5) top
+  pub told-start : Told ok tag rows top none 0 (none * waitingWide) top
   told-start = record { place = none; begins = refl; walk = walk-start }
 
   module _ {i from bound : ℕ} (w : Told ok tag rows top none i from bound) where
     -- row i, which begins at b, is taken
-    pub told-take : {b m : ℕ} → b ≡ i * 5 → ok (at rows i) ≡ true → tag (at rows i) ≡ m → m < bound → Told ok tag rows top none (i + 1) b m
+    pub told-take : {b m : ℕ} → b ≡ i * waitingWide → ok (at rows i) ≡ true → tag (at rows i) ≡ m → m < bound → Told ok tag rows top none (i + 1) b m
     told-take e o t l = record { place = i; begins = e; walk = walk-take (w .walk) o t l }
 
     -- row i is passed over
@@ -107,13 +108,13 @@ module _ {ok : Request → Bool} {tag : Request → ℕ} {rows : List Request} {
 
   -- the end
   pub told-picks : {from bound : ℕ} → length rows ≡ none → Told ok tag rows top none none from bound → ((j : ℕ) → j < none → ok (at rows j) ≡ true → tag (at rows j) < top)
-      → Picks ok tag rows (placeIn from (none * 5))
+      → Picks ok tag rows (placeIn from (none * waitingWide))
   unfolding placeIn
-  told-picks {from} {bound} size w small = go (ltb from (none * 5)) refl
+  told-picks {from} {bound} size w small = go (ltb from (none * waitingWide)) refl
     where
-      go : (b : Bool) → ltb from (none * 5) ≡ b → Picks ok tag rows (if b then At (from / 5) else Nothing)
+      go : (b : Bool) → ltb from (none * waitingWide) ≡ b → Picks ok tag rows (if b then At (from / waitingWide) else Nothing)
       go true e =
-          let l : w .place < none = omega (arith, w .begins, ltb-true from (none * 5) e) in
-          let p : from / 5 ≡ w .place = omega (arith, w .begins) in
+          let l : w .place < none = omega (arith, w .begins, ltb-true from (none * waitingWide) e) in
+          let p : from / waitingWide ≡ w .place = omega (arith, w .begins) in
           rw p (walk-found size (w .walk) l)
-      go false e = walk-nothing size (w .walk) (omega (arith, w .begins, ltb-false from (none * 5) e)) small
+      go false e = walk-nothing size (w .walk) (omega (arith, w .begins, ltb-false from (none * waitingWide) e)) small

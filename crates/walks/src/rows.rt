@@ -1,12 +1,16 @@
 // The walks over the lent rows that read and change nothing: the request that each phase of the choice would send, and the place of a name
 // in flight.
 use super::Found;
+use table::columns::FLIGHT_WIDE;
 use table::columns::GUEST;
+use table::columns::GUEST_WIDE;
 use table::columns::ID;
 use table::columns::LTAG;
+use table::columns::MOST_GUESTS;
 use table::columns::RESERVATION;
 use table::columns::RTAG;
 use table::columns::STAG;
+use table::columns::WAITING_WIDE;
 use table::numbers::CEILING;
 ghost use mathlib.Core.Path.{_≡_};
 ghost use mathlib.Core.Bool.{_&&_};
@@ -16,6 +20,7 @@ ghost use lib.ListN.{length, getD};
 ghost use Rattle.rules.specs.Numbers.{ceiling};
 ghost use Rattle.rules.specs.Tables.{Request, settingsOf};
 ghost use Rattle.rules.specs.Choice.{dueAt};
+ghost use Rattle.table.specs.Columns.{RESERVATION, guestWide, flightWide, RTAG, LTAG, STAG, waitingWide, mostGuests, mostDepth, mostCapacity, guestAt};
 ghost use Rattle.table.specs.View.{guestsOf, waitingOf, flightsOf};
 ghost use Rattle.walks.specs.Walks.{Picks, Finds, Owned, Rising, SharesFit, placeIn};
 
@@ -31,11 +36,11 @@ pub struct Firsts {
 // Whether the row at `at` is of a guest with a reservation, and its reservation tag below the bound. The tag is tested first: where it is not
 // below, no guest is read.
 fn due_before(waiting: &[u64], at: usize, guests: &[u64], guest: usize, bound: u64) -> bool
-    requires { ⌜ (at + 5 ≤ length (now waiting)) × (guest * 6 + 6 ≤ length (now guests)) × (guest ≤ 64) ⌝ }
-    ensures { λ b. ⌜ b ≡ (ltb (getD (now (waiting .entry)) (at + 2) 0) bound && ltb 0 (getD (now (guests .entry)) (guest * 6 + 0) 0)) ⌝ }
+    requires { ⌜ (at + waitingWide ≤ length (now waiting)) × (guest * guestWide + guestWide ≤ length (now guests)) × (guest ≤ mostGuests) ⌝ }
+    ensures { λ b. ⌜ b ≡ (ltb (getD (now (waiting .entry)) (at + RTAG) 0) bound && ltb 0 (guestAt (now (guests .entry)) guest RESERVATION)) ⌝ }
 {
     if waiting[at + RTAG] < bound {
-        0 < guests[guest * 6 + RESERVATION]
+        0 < guests[guest * GUEST_WIDE + RESERVATION]
     } else {
         false
     }
@@ -43,8 +48,8 @@ fn due_before(waiting: &[u64], at: usize, guests: &[u64], guest: usize, bound: u
 
 // Whether the row at `at` has a share tag below the bound, and a limit tag at or before the time. An unlimited guest's limit tags are 0.
 fn open_before(waiting: &[u64], at: usize, time: u64, bound: u64) -> bool
-    requires { ⌜ at + 5 ≤ length (now waiting) ⌝ }
-    ensures { λ b. ⌜ b ≡ (ltb (getD (now (waiting .entry)) (at + 4) 0) bound && leb (getD (now (waiting .entry)) (at + 3) 0) time) ⌝ }
+    requires { ⌜ at + waitingWide ≤ length (now waiting) ⌝ }
+    ensures { λ b. ⌜ b ≡ (ltb (getD (now (waiting .entry)) (at + STAG) 0) bound && leb (getD (now (waiting .entry)) (at + LTAG) 0) time) ⌝ }
 {
     if waiting[at + STAG] < bound {
         waiting[at + LTAG] <= time
@@ -58,7 +63,7 @@ fn place_in(at: usize, used: usize) -> Found
     ensures { λ f. ⌜ f ≡ placeIn at used ⌝ }
 {
     if at < used {
-        Found::At(at / 5)
+        Found::At(at / WAITING_WIDE)
     } else {
         Found::Nothing
     }
@@ -73,14 +78,14 @@ pub fn first_in_line(
     known: usize,
     time: u64,
 ) -> Firsts
-    requires { ⌜ (count ≤ 1024) × (count * 5 ≤ length (now waiting)) × (known ≤ 64) × (known * 6 ≤ length (now guests)) ⌝ }
+    requires { ⌜ (count ≤ mostCapacity) × (count * waitingWide ≤ length (now waiting)) × (known ≤ mostGuests) × (known * guestWide ≤ length (now guests)) ⌝ }
     requires { ⌜ Owned (now waiting) count known × Rising (now waiting) count × SharesFit (now waiting) count ⌝ }
     requires { ⌜ time ≤ ceiling ⌝ }
     ensures { λ r. ⌜ Picks (λ q. dueAt (settingsOf (guestsOf (now (guests .entry)) known) q) time q) Request.rtag (waitingOf (now (waiting .entry)) count) (r .due) ⌝ }
     ensures { λ r. ⌜ Picks (λ q. leb (q .ltag) time) Request.stag (waitingOf (now (waiting .entry)) count) (r .open) ⌝ }
 {
-    let used = count * 5;
-    let mut seen = [0u8; 64];
+    let used = count * WAITING_WIDE;
+    let mut seen = [0u8; MOST_GUESTS];
     let mut first = used;
     let mut soonest = time + 1;
     let mut spare = used;
@@ -99,7 +104,7 @@ pub fn first_in_line(
                 smallest = waiting[at + STAG];
             }
         }
-        at += 5;
+        at += WAITING_WIDE;
     }
     Firsts {
         due: place_in(first, used),
@@ -109,13 +114,13 @@ pub fn first_in_line(
 
 // The first place in flight with this guest and this id.
 pub fn find_flight(flight: &[u64], count: usize, guest: u64, id: u64) -> Found
-    requires { ⌜ (count ≤ 64) × (count * 2 ≤ length (now flight)) ⌝ }
+    requires { ⌜ (count ≤ mostDepth) × (count * flightWide ≤ length (now flight)) ⌝ }
     ensures { λ f. ⌜ Finds (record { guest = guest; id = id }) (flightsOf (now (flight .entry)) count) f ⌝ }
 {
     let mut place: usize = 0;
     while place < count {
-        if flight[place * 2 + GUEST] == guest {
-            if flight[place * 2 + ID] == id {
+        if flight[place * FLIGHT_WIDE + GUEST] == guest {
+            if flight[place * FLIGHT_WIDE + ID] == id {
                 return Found::At(place);
             }
         }

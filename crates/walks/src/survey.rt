@@ -2,12 +2,14 @@
 use table::columns::GUEST;
 use table::columns::ID;
 use table::columns::STAG;
+use table::columns::WAITING_WIDE;
 ghost use mathlib.Core.Path.{_≡_};
 ghost use mathlib.Core.List.{map};
-ghost use Prim.Native.Nat.{ℕ, _+_, _*_, _≤_, _<_, min, max};
+ghost use Prim.Native.Nat.{ℕ, _*_, _≤_, _<_, min, max};
 ghost use lib.ListN.{length};
 ghost use Rattle.lists.specs.Words.{lowest};
 ghost use Rattle.rules.specs.Tables.{Request};
+ghost use Rattle.table.specs.Columns.{waitingWide, mostCapacity};
 ghost use Rattle.table.specs.View.{waitingOf};
 ghost use Rattle.walks.specs.Survey.{ownOf, tagOf, highest};
 
@@ -26,10 +28,10 @@ pub struct Span {
 
 // What waits of a guest, beside a request of this id.
 pub fn own_rows(waiting: &[u64], count: usize, guest: u64, id: u64) -> Own
-    requires { ⌜ (count ≤ 1024) × (count * 5 ≤ length (now waiting)) ⌝ }
+    requires { ⌜ (count ≤ mostCapacity) × (count * waitingWide ≤ length (now waiting)) ⌝ }
     ensures { λ o. ⌜ o ≡ ownOf (record { guest = guest; id = id }) (waitingOf (now (waiting .entry)) count) ⌝ }
 {
-    let used = count * 5;
+    let used = count * WAITING_WIDE;
     let mut waits = false;
     let mut at: usize = 0;
     while at < used {
@@ -39,7 +41,7 @@ pub fn own_rows(waiting: &[u64], count: usize, guest: u64, id: u64) -> Own
             }
             waits = true;
         }
-        at += 5;
+        at += WAITING_WIDE;
     }
     if waits { Own::Waits } else { Own::Idle }
 }
@@ -60,13 +62,13 @@ fn larger(a: u64, b: u64) -> u64
 
 // The first place from `from` on whose share tag lies outside the ends, or the count.
 fn next_outside(waiting: &[u64], count: usize, from: usize, least: u64, most: u64) -> usize
-    requires { ⌜ (count ≤ 1024) × (count * 5 ≤ length (now waiting)) × (from ≤ count) ⌝ }
+    requires { ⌜ (count ≤ mostCapacity) × (count * waitingWide ≤ length (now waiting)) × (from ≤ count) ⌝ }
     ensures { λ r. ⌜ (from ≤ r) × (r ≤ count) ⌝ }
     ensures { λ r. ⌜ ((k : ℕ) → from ≤ k → k < r → (least ≤ tagOf (now (waiting .entry)) k) × (tagOf (now (waiting .entry)) k ≤ most)) ⌝ }
 {
     let mut i = from;
     while i < count {
-        let p = waiting[i * 5 + STAG];
+        let p = waiting[i * WAITING_WIDE + STAG];
         if p < least {
             return i;
         }
@@ -80,7 +82,7 @@ fn next_outside(waiting: &[u64], count: usize, from: usize, least: u64, most: u6
 
 // The ends of the share tags waiting: most rows lie inside the ends found so far, and are passed over.
 pub fn ends(waiting: &[u64], count: usize) -> Span
-    requires { ⌜ (count ≤ 1024) × (count * 5 ≤ length (now waiting)) ⌝ }
+    requires { ⌜ (count ≤ mostCapacity) × (count * waitingWide ≤ length (now waiting)) ⌝ }
     ensures { λ s. ⌜ (s .least ≡ lowest (map Request.stag (waitingOf (now (waiting .entry)) count))) × (s .most ≡ highest (map Request.stag (waitingOf (now (waiting .entry)) count))) ⌝ }
 {
     if count == 0 {
@@ -90,7 +92,7 @@ pub fn ends(waiting: &[u64], count: usize) -> Span
     let mut most = least;
     let mut at = next_outside(waiting, count, 1, least, most);
     while at < count {
-        let p = waiting[at * 5 + STAG];
+        let p = waiting[at * WAITING_WIDE + STAG];
         least = smaller(least, p);
         most = larger(most, p);
         at = next_outside(waiting, count, at + 1, least, most);

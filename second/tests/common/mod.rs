@@ -2,6 +2,7 @@
 #![allow(dead_code)]
 
 use second::sample::Owned;
+use second::tables::{FLIGHT_NUMBERS, GATE_NUMBERS, GUEST_NUMBERS, WAITING_NUMBERS};
 use second::{open, Answer, Phase, Settings, State, Tables};
 
 pub const MS: u64 = 1_000_000;
@@ -38,10 +39,40 @@ pub fn reservation_tags(state: &State) -> Vec<u64> {
     state.waiting.iter().map(|w| w.rtag).collect()
 }
 
+/// Where a number of the guest, the waiting request or the request in
+/// flight at a place stands in its table.
+pub fn guest_at(place: usize, column: usize) -> usize {
+    place * GUEST_NUMBERS + column
+}
+
+pub fn waiting_at(place: usize, column: usize) -> usize {
+    place * WAITING_NUMBERS + column
+}
+
+pub fn flight_at(place: usize, column: usize) -> usize {
+    place * FLIGHT_NUMBERS + column
+}
+
+/// Writes the record at a place of a table.
+pub fn put<const N: usize>(table: &mut [u64], place: usize, record: [u64; N]) {
+    table[place * N..][..N].copy_from_slice(&record);
+}
+
+/// Tables with so many places, and some numbers beyond them, each place
+/// holding a number that says nothing.
+pub fn dusty(depth: usize, guests: usize, capacity: usize, beyond: usize) -> Owned {
+    Owned::dusty(
+        GATE_NUMBERS + beyond,
+        guests * GUEST_NUMBERS + beyond,
+        capacity * WAITING_NUMBERS + beyond,
+        depth * FLIGHT_NUMBERS + beyond,
+    )
+}
+
 /// Tables of just the lengths needed, opened.
 pub fn opened(depth: u64, capacity: u64, settings: &[Settings]) -> Owned {
     let guests = settings.len();
-    let mut owned = Owned::dusty(6, guests * 6, capacity as usize * 5, depth as usize * 2);
+    let mut owned = dusty(depth as usize, guests, capacity as usize, 0);
     let list: Vec<u64> = settings
         .iter()
         .flat_map(|s| [s.reservation, s.limit, s.shares])

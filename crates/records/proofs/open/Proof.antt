@@ -1,4 +1,4 @@
--- `records::open` meets its contract: a walk of its MIR, over the steps of proofs/Statements.antt. Written by tools/walks.py from src/lib.rt.
+-- `records::open` meets its contract: a walk of its MIR, over the steps of proofs/Statements.antt.
 -- Assumes nothing.
 use Rattle.records.proofs.Words.{_≡_, refl, sym, _∙_, subst, ℕ, _*_, _≤_, _<_, _^_, lt-of-le-of-lt, List, [], _∷_, length, URA, fullShare}
 use Rattle.records.proofs.Words.{Place, Operand, Body, seq, call, named, w64, vint, Val, SProp, ent, emp, via, fst∗, id⊢, Lft, GName, Share}
@@ -11,10 +11,10 @@ use Rattle.records.proofs.Words.{Is, shows, memOf, uint-vals, uint-tell
 use Rattle.records.proofs.Words.{mut-slice-tells, shr-slice-tells, shr-slice-copy, finally, Held, lends-slice, slice-back, plain, u64, Vals}
 use Rattle.records.proofs.Words.{onEntry, nothing, heard, peeks, calls-at, ensured, lasts, Meets, tripleOf, Contract, Triple, entered, cited}
 use Rattle.records.proofs.Words.{says, Stays, stay-none, stay-none-slice, stay-slice, gave-slice, walkOf, Walks, ends-at, walked, goes-none}
-use Rattle.records.proofs.Words.{goes-none-slice, goes-slice, goes-gave-slice, walk-meets, Guest, Outcome, Handed, seen, opened, inPart, Rec}
-use Rattle.records.proofs.Words.{OutcomeR, Outcome-typed, alloc, apart, apart8, gives, gone, gone8, count, rows, brought, count-lent}
-use Rattle.records.proofs.Words.{count-room, length-rows-384, length-brought, at-home, opened-home, Used, calls-used, Unpack, Pack, sv}
-use Rattle.records.proofs.Words.{Records, room-of, makes-rows, lends-rows, relends, unpacks, packs, rows-gone}
+use Rattle.records.proofs.Words.{goes-none-slice, goes-slice, goes-gave-slice, walk-meets, Guest, Outcome, guestWide, guestsLong, Handed}
+use Rattle.records.proofs.Words.{seen, opened, inPart, Rec, OutcomeR, Outcome-typed, alloc, apart, apart8, gives, gone, gone8, count, rows}
+use Rattle.records.proofs.Words.{brought, count-lent, count-room, length-all, length-brought, at-home, opened-home, Used, calls-used, Unpack}
+use Rattle.records.proofs.Words.{Pack, sv, Records, room-of, makes-rows, lends-rows, relends, unpacks, packs, rows-gone}
 use contract.Running.{tablesOf}
 use Rattle.records.proofs.guests.used.Symbol as used-def
 use Rattle.records.proofs.guests.used.Symbol.{name as #records·guests·used}
@@ -115,7 +115,7 @@ module _ {M : Type 1} (𝓤 : URA M) (H : Heap 𝓤) (A : Atoms 𝓤) (W : Given
 
   goes-part : (l ν : ℕ) (δ : GName) → ent 𝓤 (⋆ 𝓤 H A (Asked l ν δ)) (Part 𝓤 H A mem run .pre (to-part l ν δ))
   goes-part l ν δ = qed W (Asked l ν δ) ∵
-      says ! (subst (λ (m : ℕ). k * 6 ≤ m) (sym (length-rows-384 wanted gs)) (count-room wanted gs)) $ nothing ! $ move ! (4 ∷ 0 ∷ []) $ join ! $
+      says ! (subst (λ (m : ℕ). k * guestWide ≤ m) (sym (length-all wanted gs)) (count-room wanted gs)) $ nothing ! $ move ! (4 ∷ 0 ∷ []) $ join ! $
       move ! (3 ∷ 0 ∷ []) $ join ! $ move ! (2 ∷ 0 ∷ []) $ join ! $ move ! (1 ∷ 0 ∷ []) $ join ! $ frame ! $ nothing ! $ move ! (4 ∷ 0 ∷ []) $ fjoin ! $
       move ! (3 ∷ 0 ∷ []) $ fjoin ! $ gives ! w64 k k-ok $ move ! (2 ∷ 0 ∷ []) $ fjoin ! $ move ! (1 ∷ 0 ∷ []) $ fjoin ! $ gives ! w64 capacity capacity-ok $
       gives ! w64 known known-ok $ gives ! w64 depth depth-ok $ done !
@@ -123,12 +123,12 @@ module _ {M : Type 1} (𝓤 : URA M) (H : Heap 𝓤) (A : Atoms 𝓤) (W : Given
   module _ (l : ℕ) {K : Type 0} {Γ : List (Item 𝓤)} {E : Env 𝓤 H} {C : Calls 𝓤 H} {Λ : Loops 𝓤 H} {qq : KPost 𝓤 H} {d : Place} {rest : Body} {xs : List Operand} where
     calls-part : K → FmC 𝓤 H (W .laws) C → Triple 𝓤 (C #records·part·open) (Part 𝓤 H A mem run)
         → ((i j : Item 𝓤) → Opds K W (i ∷ j ∷ Γ) E xs (vint w64 depth ∷ vint w64 known ∷ vint w64 capacity ∷ sv settings ∷ s′ l ∷ vint w64 k ∷ sv waiting ∷ sv flight ∷ []))
-        → ((r : Outcome) (w : Val) (zs waiting′ flight′ : List ℕ) → Says r zs waiting′ flight′ → length zs ≡ 384 → length waiting′ ≡ length (waiting .now) → length flight′ ≡ length (flight .now) → Is OutcomeR r (w ∷ [])
+        → ((r : Outcome) (w : Val) (zs waiting′ flight′ : List ℕ) → Says r zs waiting′ flight′ → length zs ≡ guestsLong → length waiting′ ≡ length (waiting .now) → length flight′ ≡ length (flight .now) → Is OutcomeR r (w ∷ [])
         → Seq K W (‵ (cells (memOf u64) zs l 0) ∷ ‵ (finally u64 (waiting .name) waiting′) ∷ ‵ (finally u64 (flight .name) flight′) ∷ ‵ (flft κ0 q0) ∷ ‵ (flft κ2 q2) ∷ ‵ (flft κ3 q3) ∷ ‵ (OutcomeR .own r (w ∷ [])) ∷ Γ) (lands C Λ E d w rest qq))
         → Seq K W (‵ (cells (memOf u64) rs l 0) ∷ ‵ (ShrSlice (named 0) κ0 u64 .own settings (sv settings ∷ [])) ∷ ‵ (MutSlice (named 2) κ2 u64 .own waiting (sv waiting ∷ [])) ∷ ‵ (MutSlice (named 3) κ3 u64 .own flight (sv flight ∷ [])) ∷ ‵ (flft κ0 q0) ∷ ‵ (flft κ2 q2) ∷ ‵ (flft κ3 q3) ∷ Γ) (runs C Λ E (seq (call #records·part·open xs d) rest) qq)
     calls-part t fm known-part os z =
         lft-new t tt (λ ν. move t (1 ∷ []) $
-        use1 W (later (some (λ (δ : GName). ‵ (Lent-rows l ν δ) ⊛ ‵ (flent (ν ∷ []) (Held u64 (length rs) l 0 δ))))) (lends-slice 𝓤 H A W u64 (named 0) (ν ∷ []) rs l 0 (room-of rs (length-rows-384 wanted gs))) $ await t tt $ pick t (λ δ. split t $
+        use1 W (later (some (λ (δ : GName). ‵ (Lent-rows l ν δ) ⊛ ‵ (flent (ν ∷ []) (Held u64 (length rs) l 0 δ))))) (lends-slice 𝓤 H A W u64 (named 0) (ν ∷ []) rs l 0 (room-of rs (length-all wanted gs))) $ await t tt $ pick t (λ δ. split t $
         move t (4 ∷ 5 ∷ []) $ join t $ move t (1 ∷ 0 ∷ []) $ join t $ move t (3 ∷ 0 ∷ []) $ join t $ move t (5 ∷ 0 ∷ []) $ join t $ move t (4 ∷ 0 ∷ []) $
         join t $ move t (2 ∷ 0 ∷ []) $ join t $ move t (2 ∷ 0 ∷ []) $ join t $ use1 W (raw (Part 𝓤 H A mem run .pre (to-part l ν δ))) (goes-part l ν δ) $
         calls-at t fm (Part 𝓤 H A mem run) known-part (to-part l ν δ) (os (raw (Part 𝓤 H A mem run .pre (to-part l ν δ))) (‵ (flent (ν ∷ []) (Held u64 (length rs) l 0 δ)))) (λ w.
@@ -141,9 +141,9 @@ module _ {M : Type 1} (𝓤 : URA M) (H : Heap 𝓤) (A : Atoms 𝓤) (W : Given
         peeks t OutcomeR (Is OutcomeR) (shows 𝓤 H A OutcomeR) r (w ∷ []) (λ is. move t (3 ∷ []) $ lft-end t tt $ move t (0 ∷ 8 ∷ 7 ∷ []) $
         use3 W (later (‵ (Arr (memOf u64) (length rs) .lies (ws .1 .1 .1 .1 .0) l 0))) (slice-back 𝓤 H A W u64 (ν ∷ []) δ (ws .1 .1 .1 .1 .0) (length rs) l 0) $ await t tt $ fsplit t $ drop t $
         move t (0 ∷ 6 ∷ 5 ∷ 4 ∷ 3 ∷ 2 ∷ 1 ∷ []) $
-        z r w (ws .1 .1 .1 .1 .0) (ws .1 .1 .1 .1 .1 .1 .0) (ws .1 .1 .1 .1 .1 .1 .1 .0) e (len-rows ∙ length-rows-384 wanted gs) len-waiting len-flight is))))))))))
+        z r w (ws .1 .1 .1 .1 .0) (ws .1 .1 .1 .1 .1 .1 .0) (ws .1 .1 .1 .1 .1 .1 .1 .0) e (len-rows ∙ length-all wanted gs) len-waiting len-flight is))))))))))
 
-  module _ (C : Calls 𝓤 H) (Λ : Loops 𝓤 H) (fm : FmC 𝓤 H (W .laws) C) (known-used : Triple 𝓤 (C #records·guests·used) (Used 𝓤 H A mem run)) (known-unpack : Triple 𝓤 (C #records·guests·unpack) (Unpack 𝓤 H A mem run))
+  module _ (C : Calls 𝓤 H) (Λ : Loops 𝓤 H) (fm : FmC 𝓤 H (W .laws) C) (known-used : Triple 𝓤 (C #records·guests·used) (Used 𝓤 H A)) (known-unpack : Triple 𝓤 (C #records·guests·unpack) (Unpack 𝓤 H A mem run))
       (known-part : Triple 𝓤 (C #records·part·open) (Part 𝓤 H A mem run)) (known-pack : Triple 𝓤 (C #records·guests·pack) (Pack 𝓤 H A mem run)) where
     -- the walk; before a statement stands what is at hand, _i being the place of local i
     walk : ent 𝓤 (onEntry 𝓤 H A f.signature (κ0, (κ1, (κ2, (κ3, tt)))) (q0, (q1, (q2, (q3, tt)))) a at-vals) (WpFn 𝓤 H C Λ code.function (vint w64 depth ∷ vint w64 known ∷ vint w64 capacity ∷ sv settings ∷ sv guests ∷ sv waiting ∷ sv flight ∷ []) Post)
@@ -163,18 +163,18 @@ module _ {M : Type 1} (𝓤 : URA M) (H : Heap 𝓤) (A : Atoms 𝓤) (W : Given
         pass1 ! (init ! 22 refl (tt, (tt, (record { fits = guests-ok .0 }, tt)))) $
         pass1 ! (init ! 21 refl (tt, (tt, (record { fits = waiting-ok .0 }, tt)))) $
         pass1 ! (init ! 20 refl (tt, (tt, (record { fits = flight-ok .0 }, tt)))) $ pass0 ! $
-        -- let mut rows: [u64; 384] = [0; 384];
+        -- let mut rows: [u64; GUESTS_LONG] = [0; GUESTS_LONG];
         move ! (19 ∷ []) $ makes-rows ! refl $
         -- let count = used(known, guests.len());
         assigns ! (of-opd ! (load ! (from ! (fld ! refl (stop !))) (look-in ! 22 (sub ! 1 refl (whole !))))) (from ! (stop !)) (init ! 17 refl (tt, record { fits = guests-ok .0 })) $
-        calls-used 𝓤 H A W mem run wanted (length gs) wanted-ok (guests-ok .0) ! fm known-used (λ i. (and-then ! (load ! (from ! (stop !)) (look ! 26 refl)) (and-then ! (load ! (from ! (stop !)) (look ! 18 refl)) (no-more !)))) $
+        calls-used 𝓤 H A W wanted (length gs) wanted-ok (guests-ok .0) ! fm known-used (λ i. (and-then ! (load ! (from ! (stop !)) (look ! 26 refl)) (and-then ! (load ! (from ! (stop !)) (look ! 18 refl)) (no-more !)))) $
         land ! (from ! (stop !)) (init ! 19 refl (tt, record { fits = k-ok })) $
         -- unpack(guests, count, &mut rows);
         -- [rows; deaths; _26 .. _9; _7 .. _0; guests; κ1; settings; waiting; flight; κ0; κ2; κ3; kept settings]
         move ! (28 ∷ 29 ∷ 0 ∷ 19 ∷ 22 ∷ 15 ∷ 14 ∷ 13 ∷ 12 ∷ 16 ∷ []) $
         unpacks 𝓤 H A W mem run κ1 q1 guests k guests-ok (count-lent wanted gs) (count-room wanted gs) k-ok ! fm known-unpack refl refl refl refl refl refl refl refl $
         -- let r = part::open(..);
-        move ! (20 ∷ 19 ∷ []) $ lends-rows ! refl refl refl (length rs) (length-rows-384 wanted gs) $ move ! (24 ∷ 20 ∷ 19 ∷ []) $
+        move ! (20 ∷ 19 ∷ []) $ lends-rows ! refl refl refl (length rs) (length-all wanted gs) $ move ! (24 ∷ 20 ∷ 19 ∷ []) $
         relends ! (waiting-ok .0) refl refl refl $ move ! (24 ∷ 21 ∷ 20 ∷ []) $ relends ! (flight-ok .0) refl refl refl $
         -- [_7; _21 .. _22; _6; _19 .. _20; _17 .. _18; guests; κ1; rows; _9; _5; _13 .. _16; _12; deaths; _26 .. _23; _11 .. _10; _4 .. _0; settings; waiting; flight; κ0; κ2; κ3; kept settings]
         move ! (10 ∷ 30 ∷ 31 ∷ 32 ∷ 33 ∷ 34 ∷ 35 ∷ []) $
@@ -197,7 +197,7 @@ module _ {M : Type 1} (𝓤 : URA M) (H : Heap 𝓤) (A : Atoms 𝓤) (W : Given
         by ! (exits r w zs waiting′ flight′ e len-waiting len-flight)))))))))))))))))))))))))))))
 
 module _ {M : Type 1} (𝓤 : URA M) (H : Heap 𝓤) (A : Atoms 𝓤) (W : Given 𝓤 H A) (mem : Memory → SProp 𝓤) (run : Routine → Fun 𝓤) where
-  walks : (C : Calls 𝓤 H) (Λ : Loops 𝓤 H) → FmC 𝓤 H (W .laws) C → Triple 𝓤 (C #records·guests·used) (Used 𝓤 H A mem run) → Triple 𝓤 (C #records·guests·unpack) (Unpack 𝓤 H A mem run) → Triple 𝓤 (C #records·part·open) (Part 𝓤 H A mem run) → Triple 𝓤 (C #records·guests·pack) (Pack 𝓤 H A mem run)
+  walks : (C : Calls 𝓤 H) (Λ : Loops 𝓤 H) → FmC 𝓤 H (W .laws) C → Triple 𝓤 (C #records·guests·used) (Used 𝓤 H A) → Triple 𝓤 (C #records·guests·unpack) (Unpack 𝓤 H A mem run) → Triple 𝓤 (C #records·part·open) (Part 𝓤 H A mem run) → Triple 𝓤 (C #records·guests·pack) (Pack 𝓤 H A mem run)
       → Walks 𝓤 H A f.ended stayed (WpFn 𝓤 H C Λ code.function) (f.clauses 𝓤 H A mem run)
   walks C Λ fm known-used known-unpack known-part known-pack = walked 𝓤 H A f.ended stayed (f.clauses 𝓤 H A mem run) (WpFn 𝓤 H C Λ code.function)
       (λ κs. (uint-vals w64, (uint-vals w64, (uint-vals w64, (slice-vals, (slice-vals, (slice-vals, (slice-vals, tt))))))))
@@ -206,7 +206,7 @@ module _ {M : Type 1} (𝓤 : URA M) (H : Heap 𝓤) (A : Atoms 𝓤) (W : Given
       (walk 𝓤 H A W mem run (κs .0) (κs .1 .0) (κs .1 .1 .0) (κs .1 .1 .1 .0) (qs .0) (qs .1 .0) (qs .1 .1 .0) (qs .1 .1 .1 .0) (a .0) (a .1 .0) (a .1 .1 .0) (a .1 .1 .1 .0) (a .1 .1 .1 .1 .0) (a .1 .1 .1 .1 .1 .0) (a .1 .1 .1 .1 .1 .1 .0) (are .0 .1) (are .1 .0 .1) (are .1 .1 .0 .1) (are .1 .1 .1 .0 .0 .1) (are .1 .1 .1 .1 .0 .0 .1) (are .1 .1 .1 .1 .1 .0 .0 .1) (are .1 .1 .1 .1 .1 .1 .0 .0 .1) C Λ fm known-used known-unpack known-part known-pack))
 
 meets : {M : Type 1} (𝓤 : URA M) (H : Heap 𝓤) (A : Atoms 𝓤) → Given 𝓤 H A → (mem : Memory → SProp 𝓤) (run : Routine → Fun 𝓤) (𝓣 : Tables 𝓤 H)
-    → Triple 𝓤 (𝓣 .C #records·guests·used) (Used 𝓤 H A mem run) → Triple 𝓤 (𝓣 .C #records·guests·unpack) (Unpack 𝓤 H A mem run) → Triple 𝓤 (𝓣 .C #records·part·open) (Part 𝓤 H A mem run) → Triple 𝓤 (𝓣 .C #records·guests·pack) (Pack 𝓤 H A mem run)
+    → Triple 𝓤 (𝓣 .C #records·guests·used) (Used 𝓤 H A) → Triple 𝓤 (𝓣 .C #records·guests·unpack) (Unpack 𝓤 H A mem run) → Triple 𝓤 (𝓣 .C #records·part·open) (Part 𝓤 H A mem run) → Triple 𝓤 (𝓣 .C #records·guests·pack) (Pack 𝓤 H A mem run)
     → Meets 𝓤 H A f.signature (WpFn 𝓤 H (𝓣 .C) (𝓣 .Λ) code.function) (f.spec 𝓤 H A mem run)
 meets 𝓤 H A W mem run 𝓣 known-used known-unpack known-part known-pack =
     walk-meets 𝓤 H A f.ended stayed W (goes-none 𝓤 H A W 4 (λ _. u64) yes (λ κs x f. refl), (goes-none 𝓤 H A W 4 (λ _. u64) yes (λ κs x f. refl), (goes-none 𝓤 H A W 4 (λ _. u64) yes (λ κs x f. refl), (goes-none-slice 𝓤 H A W 4 (0 ∷ []) tt (plain (λ _. u64)) yes, (goes-slice 𝓤 H A W 4 1 tt (plain (λ _. Rec)), (goes-gave-slice 𝓤 H A W 4 2 tt (plain (λ _. u64)), (goes-gave-slice 𝓤 H A W 4 3 tt (plain (λ _. u64)), tt)))))))
@@ -218,7 +218,7 @@ open-spec 𝓤 H 𝓜 𝓖 𝓡 =
     entered 𝓤 H (tripleOf 𝓤 H (𝓖 .A) f.signature (f.spec 𝓤 H (𝓖 .A) (𝓜 .mem) (𝓡 .run)))
     (tables 𝓤 H 𝓜 𝓡 code.env .C) (tables 𝓤 H 𝓜 𝓡 code.env .Λ) #records·open code.function (code.unfolded 𝓤 H 𝓜 𝓡)
     (meets 𝓤 H (𝓖 .A) (givenOf 𝓤 H 𝓜 𝓖) (𝓜 .mem) (𝓡 .run) (tablesOf 𝓤 H 𝓜 (tables 𝓤 H 𝓜 𝓡 code.env))
-    (cited 𝓤 H (Used 𝓤 H (𝓖 .A) (𝓜 .mem) (𝓡 .run)) 𝓜 𝓡 code.env #records·guests·used used-def.routine code.calls-records·guests·used (used-thm.met 𝓤 H 𝓜 𝓖 𝓡))
+    (cited 𝓤 H (Used 𝓤 H (𝓖 .A)) 𝓜 𝓡 code.env #records·guests·used used-def.routine code.calls-records·guests·used (used-thm.met 𝓤 H 𝓜 𝓖 𝓡))
     (cited 𝓤 H (Unpack 𝓤 H (𝓖 .A) (𝓜 .mem) (𝓡 .run)) 𝓜 𝓡 code.env #records·guests·unpack unpack-def.routine code.calls-records·guests·unpack (unpack-thm.met 𝓤 H 𝓜 𝓖 𝓡))
     (cited 𝓤 H (Part 𝓤 H (𝓖 .A) (𝓜 .mem) (𝓡 .run)) 𝓜 𝓡 code.env #records·part·open part-def.routine code.calls-records·part·open (part-thm.met 𝓤 H 𝓜 𝓖 𝓡))
     (cited 𝓤 H (Pack 𝓤 H (𝓖 .A) (𝓜 .mem) (𝓡 .run)) 𝓜 𝓡 code.env #records·guests·pack pack-def.routine code.calls-records·guests·pack (pack-thm.met 𝓤 H 𝓜 𝓖 𝓡)))

@@ -4,13 +4,14 @@ use mathlib.Core.Path.{_≡_, refl, ap, _∙_}
 use native.Mathlib.Omega.{arith}
 use lib.ListN.{length, length-set}
 use Rattle.lists.specs.Stores.{stores}
+use Rattle.table.specs.Columns.{GUEST, STAG, mostGuests}
 use Rattle.shares.specs.Shares.{Marked, movedTags}
-use Rattle.shares.specs.SharesLaws.{marked-none, marked-next, tags-guest, tags-read, tags-next}
+use Rattle.shares.specs.SharesLaws.{marked-none, marked-next, tags-row, tags-next}
 use Rattle.shares.proofs.move_tags.Statement.{statement}
 use Rattle.shares.proofs.move_tags.Tie as tie
 
 abbrev Inv-loop : tie.InvT-loop
-Inv-loop waiting₀ count time m busy₀ i₀ waiting busy i = (i ≤ count) × (length waiting ≡ length waiting₀) × (64 ≤ length busy) × (waiting ≡ movedTags time m waiting₀ i) × Marked waiting₀ i busy₀ busy
+Inv-loop waiting₀ count time m busy₀ i₀ waiting busy i = (i ≤ count) × (length waiting ≡ length waiting₀) × (mostGuests ≤ length busy) × (waiting ≡ movedTags time m waiting₀ i) × Marked waiting₀ i busy₀ busy
 
 abbrev μ-loop : tie.MeasureT-loop
 μ-loop waiting₀ count time m busy₀ i₀ waiting busy i = count - i
@@ -46,7 +47,7 @@ moved-requires : tie.Need-moved-requires Inv-loop μ-loop
 moved-requires c κs =
     let a = c .before .before .before .before .before .args in
     let s = c .before .before .before .loop in
-    rw (tags-read (a .time) (a .m) (a .waiting .now) (s .waiting) (s .i) (s .inv .3)) (c .before .before .before .before .before .pre .1 .1 (s .i) (c .before .before .loop-test .taken))
+    rw (tags-row (a .time) (a .m) (a .waiting .now) (s .waiting) (s .i) (s .inv .3) STAG) (c .before .before .before .before .before .pre .1 .1 (s .i) (c .before .before .loop-test .taken))
 
 mul-waiting : tie.Need-mul-waiting Inv-loop μ-loop
 mul-waiting c = omega arith
@@ -64,13 +65,13 @@ mul-busy : tie.Need-mul-busy Inv-loop μ-loop
 mul-busy c =
     let a = c .before .before .before .before .before .before .args in
     let s = c .before .before .before .before .loop in
-    omega (arith, tags-guest (a .time) (a .m) (a .waiting .now) (s .waiting) (s .i) (s .inv .3), c .before .before .before .before .before .before .pre .1 .0 (s .i) (c .before .before .before .loop-test .taken))
+    omega (arith, tags-row (a .time) (a .m) (a .waiting .now) (s .waiting) (s .i) (s .inv .3) GUEST, c .before .before .before .before .before .before .pre .1 .0 (s .i) (c .before .before .before .loop-test .taken))
 
 element-write-busy : tie.Need-element-write-busy Inv-loop μ-loop
 element-write-busy c =
     let a = c .before .before .before .before .before .before .args in
     let s = c .before .before .before .before .loop in
-    omega (arith, tags-guest (a .time) (a .m) (a .waiting .now) (s .waiting) (s .i) (s .inv .3), c .before .before .before .before .before .before .pre .1 .0 (s .i) (c .before .before .before .loop-test .taken))
+    omega (arith, tags-row (a .time) (a .m) (a .waiting .now) (s .waiting) (s .i) (s .inv .3) GUEST, c .before .before .before .before .before .before .pre .1 .0 (s .i) (c .before .before .before .loop-test .taken))
 
 add-i : tie.Need-add-i Inv-loop μ-loop
 add-i c = omega arith
@@ -83,7 +84,7 @@ loop-again c =
     let a = c .before .before .before .before .before .before .args in
     let s = c .before .before .before .before .loop in
     let ws = a .waiting .now in
-    let g = tags-guest (a .time) (a .m) ws (s .waiting) (s .i) (s .inv .3) in (
+    let g = tags-row (a .time) (a .m) ws (s .waiting) (s .i) (s .inv .3) GUEST in (
       omega arith,
       simp length-set (omega arith),
       simp length-set (omega arith),

@@ -94,7 +94,7 @@ returns-10 c =
     let f = c .before .before .before .before .before .before .before .before .before .before .before .before .before .before .before .before .before .before .before .before .pre in
     decided (a .gate) (a .guests .now) (a .waiting .now) (a .flight .now) (c .is-clear .result)
     (λ e. record {
-      isCounted = counted-means (a .gate .depth) (a .gate .guests) (a .gate .capacity) .holds .1 (f .counts);
+      isCounted = counted-means (a .gate .setup .depth) (a .gate .guests) (a .gate .setup .capacity) .holds .1 (f .counts);
       isSettled = sym (c .before .before .before .before .before .before .before .before .before .before .before .before .before .before .before .before .all-settled .ensures) ∙ not-false _ (c .before .before .before .before .before .before .before .before .before .before .before .before .before .before .before .if1 .left);
       waits = c .before .before .before .before .before .before .before .before .before .before .before .before .before .before .if2 .left;
       flies = c .before .before .before .before .before .before .before .before .before .before .before .before .before .if3 .left;

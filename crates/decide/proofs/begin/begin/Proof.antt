@@ -35,7 +35,7 @@ shift-requires c κs =
     omega (arith, sizes (take (a .have) (a .buffer .now)) (a .depth) (a .known) (a .capacity) (p .1 .0) .whole, length-take-le (a .have) (a .buffer .now) (p .0 .0), p .0 .0)
 
 put-title-requires : tie.Need-put-title-requires
-put-title-requires c κs = search needs
+put-title-requires c κs = omega (arith, c .before .before .before .before .before .before .before .before .before .before .before .before .before .before .before .before .before .before .before .before .before .before .before .before .before .pre .0 .1)
 
 same-length : tie.Need-same-length
 same-length c = search needs

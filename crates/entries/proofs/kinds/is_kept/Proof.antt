@@ -1,9 +1,9 @@
 -- With the floors before each request the test of every guest still comes to the same.
-use Prim.Native.Nat.{_+_, _*_, _≤_, _-_}
+use Prim.Native.Nat.{_≤_, _-_}
 use mathlib.Core.Path.{refl, sym, _∙_}
 use native.Mathlib.Omega.{arith}
-use lib.ListN.{getD}
 use borrow.Author.Tests.{not-true, not-false}
+use Rattle.table.specs.Columns.{GUEST, waitingAt}
 use borrow.Author.Needs.{needs}
 use Rattle.entries.proofs.RowFacts.{setting-low, guest-known, tag-low}
 use Rattle.entries.proofs.OneKind.{Walked, walk-start, gap-fits, kind-fails, kind-next, kind-ends}
@@ -87,7 +87,7 @@ add-floors c =
     omega (
       arith,
       tag-low (a .guests .now) (a .known) (a .waiting .now) (a .count) (p .0) (a .kind) (s .i) (p .1) h,
-      gap-fits (a .guests .now) (a .known) (a .waiting .now) (a .count) (p .0) (a .kind) (p .1) (d .result) (d .ensures) (getD (a .waiting .now) (s .i * 5 + 0) 0)
+      gap-fits (a .guests .now) (a .known) (a .waiting .now) (a .count) (p .0) (a .kind) (p .1) (d .result) (d .ensures) (waitingAt (a .waiting .now) (s .i) GUEST)
           (guest-known (a .guests .now) (a .known) (a .waiting .now) (a .count) (p .0) (s .i) h),
     )
 

@@ -1,31 +1,21 @@
 -- The walk goes from the last row to the first: every row behind it has passed.
-use Prim.Native.Nat.{_≤_, _-_}
-use mathlib.Core.Path.{_≡_, sym, _∙_}
-use mathlib.Core.Bool.{true}
-use mathlib.Core.List.{[]}
+use mathlib.Core.Path.{sym, _∙_}
 use native.Mathlib.Omega.{arith}
-use lib.ListN.{drop}
 use borrow.Author.Tests.{not-true, not-false}
-use Rattle.lists.specs.Words.{all}
-use Rattle.lists.specs.Walks.{all-start, all-next, all-end}
-use Rattle.lists.specs.WordsLaws.{place-not}
-use Rattle.lists.specs.RowsLaws.{length-rows}
 use Rattle.rules.specs.Sound.{lawful}
-use Rattle.table.specs.View.{requestForm, waitingOf}
-use Rattle.entries.proofs.Records.{tags-are}
+use Rattle.table.specs.View.{requestForm}
+use Rattle.entries.proofs.AllRows.{Passed, rows-start, rows-next, rows-fail, rows-end}
 use Rattle.entries.proofs.requests.all_lawful.Statement.{statement}
 use Rattle.entries.proofs.requests.all_lawful.Tie as tie
 
 abbrev Inv-loop : tie.InvT-loop
-Inv-loop waiting count i₀ i = (i ≤ count) × (all lawful (drop i (waitingOf waiting count)) ≡ true)
+Inv-loop waiting count i₀ i = Passed requestForm lawful waiting count i
 
 abbrev μ-loop : tie.MeasureT-loop
 μ-loop waiting count i₀ i = i
 
 loop-holds : tie.Need-loop-holds Inv-loop μ-loop
-loop-holds c =
-    let a = c .before .args in
-    (omega arith, all-start lawful (waitingOf (a .waiting .now) (a .count)) (requestForm .read []) (a .count) (omega (arith, length-rows requestForm (a .waiting .now) (a .count))))
+loop-holds c = let a = c .before .args in rows-start requestForm lawful (a .waiting .now) (a .count)
 
 sub-i : tie.Need-sub-i Inv-loop μ-loop
 sub-i c = omega arith
@@ -66,29 +56,31 @@ mul-s-2 c = omega arith
 shared-slice-read-s : tie.Need-shared-slice-read-s Inv-loop μ-loop
 shared-slice-read-s c = omega arith
 
-is-lawful-requires : tie.Need-is-lawful-requires Inv-loop μ-loop
-is-lawful-requires c κs = tt
+stamp-fits-requires : tie.Need-stamp-fits-requires Inv-loop μ-loop
+stamp-fits-requires c κs = tt
 
 returns : tie.Need-returns Inv-loop μ-loop
+unfolding lawful
 returns c =
     let a = c .before .before .before .before .before .before .before .before .args in
     let s = c .before .before .before .before .before .before .loop in
-    sym (place-not lawful (waitingOf (a .waiting .now) (a .count)) (requestForm .read []) (s .i - 1) (omega (arith, length-rows requestForm (a .waiting .now) (a .count))) (tags-are (a .waiting .now) (a .count) (s .i - 1) (omega arith) ∙ sym (c .before .is-lawful .ensures) ∙ not-true _ (c .if1 .taken)))
+    rows-fail requestForm lawful (a .waiting .now) (a .count) (s .i) (s .inv) (c .before .before .before .before .before .loop-test .taken) (sym (c .before .stamp-fits .ensures) ∙ not-true _ (c .if1 .taken))
 
 loop-less : tie.Need-loop-less Inv-loop μ-loop
 loop-less c = omega arith
 
 loop-again : tie.Need-loop-again Inv-loop μ-loop
+unfolding lawful
 loop-again c =
     let a = c .before .before .before .before .before .before .before .before .args in
     let s = c .before .before .before .before .before .before .loop in
-    (omega arith, all-next lawful (waitingOf (a .waiting .now) (a .count)) (requestForm .read []) (s .i) (c .before .before .before .before .before .loop-test .taken) (omega (arith, length-rows requestForm (a .waiting .now) (a .count))) (tags-are (a .waiting .now) (a .count) (s .i - 1) (omega arith) ∙ sym (c .before .is-lawful .ensures) ∙ not-false _ (c .if1 .left)) (s .inv .1))
+    rows-next requestForm lawful (a .waiting .now) (a .count) (s .i) (s .inv) (c .before .before .before .before .before .loop-test .taken) (sym (c .before .stamp-fits .ensures) ∙ not-false _ (c .if1 .left))
 
 returns-2 : tie.Need-returns-2 Inv-loop μ-loop
 returns-2 c =
     let a = c .before .before .before .args in
     let s = c .before .loop in
-    all-end lawful (waitingOf (a .waiting .now) (a .count)) (requestForm .read []) (s .i) (c .loop-test .left) (s .inv .1)
+    rows-end requestForm lawful (a .waiting .now) (a .count) (s .i) (s .inv) (c .loop-test .left)
 
 pub all-lawful-spec : {M : Type 1} → statement M
 all-lawful-spec =
@@ -110,7 +102,7 @@ all-lawful-spec =
     add-s
     mul-s-2
     shared-slice-read-s
-    is-lawful-requires
+    stamp-fits-requires
     returns
     loop-less
     loop-again

@@ -1,32 +1,22 @@
 -- The walk goes from the last row to the first: every row behind it has passed.
-use Prim.Native.Nat.{_≤_, _-_}
-use mathlib.Core.Path.{_≡_, sym, _∙_}
-use mathlib.Core.Bool.{true}
-use mathlib.Core.List.{[]}
+use mathlib.Core.Path.{sym, _∙_}
 use native.Mathlib.Omega.{arith}
-use lib.ListN.{drop}
 use borrow.Author.Tests.{not-true, not-false}
-use Rattle.lists.specs.Words.{all}
-use Rattle.lists.specs.Walks.{all-start, all-next, all-end}
-use Rattle.lists.specs.WordsLaws.{place-not}
-use Rattle.lists.specs.RowsLaws.{length-rows}
 use Rattle.rules.specs.Tables.{name}
-use Rattle.table.specs.View.{requestForm, waitingOf}
+use Rattle.table.specs.View.{requestForm}
 use Rattle.entries.specs.Tests.{named}
-use Rattle.entries.proofs.Records.{waiting-is}
+use Rattle.entries.proofs.AllRows.{Passed, rows-start, rows-next, rows-fail, rows-end}
 use Rattle.entries.proofs.requests.all_named.Statement.{statement}
 use Rattle.entries.proofs.requests.all_named.Tie as tie
 
 abbrev Inv-loop : tie.InvT-loop
-Inv-loop waiting count known i₀ i = (i ≤ count) × (all (λ q. named known (name q)) (drop i (waitingOf waiting count)) ≡ true)
+Inv-loop waiting count known i₀ i = Passed requestForm (λ q. named known (name q)) waiting count i
 
 abbrev μ-loop : tie.MeasureT-loop
 μ-loop waiting count known i₀ i = i
 
 loop-holds : tie.Need-loop-holds Inv-loop μ-loop
-loop-holds c =
-    let a = c .before .args in
-    (omega arith, all-start (λ q. named (a .known) (name q)) (waitingOf (a .waiting .now) (a .count)) (requestForm .read []) (a .count) (omega (arith, length-rows requestForm (a .waiting .now) (a .count))))
+loop-holds c = let a = c .before .args in rows-start requestForm (λ q. named (a .known) (name q)) (a .waiting .now) (a .count)
 
 sub-i : tie.Need-sub-i Inv-loop μ-loop
 sub-i c = omega arith
@@ -62,7 +52,7 @@ returns : tie.Need-returns Inv-loop μ-loop
 returns c =
     let a = c .before .before .before .before .before .before .before .args in
     let s = c .before .before .before .before .before .loop in
-    sym (place-not (λ q. named (a .known) (name q)) (waitingOf (a .waiting .now) (a .count)) (requestForm .read []) (s .i - 1) (omega (arith, length-rows requestForm (a .waiting .now) (a .count))) (waiting-is (a .waiting .now) (a .count) (s .i - 1) (omega arith) (a .known) ∙ sym (c .before .is-named .ensures) ∙ not-true _ (c .if1 .taken)))
+    rows-fail requestForm (λ q. named (a .known) (name q)) (a .waiting .now) (a .count) (s .i) (s .inv) (c .before .before .before .before .loop-test .taken) (sym (c .before .is-named .ensures) ∙ not-true _ (c .if1 .taken))
 
 loop-less : tie.Need-loop-less Inv-loop μ-loop
 loop-less c = omega arith
@@ -71,13 +61,13 @@ loop-again : tie.Need-loop-again Inv-loop μ-loop
 loop-again c =
     let a = c .before .before .before .before .before .before .before .args in
     let s = c .before .before .before .before .before .loop in
-    (omega arith, all-next (λ q. named (a .known) (name q)) (waitingOf (a .waiting .now) (a .count)) (requestForm .read []) (s .i) (c .before .before .before .before .loop-test .taken) (omega (arith, length-rows requestForm (a .waiting .now) (a .count))) (waiting-is (a .waiting .now) (a .count) (s .i - 1) (omega arith) (a .known) ∙ sym (c .before .is-named .ensures) ∙ not-false _ (c .if1 .left)) (s .inv .1))
+    rows-next requestForm (λ q. named (a .known) (name q)) (a .waiting .now) (a .count) (s .i) (s .inv) (c .before .before .before .before .loop-test .taken) (sym (c .before .is-named .ensures) ∙ not-false _ (c .if1 .left))
 
 returns-2 : tie.Need-returns-2 Inv-loop μ-loop
 returns-2 c =
     let a = c .before .before .before .args in
     let s = c .before .loop in
-    all-end (λ q. named (a .known) (name q)) (waitingOf (a .waiting .now) (a .count)) (requestForm .read []) (s .i) (c .loop-test .left) (s .inv .1)
+    rows-end requestForm (λ q. named (a .known) (name q)) (a .waiting .now) (a .count) (s .i) (s .inv) (c .loop-test .left)
 
 pub all-named-spec : {M : Type 1} → statement M
 all-named-spec =

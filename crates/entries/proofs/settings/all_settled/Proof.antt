@@ -1,31 +1,21 @@
 -- The walk goes from the last row to the first: every row behind it has passed.
-use Prim.Native.Nat.{_≤_, _-_}
-use mathlib.Core.Path.{_≡_, sym, _∙_}
-use mathlib.Core.Bool.{true}
-use mathlib.Core.List.{[]}
+use mathlib.Core.Path.{sym, _∙_}
 use native.Mathlib.Omega.{arith}
-use lib.ListN.{drop}
 use borrow.Author.Tests.{not-true, not-false}
-use Rattle.lists.specs.Words.{all}
-use Rattle.lists.specs.Walks.{all-start, all-next, all-end}
-use Rattle.lists.specs.WordsLaws.{place-not}
-use Rattle.lists.specs.RowsLaws.{length-rows}
-use Rattle.table.specs.View.{guestForm, guestsOf}
+use Rattle.table.specs.View.{guestForm}
 use Rattle.entries.specs.Tests.{settledGuest}
-use Rattle.entries.proofs.Records.{guest-is}
+use Rattle.entries.proofs.AllRows.{Passed, rows-start, rows-next, rows-fail, rows-end}
 use Rattle.entries.proofs.settings.all_settled.Statement.{statement}
 use Rattle.entries.proofs.settings.all_settled.Tie as tie
 
 abbrev Inv-loop : tie.InvT-loop
-Inv-loop guests known i₀ i = (i ≤ known) × (all settledGuest (drop i (guestsOf guests known)) ≡ true)
+Inv-loop guests known i₀ i = Passed guestForm settledGuest guests known i
 
 abbrev μ-loop : tie.MeasureT-loop
 μ-loop guests known i₀ i = i
 
 loop-holds : tie.Need-loop-holds Inv-loop μ-loop
-loop-holds c =
-    let a = c .before .args in
-    (omega arith, all-start settledGuest (guestsOf (a .guests .now) (a .known)) (guestForm .read []) (a .known) (omega (arith, length-rows guestForm (a .guests .now) (a .known))))
+loop-holds c = let a = c .before .args in rows-start guestForm settledGuest (a .guests .now) (a .known)
 
 sub-i : tie.Need-sub-i Inv-loop μ-loop
 sub-i c = omega arith
@@ -73,7 +63,7 @@ returns : tie.Need-returns Inv-loop μ-loop
 returns c =
     let a = c .before .before .before .before .before .before .before .before .args in
     let s = c .before .before .before .before .before .before .loop in
-    sym (place-not settledGuest (guestsOf (a .guests .now) (a .known)) (guestForm .read []) (s .i - 1) (omega (arith, length-rows guestForm (a .guests .now) (a .known))) (guest-is (a .guests .now) (a .known) (s .i - 1) (omega arith) ∙ sym (c .before .is-settled .ensures) ∙ not-true _ (c .if1 .taken)))
+    rows-fail guestForm settledGuest (a .guests .now) (a .known) (s .i) (s .inv) (c .before .before .before .before .before .loop-test .taken) (sym (c .before .is-settled .ensures) ∙ not-true _ (c .if1 .taken))
 
 loop-less : tie.Need-loop-less Inv-loop μ-loop
 loop-less c = omega arith
@@ -82,13 +72,13 @@ loop-again : tie.Need-loop-again Inv-loop μ-loop
 loop-again c =
     let a = c .before .before .before .before .before .before .before .before .args in
     let s = c .before .before .before .before .before .before .loop in
-    (omega arith, all-next settledGuest (guestsOf (a .guests .now) (a .known)) (guestForm .read []) (s .i) (c .before .before .before .before .before .loop-test .taken) (omega (arith, length-rows guestForm (a .guests .now) (a .known))) (guest-is (a .guests .now) (a .known) (s .i - 1) (omega arith) ∙ sym (c .before .is-settled .ensures) ∙ not-false _ (c .if1 .left)) (s .inv .1))
+    rows-next guestForm settledGuest (a .guests .now) (a .known) (s .i) (s .inv) (c .before .before .before .before .before .loop-test .taken) (sym (c .before .is-settled .ensures) ∙ not-false _ (c .if1 .left))
 
 returns-2 : tie.Need-returns-2 Inv-loop μ-loop
 returns-2 c =
     let a = c .before .before .before .args in
     let s = c .before .loop in
-    all-end settledGuest (guestsOf (a .guests .now) (a .known)) (guestForm .read []) (s .i) (c .loop-test .left) (s .inv .1)
+    rows-end guestForm settledGuest (a .guests .now) (a .known) (s .i) (s .inv) (c .loop-test .left)
 
 pub all-settled-spec : {M : Type 1} → statement M
 all-settled-spec =

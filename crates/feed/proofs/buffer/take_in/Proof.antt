@@ -25,7 +25,7 @@ feed-requires c κs =
 mul-shift : tie.Need-mul-shift
 mul-shift c =
     let a = c .before .before .before .before .before .before .before .before .before .before .before .before .before .before .before .before .before .before .before .before .before .args in
-    omega (arith, c .before .before .before .before .before .before .before .before .before .before .feed .ensures .taken, length-take-le (a .have) (a .buffer .now) (c .before .before .before .before .before .before .before .before .before .before .before .before .before .before .before .before .before .before .before .before .before .pre .0 .0))
+    omega (arith, c .before .before .before .before .before .before .before .before .before .before .feed .ensures .taken, length-take-le (a .have) (a .buffer .now) (c .before .before .before .before .before .before .before .before .before .before .before .before .before .before .before .before .before .before .before .before .before .pre .0 .0), c .before .before .before .before .before .before .before .before .before .before .before .before .before .before .before .before .before .before .before .before .before .pre .0)
 
 shift-requires : tie.Need-shift-requires
 shift-requires c κs =

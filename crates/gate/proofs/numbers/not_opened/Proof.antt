@@ -1,7 +1,7 @@
-use mathlib.Core.Path.{ap}
+-- The function meets its contract, by what its callees promise. Assumes nothing.
+use mathlib.Core.Path.{ap, _∙_}
 use Rattle.rules.specs.declared.Gate.{Gate}
-use Rattle.rules.specs.declared.Answer.the-variants.{Refused}
-use Rattle.rules.specs.declared.Outcome.{Outcome}
+use Rattle.table.specs.Does.{refusing}
 use borrow.Author.Needs.{needs}
 use Rattle.gate.proofs.numbers.not_opened.Statement.{statement}
 use Rattle.gate.proofs.numbers.not_opened.Tie as tie
@@ -9,10 +9,11 @@ use Rattle.gate.proofs.numbers.not_opened.Tie as tie
 fresh-gate-requires : tie.Need-fresh-gate-requires
 fresh-gate-requires c κs = search needs
 
+refused-requires : tie.Need-refused-requires
+refused-requires c κs = search needs
+
 returns : tie.Need-returns
-returns c =
-    let r : Gate → Outcome = λ g. record { gate = g; answer = Refused (c .before .args .why) } in
-    ap r (c .fresh-gate .ensures)
+returns c = c .refused .ensures ∙ ap (λ (g : Gate). refusing (c .before .before .args .why) g) (c .before .fresh-gate .ensures)
 
 pub not-opened-spec : {M : Type 1} → statement M
-not-opened-spec = tie.close (tie.spec fresh-gate-requires returns)
+not-opened-spec = tie.close (tie.spec fresh-gate-requires refused-requires returns)

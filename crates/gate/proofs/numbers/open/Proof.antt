@@ -1,6 +1,7 @@
+-- The function meets its contract, by what its callees promise. Assumes nothing.
+use borrow.Author.Needs.{needs}
 use native.Mathlib.Omega.{arith}
 use Rattle.gate.proofs.OpenReturns.{not-opened-returns, open-room, opened-returns}
-use borrow.Author.Needs.{needs}
 use Rattle.gate.proofs.numbers.open.Statement.{statement}
 use Rattle.gate.proofs.numbers.open.Tie as tie
 
@@ -28,8 +29,7 @@ start-requires c κs =
 mul-clear : tie.Need-mul-clear
 mul-clear c =
     let s = c .before .before .before .before .before .before .before .before .before .before .before .before .before .before .before .before in
-    let o = open-room (s .args .depth) (s .args .known) (s .args .capacity) (s .args .settings .now) (s .args .guests .now) (s .args .waiting .now) (s .args .flight .now) _ (c .before .before .before .before .before .before .before .before .before .before .before .fresh-gate .ensures) _ (c .before .before .before .before .before .before .before .judge-opening .ensures) (c .before .before .before .before .before .enum-told .given .1) in
-    omega (arith, o .most)
+    omega (arith, open-room (s .args .depth) (s .args .known) (s .args .capacity) (s .args .settings .now) (s .args .guests .now) (s .args .waiting .now) (s .args .flight .now) _ (c .before .before .before .before .before .before .before .before .before .before .before .fresh-gate .ensures) _ (c .before .before .before .before .before .before .before .judge-opening .ensures) (c .before .before .before .before .before .enum-told .given .1) .most)
 
 clear-requires : tie.Need-clear-requires
 clear-requires c κs =
@@ -39,13 +39,15 @@ clear-requires c κs =
 mul-clear-2 : tie.Need-mul-clear-2
 mul-clear-2 c =
     let s = c .before .before .before .before .before .before .before .before .before .before .before .before .before .before .before .before .before .before .before .before in
-    let o = open-room (s .args .depth) (s .args .known) (s .args .capacity) (s .args .settings .now) (s .args .guests .now) (s .args .waiting .now) (s .args .flight .now) _ (c .before .before .before .before .before .before .before .before .before .before .before .before .before .before .before .fresh-gate .ensures) _ (c .before .before .before .before .before .before .before .before .before .before .before .judge-opening .ensures) (c .before .before .before .before .before .before .before .before .before .enum-told .given .1) in
-    omega (arith, o .most)
+    omega (arith, open-room (s .args .depth) (s .args .known) (s .args .capacity) (s .args .settings .now) (s .args .guests .now) (s .args .waiting .now) (s .args .flight .now) _ (c .before .before .before .before .before .before .before .before .before .before .before .before .before .before .before .fresh-gate .ensures) _ (c .before .before .before .before .before .before .before .before .before .before .before .judge-opening .ensures) (c .before .before .before .before .before .before .before .before .before .enum-told .given .1) .most)
 
 clear-requires-2 : tie.Need-clear-requires-2
 clear-requires-2 c κs =
     let s = c .before .before .before .before .before .before .before .before .before .before .before .before .before .before .before .before .before .before .before .before in
     open-room (s .args .depth) (s .args .known) (s .args .capacity) (s .args .settings .now) (s .args .guests .now) (s .args .waiting .now) (s .args .flight .now) _ (c .before .before .before .before .before .before .before .before .before .before .before .before .before .before .before .fresh-gate .ensures) _ (c .before .before .before .before .before .before .before .before .before .before .before .judge-opening .ensures) (c .before .before .before .before .before .before .before .before .before .enum-told .given .1) .flight
+
+answered-requires : tie.Need-answered-requires
+answered-requires c κs = search needs
 
 same-length : tie.Need-same-length
 same-length c = search needs
@@ -72,8 +74,8 @@ same-length-6 c = search needs
 
 returns-2 : tie.Need-returns-2
 returns-2 c =
-    let s = c .before .before .before .before .before .before .before .before .before .before .before .before .before .before .before .before .before .before .before .before .before .before .before in
-    opened-returns (s .args .depth) (s .args .known) (s .args .capacity) (s .args .settings .now) (s .args .guests .now) (s .args .waiting .now) (s .args .flight .now) _ (c .before .before .before .before .before .before .before .before .before .before .before .before .before .before .before .before .before .before .fresh-gate .ensures) _ (c .before .before .before .before .before .before .before .before .before .before .before .before .before .before .judge-opening .ensures) (c .before .before .before .before .before .before .before .before .before .before .before .before .enum-told .given .1) _ _ _ (c .before .before .before .before .before .before .before .before .before .before .start .ensures) (c .before .before .before .before .before .before .clear .ensures) (c .before .before .clear2 .ensures)
+    let s = c .before .before .before .before .before .before .before .before .before .before .before .before .before .before .before .before .before .before .before .before .before .before .before .before in
+    opened-returns (s .args .depth) (s .args .known) (s .args .capacity) (s .args .settings .now) (s .args .guests .now) (s .args .waiting .now) (s .args .flight .now) _ (c .before .before .before .before .before .before .before .before .before .before .before .before .before .before .before .before .before .before .before .fresh-gate .ensures) _ (c .before .before .before .before .before .before .before .before .before .before .before .before .before .before .before .judge-opening .ensures) (c .before .before .before .before .before .before .before .before .before .before .before .before .before .enum-told .given .1) _ _ _ (c .before .before .before .before .before .before .before .before .before .before .before .start .ensures) (c .before .before .before .before .before .before .before .clear .ensures) (c .before .before .before .clear2 .ensures) _ (c .answered .ensures)
 
 pub open-spec : {M : Type 1} → statement M
 open-spec =
@@ -89,6 +91,7 @@ open-spec =
     clear-requires
     mul-clear-2
     clear-requires-2
+    answered-requires
     same-length
     same-length-2
     same-length-3

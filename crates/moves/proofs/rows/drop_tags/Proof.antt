@@ -1,6 +1,7 @@
 use Prim.Native.Nat.{ℕ, _+_, _*_, _-_}
 use mathlib.Core.Path.{ap, _∙_}
-use lib.ListN.{set, getD}
+use lib.ListN.{set}
+use Rattle.table.specs.Columns.{RNEXT, guestWide, guestAt}
 use Rattle.moves.specs.Moves.{tagsDropped}
 use Rattle.moves.specs.Lower.{no-next-dropped, no-tags-dropped}
 use borrow.Author.Needs.{needs}
@@ -71,7 +72,7 @@ returns-2 : tie.Need-returns-2
 returns-2 c =
     let a = c .before .before .before .before .before .before .before .before .before .before .args in
     let d = c .before .before .before .before .before .spacing-down in (
-      ap (λ (d : ℕ). set (a .guests .now) (a .guest * 6 + 3) (getD (a .guests .now) (a .guest * 6 + 3) 0 - d)) (d .ensures),
+      ap (λ (d : ℕ). set (a .guests .now) (a .guest * guestWide + RNEXT) (guestAt (a .guests .now) (a .guest) RNEXT - d)) (d .ensures),
       c .before .before .lower .ensures ∙ ap (λ (d : ℕ). tagsDropped (a .guest) d (a .waiting .now) (a .count)) (d .ensures),
     )
 

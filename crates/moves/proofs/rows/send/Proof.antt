@@ -5,6 +5,7 @@ use native.Mathlib.Omega.{arith}
 use lib.ListN.{length-set}
 use Rattle.lists.specs.Parts.{back}
 use Rattle.lists.specs.Stores.{stores}
+use Rattle.table.specs.Columns.{waitingWide}
 use borrow.Author.Needs.{needs}
 use Rattle.moves.proofs.rows.send.Statement.{statement}
 use Rattle.moves.proofs.rows.send.Tie as tie
@@ -78,7 +79,7 @@ same-length-2 c = search needs
 returns : tie.Need-returns
 returns c =
     let a = c .before .before .before .before .before .before .before .before .args in (
-      ap (λ (ys : List ℕ). back (a .place * 5) (a .count * 5) ys (a .waiting .now)) (c .before .before .close-up .ensures),
+      ap (λ (ys : List ℕ). back (a .place * waitingWide) (a .count * waitingWide) ys (a .waiting .now)) (c .before .before .close-up .ensures),
       (unfold stores in refl, (refl, refl)),
     )
 

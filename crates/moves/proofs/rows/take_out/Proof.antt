@@ -2,6 +2,7 @@ use Prim.Native.Nat.{ℕ, _*_}
 use mathlib.Core.Path.{ap}
 use mathlib.Core.List.{List}
 use Rattle.lists.specs.Parts.{back}
+use Rattle.table.specs.Columns.{flightWide}
 use borrow.Author.Needs.{needs}
 use Rattle.moves.proofs.rows.take_out.Statement.{statement}
 use Rattle.moves.proofs.rows.take_out.Tie as tie
@@ -33,7 +34,7 @@ same-length c = search needs
 returns : tie.Need-returns
 returns c =
     let a = c .before .before .before .before .before .args in
-    ap (λ (ys : List ℕ). back (a .place * 2) (a .count * 2) ys (a .flight .now)) (c .before .before .close-up .ensures)
+    ap (λ (ys : List ℕ). back (a .place * flightWide) (a .count * flightWide) ys (a .flight .now)) (c .before .before .close-up .ensures)
 
 pub take-out-spec : {M : Type 1} → statement M
 take-out-spec =

@@ -37,7 +37,7 @@ use denote.Triple.Walked.{says, needs, Stays, stay-none, stay-none-slice, walkOf
 use Rattle.rules.specs.declared.Guest.{Guest}
 use Rattle.records.specs.Records.{blank}
 use Rattle.records.proofs.Rec.{Rec, vals, val, tells, place-fits, copies, makes, typed}
-use Rattle.records.proofs.Steps.{gone}
+use Rattle.lent.proofs.Steps.{gone}
 use Rattle.records.proofs.guests.read.Key.{name as #records·guests·read}
 use Rattle.records.proofs.guests.read as f
 use Rattle.records.proofs.guests.read.Statement as stated

@@ -39,7 +39,7 @@ use denote.Triple.Walked.{says, needs, Stays, stay-none, stay-slice, walkOf, Wal
 use Rattle.rules.specs.declared.Guest.{Guest}
 use Rattle.records.specs.Records.{blank}
 use Rattle.records.proofs.Rec.{Rec, vals, val, tells, place-fits, makes, typed}
-use Rattle.records.proofs.Steps.{gone}
+use Rattle.lent.proofs.Steps.{gone}
 use Rattle.records.proofs.guests.write.Key.{name as #records·guests·write}
 use Rattle.records.proofs.guests.write as f
 use Rattle.records.proofs.guests.write.Statement as stated

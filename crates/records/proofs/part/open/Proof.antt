@@ -1,6 +1,8 @@
+-- The function meets its contract, by what its callee promises. Assumes nothing.
 use Prim.Native.Nat.{_*_}
 use mathlib.Core.Path.{sym}
 use lib.Seq.{length-take-le}
+use Rattle.table.specs.Columns.{guestWide}
 use Rattle.records.proofs.Parts.{in-part}
 use borrow.Author.Needs.{needs}
 use Rattle.records.proofs.part.open.Statement.{statement}
@@ -13,7 +15,7 @@ slice-relend-prefix-open : tie.Need-slice-relend-prefix-open
 slice-relend-prefix-open c = search needs
 
 slice-aggregate-open : tie.Need-slice-aggregate-open
-slice-aggregate-open c = let s = c .before .before .before .before .before in sym (length-take-le (s .args .count * 6) (s .args .rows .now) (s .pre))
+slice-aggregate-open c = let s = c .before .before .before .before .before in sym (length-take-le (s .args .count * guestWide) (s .args .rows .now) (s .pre))
 
 open-requires : tie.Need-open-requires
 open-requires c κs = search needs
@@ -28,7 +30,7 @@ same-length-3 : tie.Need-same-length-3
 same-length-3 c = search needs
 
 returns : tie.Need-returns
-returns c = let s = c .before .before .before .before .before .before .before .before .before .before .before .before .before .before in in-part (s .args .count * 6) (s .args .rows .now) _ _ (c .before .before .before .before .before .before .open .ensures)
+returns c = let s = c .before .before .before .before .before .before .before .before .before .before .before .before .before .before in in-part (s .args .count * guestWide) (s .args .rows .now) _ _ (c .before .before .before .before .before .before .open .ensures)
 
 pub open-spec : {M : Type 1} → statement M
 open-spec =

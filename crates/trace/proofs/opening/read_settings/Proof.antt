@@ -8,6 +8,7 @@ use Rattle.lists.specs.Sets.{sets-tab}
 use Rattle.trace.specs.Header.{numberAt}
 use Rattle.trace.proofs.opening.read_settings.Statement.{statement}
 use Rattle.trace.proofs.opening.read_settings.Tie as tie
+use Rattle.table.specs.Columns.{settingsWide}
 
 abbrev Inv-loop : tie.InvT-loop
 Inv-loop bytes guests into₀ n j₀ into j = (j ≤ n) × (length into ≡ length into₀) × (into ≡ sets into₀ 0 (tab j (numberAt bytes)))
@@ -48,7 +49,7 @@ returns : tie.Need-returns Inv-loop μ-loop
 returns c =
     let s = c .before .loop in
     let a = c .before .before .before .before .args in
-    let e : s .j ≡ a .guests * 3 = omega arith in
+    let e : s .j ≡ a .guests * settingsWide = omega arith in
     s .inv .2 ∙ ap (λ (n : ℕ). sets (a .into .now) 0 (tab n (numberAt (a .bytes .now)))) e
 
 pub read-settings-spec : {M : Type 1} → statement M

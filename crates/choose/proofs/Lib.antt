@@ -1,0 +1,5 @@
+pub mod Rising
+pub mod Sends
+pub mod WeightSend
+pub mod Phases
+pub mod Returns

@@ -1,0 +1,116 @@
+-- What the walks and the moves of the choice ask, from a known table; and what the walks find, as the phases pick. Assumes nothing.
+use Prim.Native.Nat.{ℕ, _+_, _-_, _*_, _≤_, _<_}
+use mathlib.Core.Path.{_≡_, refl, sym, ap, _∙_}
+use mathlib.Core.Bool.{true, false, and-true}
+use mathlib.Core.List.{List}
+use native.Mathlib.Omega.{arith}
+use lib.Dec.{leb, eqb}
+use lib.ListN.{length, getD}
+use borrow.Author.Tests.{eq-eqb, eqb-true}
+use Rattle.lists.specs.Words.{all}
+use Rattle.lists.specs.WordsLaws.{both, all-passing-at}
+use Rattle.lists.specs.Lines.{lineAt}
+use Rattle.lists.specs.RowsLaws.{row-at}
+use Rattle.rules.specs.Numbers.{ceiling, down}
+use Rattle.rules.specs.Tables.{Request, Table, limited, lspacing, owner, settingsOf, of, mine}
+use Rattle.rules.specs.declared.Guest.{Guest}
+use Rattle.rules.specs.Sound.{kept}
+use Rattle.rules.specs.Choice.{dueAt, passes, due, open?, dropOf}
+use Rattle.rules.specs.Chosen.{blank, at}
+use Rattle.rules.proofs.Facts.{orderly-is, any-orderly}
+use Rattle.rules.proofs.WeightFits.{weight-fits}
+use Rattle.rules.specs.declared.Gate.{Gate}
+use Rattle.table.specs.Columns.{guestWide, waitingWide, flightWide, mostGuests, mostCapacity, RNEXT, GUEST, RTAG, mostDepth}
+use Rattle.table.specs.View.{guestForm, requestForm, guestsOf, tableOf, Known}
+use Rattle.walks.specs.LeastLaws.{least-ext, open-by-tag}
+use Rattle.moves.specs.Moves.{spacingOf}
+use Rattle.walks.specs.Walks.{Picks, Owned, Rising, SharesFit}
+use Rattle.walks.specs.declared.Found.{Found}
+use Rattle.walks.specs.declared.Found.the-variants.{At}
+use Rattle.table.proofs.Facts.{Facts, facts, rows-ask, row-is, guest-is}
+use Rattle.choose.proofs.Rising.{rising-rows}
+use Rattle.choose.proofs.Sends.{goes, stay, goesGuest, guest-goes, length-stay}
+use Rattle.choose.proofs.WeightSend.{left, left-rows, left-room}
+
+module _ (g : Gate) (gs ws fs : List ℕ) (k : Known g gs ws fs) where
+  abbrev t : Table
+  t = tableOf g gs ws fs
+
+  f : Facts g gs ws fs
+  f = facts g gs ws fs k
+
+  -- what the walk asks
+  pub line-asks : ((g .waiting ≤ mostCapacity) × (g .waiting * waitingWide ≤ length ws) × (g .guests ≤ mostGuests) × (g .guests * guestWide ≤ length gs))
+      × ((Owned ws (g .waiting) (g .guests) × Rising ws (g .waiting) × SharesFit ws (g .waiting)) × (g .time ≤ ceiling))
+  line-asks = (
+    (rows-ask g gs ws fs k .0, rows-ask g gs ws fs k .1, f .counts .guest-count .1, k .guestRoom),
+    ((f .owners, rising-rows g gs ws fs k, λ j h. omega (arith, f .lawfuls j h .share, ap Request.stag (row-is g gs ws fs k j h))), f .timed),
+  )
+
+  -- the walk's test is the reservation phase's
+  pub due-picks : (x : Found) → Picks (λ q. dueAt (settingsOf (guestsOf gs (g .guests)) q) (g .time) q) Request.rtag (t .waiting) x → Picks (due t) Request.rtag (t .waiting) x
+  unfolding passes
+  due-picks x p =
+      record {
+        pick = least-ext (due t) (λ q. dueAt (settingsOf (t .guests) q) (t .time) q) Request.rtag (t .waiting) (λ j h. and-true _) ∙ p .pick;
+        inside = p .inside;
+      }
+
+  -- an unlimited guest's limit tags are 0
+  limit-zero : (j : ℕ) → j < length (t .waiting) → limited (settingsOf (t .guests) (at (t .waiting) j)) ≡ false → (at (t .waiting) j) .ltag ≡ 0
+  unfolding kept
+  limit-zero j h e =
+      let q = at (t .waiting) j in
+      let n = q .guest in
+      let s = (owner (t .guests) n) .settings in
+      let o = orderly-is (owner (t .guests) n) (mine n (t .waiting)) (any-orderly t (f .firm) n) in
+      let z : kept false Request.ltag (lspacing s) (lspacing s) (mine n (t .waiting)) ((owner (t .guests) n) .lnext) ≡ true = rw e at (o .limits) in
+      let c = both (eqb ((owner (t .guests) n) .lnext) 0) (all (λ p. eqb (p .ltag) 0) (mine n (t .waiting))) z in
+      eqb-true (q .ltag) 0 (all-passing-at (λ p. eqb (p .ltag) 0) (of n) (t .waiting) blank (c .1) j h (eq-eqb n n refl))
+
+  -- the walk's test is the weight phase's
+  pub open-picks : (x : Found) → Picks (λ q. leb (q .ltag) (g .time)) Request.stag (t .waiting) x → Picks (open? t) Request.stag (t .waiting) x
+  open-picks x p =
+      record {
+        pick = least-ext (open? t) (λ q. leb (q .ltag) (t .time)) Request.stag (t .waiting) (λ j h. open-by-tag (settingsOf (t .guests) (at (t .waiting) j)) (t .time) (at (t .waiting) j) (limit-zero j h)) ∙ p .pick;
+        inside = p .inside;
+      }
+
+  module _ (free : g .flight < g .setup .depth) (place : ℕ) (here : place < g .waiting) where
+    -- what a send asks
+    pub send-asks : (place < g .waiting) × (g .waiting * waitingWide ≤ length ws) × (g .flight * flightWide + flightWide ≤ length fs)
+    send-asks = (here, rows-ask g gs ws fs k .1, omega (arith, k .flightRoom))
+
+    pub sent-asks : (0 < g .waiting) × (g .flight < g .setup .depth) × (g .setup .depth ≤ mostDepth)
+    sent-asks = (omega arith, free, f .counts .depths .1)
+
+    abbrev n : ℕ
+    n = goesGuest g gs ws fs k free place here
+
+    abbrev ws1 : List ℕ
+    ws1 = left g gs ws fs k free place here
+
+    -- what the drop asks: nothing falls below zero
+    pub drop-asks : Picks (open? t) Request.stag (t .waiting) (At place)
+        → ((n * guestWide + guestWide ≤ length gs) × ((g .waiting - 1) * waitingWide ≤ length ws1)) × ((spacingOf n gs ≤ getD gs (n * guestWide + RNEXT) 0)
+        × ((j : ℕ) → j < g .waiting - 1 → getD ws1 (j * waitingWide + GUEST) 0 ≡ n → spacingOf n gs ≤ getD ws1 (j * waitingWide + RTAG) 0))
+    drop-asks h =
+        let q = goes g gs ws fs k free place here in
+        let v = stay g gs ws fs k free place here in
+        let eq : q .guest ≡ n = guest-goes g gs ws fs k free place here in
+        let w = weight-fits t (k .isSound) q v (h .pick) in
+        let own : n < g .guests = f .owners place here in
+        let at-n : owner (t .guests) (q .guest) ≡ guestForm .read (lineAt guestWide gs n) = ap (owner (t .guests)) eq ∙ guest-is g gs ws fs k n own in
+        let d : dropOf t q ≡ spacingOf n gs = ap (λ (h : Guest). down (h .settings .reservation)) at-n in
+        let e : (owner (t .guests) (q .guest)) .rnext ≡ getD gs (n * guestWide + RNEXT) 0 = ap Guest.rnext at-n in
+        let rows = left-rows g gs ws fs k free place here in
+        let size : (g .waiting - 1) * waitingWide ≤ length ws1 = omega (arith, left-room g gs ws fs k free place here, f .waits) in (
+          (omega (arith, own, k .guestRoom), size),
+          (
+            omega (arith, w .next),
+            λ j l i.
+                let p : at v j ≡ requestForm .read (lineAt waitingWide ws1 j) = ap (λ (x : List Request). at x j) (sym rows) ∙ row-at requestForm ws1 (g .waiting - 1) j l in
+                let m : dropOf t q ≤ (at v j) .rtag = w .tags blank j (omega (arith, length-stay g gs ws fs k free place here)) (ap Request.guest p ∙ i ∙ sym eq) in
+                omega (arith, m, ap Request.rtag p, d),
+          ),
+        )

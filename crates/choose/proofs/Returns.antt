@@ -1,0 +1,90 @@
+-- What the functions of the choice know at their calls and at their ends, from what their callees ensure. Assumes nothing.
+use Prim.Native.Nat.{ℕ, _+_, _-_, _*_, _≤_, _<_}
+use mathlib.Core.Path.{_≡_, sym, ap, _∙_, subst}
+use mathlib.Core.List.{List}
+use native.Mathlib.Omega.{arith}
+use lib.Dec.{leb}
+use lib.ListN.{length, getD}
+use Rattle.rules.specs.Tables.{Request, Table, settingsOf}
+use Rattle.rules.specs.Choice.{dueAt, due, open?}
+use Rattle.rules.specs.declared.Gate.{Gate}
+use Rattle.rules.specs.declared.Outcome.{Outcome}
+use Rattle.rules.specs.declared.Answer.the-variants.{Nothing, Sent}
+use Rattle.rules.specs.declared.Phase.the-variants.{Reservation, Weight}
+use Rattle.table.specs.Columns.{guestWide, waitingWide, RESERVATION, RNEXT, GUEST, RTAG}
+use Rattle.table.specs.View.{outcomeOf, guestsOf, tableOf, Known}
+use Rattle.moves.specs.Moves.{gone, joined, Named, spacingOf, nextDropped, tagsDropped}
+use Rattle.walks.specs.Walks.{Picks}
+use Rattle.moves.specs.declared.rows.Name.{Name}
+use Rattle.walks.specs.declared.Found.{Found}
+use Rattle.walks.specs.declared.Found.the-variants.{At, Nothing as NoPlace}
+use Rattle.table.specs.Does.{does, weightPhase, reservationPhase, sentGate, sending}
+use Rattle.table.proofs.Facts.{facts}
+use Rattle.choose.proofs.Sends.{found-at, reservation-sent, weight-none, reservation-none}
+use Rattle.choose.proofs.WeightSend.{weight-sent}
+use Rattle.choose.proofs.Phases.{due-picks, open-picks, drop-asks}
+
+module _ (g : Gate) (gs ws fs : List ℕ) (k : Known g gs ws fs) where
+  abbrev t : Table
+  t = tableOf g gs ws fs
+
+  -- an id that waits has 32 bits
+  pub narrow-id : (place : ℕ) → place < g .waiting → (r : Name) → Named place ws r → r .id < 4294967296
+  narrow-id place here r n = omega (arith, n .1, facts g gs ws fs k .ids place here)
+
+  module _ (free : g .flight < g .setup .depth) where
+    -- THE RESERVATION PHASE
+
+    abbrev Due : Found → Type 0
+    Due x = Picks (λ q. dueAt (settingsOf (guestsOf gs (g .guests)) q) (g .time) q) Request.rtag (t .waiting) x
+
+    -- the place that is due is one of those that wait
+    pub due-here : (x : Found) (place : ℕ) → Due x → x ≡ At place → place < g .waiting
+    due-here x place p e = found-at g gs ws fs k x place (due-picks g gs ws fs k x p) e .1
+
+    pub reservation-returns : (x : Found) (place : ℕ) → Due x → x ≡ At place → (n : Name) (vs es : List ℕ) (o : Outcome)
+        → vs ≡ gone place (g .waiting) ws → es ≡ joined place (g .flight) ws fs → Named place ws n → o ≡ sending Reservation (n .guest) (n .id) g
+        → (o, gs, vs, es) ≡ does reservationPhase g gs ws fs
+    reservation-returns x place p e n vs es o ew ef en eo =
+        let f = found-at g gs ws fs k x place (due-picks g gs ws fs k x p) e in
+        (λ i. ((eo ∙ (λ j. outcomeOf (sentGate g) (Sent Reservation (en .0 j) (en .1 j)))) i, gs, ew i, ef i))
+        ∙ reservation-sent g gs ws fs k free place (f .1) (f .0)
+
+    pub none-due : (x : Found) → Due x → x ≡ NoPlace → does weightPhase g gs ws fs ≡ does reservationPhase g gs ws fs
+    none-due x p e = reservation-none g gs ws fs k (subst (λ (y : Found). Picks (due t) Request.rtag (t .waiting) y) e (due-picks g gs ws fs k x p))
+
+    -- THE WEIGHT PHASE
+
+    abbrev Open : Found → Type 0
+    Open x = Picks (λ q. leb (q .ltag) (g .time)) Request.stag (t .waiting) x
+
+    pub open-here : (x : Found) (place : ℕ) → Open x → x ≡ At place → place < g .waiting
+    open-here x place p e = found-at g gs ws fs k x place (open-picks g gs ws fs k x p) e .1
+
+    abbrev Asks : ℕ → List ℕ → Type 0
+    Asks n vs =
+        ((n * guestWide + guestWide ≤ length gs) × ((g .waiting - 1) * waitingWide ≤ length vs)) × ((spacingOf n gs ≤ getD gs (n * guestWide + RNEXT) 0)
+        × ((j : ℕ) → j < g .waiting - 1 → getD vs (j * waitingWide + GUEST) 0 ≡ n → spacingOf n gs ≤ getD vs (j * waitingWide + RTAG) 0))
+
+    -- what the drop asks of the tables after the send
+    pub drop-asked : (x : Found) (place : ℕ) → Open x → x ≡ At place → (n : Name) (vs : List ℕ) → vs ≡ gone place (g .waiting) ws → Named place ws n → Asks (n .guest) vs
+    drop-asked x place p e n vs ew en =
+        let f = found-at g gs ws fs k x place (open-picks g gs ws fs k x p) e in
+        subst (λ (y : ℕ). Asks y vs) (sym (en .0)) (subst (Asks (getD ws (place * waitingWide + GUEST) 0)) (sym ew) (drop-asks g gs ws fs k free place (f .1) (f .0)))
+
+    pub weight-returns : (x : Found) (place : ℕ) → Open x → x ≡ At place → (n : Name) (hs vs us es : List ℕ) (o : Outcome)
+        → vs ≡ gone place (g .waiting) ws → es ≡ joined place (g .flight) ws fs → Named place ws n
+        → hs ≡ nextDropped (n .guest) gs → us ≡ tagsDropped (n .guest) (spacingOf (n .guest) gs) vs (g .waiting - 1)
+        → o ≡ sending Weight (n .guest) (n .id) g → (o, hs, us, es) ≡ does weightPhase g gs ws fs
+    weight-returns x place p e n hs vs us es o ew ef en eh eu eo =
+        let f = found-at g gs ws fs k x place (open-picks g gs ws fs k x p) e in
+        (λ i. (
+          (eo ∙ (λ j. outcomeOf (sentGate g) (Sent Weight (en .0 j) (en .1 j)))) i,
+          (eh ∙ ap (λ (m : ℕ). nextDropped m gs) (en .0)) i,
+          (eu ∙ (λ j. tagsDropped (en .0 j) (spacingOf (en .0 j) gs) (ew j) (g .waiting - 1))) i,
+          ef i,
+        ))
+        ∙ weight-sent g gs ws fs k free place (f .1) (f .0)
+
+    pub none-open : (x : Found) → Open x → x ≡ NoPlace → (outcomeOf g Nothing, gs, ws, fs) ≡ does weightPhase g gs ws fs
+    none-open x p e = weight-none g gs ws fs k (subst (λ (y : Found). Picks (open? t) Request.stag (t .waiting) y) e (open-picks g gs ws fs k x p))

@@ -1,0 +1,109 @@
+-- A send by reservation over the lent numbers is the one of the definitions; and what the choice leaves where nothing is sent. Assumes nothing.
+use Prim.Native.Nat.{ℕ, _+_, _-_, _*_, _≤_, _<_}
+use mathlib.Core.Path.{_≡_, refl, sym, ap, _∙_}
+use mathlib.Core.Bool.{Bool}
+use mathlib.Core.List.{List, [], _∷_, _++_}
+use native.Mathlib.Omega.{arith}
+use lib.ListN.{length, getD, length-append}
+use borrow.Author.Tests.{lt-ltb, le-ltb}
+use Rattle.lists.specs.Tab.{removeAt, length-removeAt}
+use Rattle.lists.specs.Rows.{overRows}
+use Rattle.lists.specs.RowsLaws.{length-rows, over-same, all-used}
+use Rattle.rules.specs.Tables.{Request, Table, name}
+use Rattle.rules.specs.Choice.{due, open?, sending, byReservation, byWeight, room, choice}
+use Rattle.rules.specs.Chosen.{at}
+use Rattle.rules.specs.declared.Gate.{Gate}
+use Rattle.rules.specs.declared.Answer.the-variants.{Nothing, Sent}
+use Rattle.rules.specs.declared.Phase.the-variants.{Reservation}
+use Rattle.table.specs.Columns.{waitingWide, GUEST, ID}
+use Rattle.table.specs.View.{gateAt, outcomeOf, guestForm, requestForm, flightForm, tableOf, handed, Known}
+use Rattle.table.specs.ViewLaws.{guest-exact}
+use Rattle.moves.specs.Moves.{gone, joined}
+use Rattle.moves.specs.MovesLaws.{gone-is, joined-is}
+use Rattle.walks.specs.Walks.{Picks}
+use Rattle.walks.specs.declared.Found.{Found}
+use Rattle.walks.specs.declared.Found.the-variants.{At, Nothing as NoPlace}
+use Rattle.table.specs.Does.{written, does, weightPhase, reservationPhase, sentGate}
+use Rattle.table.proofs.Lens.{known-written, handed-written}
+use Rattle.table.proofs.Facts.{facts, row-is}
+
+module _ (g : Gate) (gs ws fs : List ℕ) (k : Known g gs ws fs) where
+  abbrev t : Table
+  t = tableOf g gs ws fs
+
+  -- nothing is sent: all is handed back as it stood
+  pub nothing-same : (outcomeOf g Nothing, gs, ws, fs) ≡ handed gs ws fs (record { table = t; answer = Nothing })
+  nothing-same = handed-written gs ws fs g gs ws fs (record { table = t; answer = Nothing }) Nothing (known-written g gs ws fs k) refl
+
+  -- no place is free
+  pub choice-full : g .setup .depth ≤ g .flight → (outcomeOf g Nothing, gs, ws, fs) ≡ does choice g gs ws fs
+  unfolding choice room
+  choice-full h = rw (length-rows flightForm fs (g .flight), le-ltb (g .flight) (g .setup .depth) h) nothing-same
+
+  -- a place is free
+  pub choice-room : g .flight < g .setup .depth → does reservationPhase g gs ws fs ≡ does choice g gs ws fs
+  unfolding choice room
+  choice-room h = rw (length-rows flightForm fs (g .flight), lt-ltb (g .flight) (g .setup .depth) h)
+
+  -- none is due
+  pub reservation-none : Picks (due t) Request.rtag (t .waiting) NoPlace → does weightPhase g gs ws fs ≡ does reservationPhase g gs ws fs
+  unfolding byReservation
+  reservation-none p = rw (p .pick)
+
+  -- none is open
+  pub weight-none : Picks (open? t) Request.stag (t .waiting) NoPlace → (outcomeOf g Nothing, gs, ws, fs) ≡ does weightPhase g gs ws fs
+  unfolding byWeight
+  weight-none p = rw (p .pick) nothing-same
+
+  -- a place that a walk found is one of those that wait
+  pub found-at : {ok : Request → Bool} {tag : Request → ℕ} (f : Found) (place : ℕ) → Picks ok tag (t .waiting) f → f ≡ At place → Picks ok tag (t .waiting) (At place) × (place < g .waiting)
+  found-at {ok} {tag} f place p e =
+      let q : Picks ok tag (t .waiting) (At place) = rw e at p in
+      (q, omega (arith, q .inside, length-rows requestForm ws (g .waiting)))
+
+  module _ (free : g .flight < g .setup .depth) (place : ℕ) (here : place < g .waiting) where
+    -- the request that goes, and those that stay
+    abbrev pub goes : Request
+    goes = at (t .waiting) place
+
+    abbrev pub stay : List Request
+    stay = removeAt place (t .waiting)
+
+    -- its guest and its id, as numbers
+    abbrev pub goesGuest : ℕ
+    goesGuest = getD ws (place * waitingWide + GUEST) 0
+
+    abbrev pub goesId : ℕ
+    goesId = getD ws (place * waitingWide + ID) 0
+
+    pub guest-goes : goes .guest ≡ goesGuest
+    guest-goes = ap Request.guest (row-is g gs ws fs k place here)
+
+    pub id-goes : goes .id ≡ goesId
+    id-goes = ap Request.id (row-is g gs ws fs k place here)
+
+    pub length-stay : length stay ≡ g .waiting - 1
+    length-stay =
+        length-removeAt place (t .waiting) (omega (arith, length-rows requestForm ws (g .waiting))) ∙ ap (λ (m : ℕ). m - 1) (length-rows requestForm ws (g .waiting))
+
+    -- the numbers once it has gone show the table that it is sent from
+    pub sent-written : (sentGate g, gs, gone place (g .waiting) ws, joined place (g .flight) ws fs) ≡ written gs ws fs (sending t goes stay)
+    unfolding sending
+    sent-written =
+        let f = facts g gs ws fs k in
+        let eg = length-rows guestForm gs (g .guests) in
+        let ef : length (t .flight ++ (name goes ∷ [])) ≡ g .flight + 1 = length-append (t .flight) (name goes ∷ []) ∙ ap (λ (m : ℕ). m + 1) (length-rows flightForm fs (g .flight)) in
+        let pg = ap (λ (n : ℕ). overRows guestForm n (t .guests) gs) eg ∙ over-same guestForm guest-exact (g .guests) (g .guests) gs (all-used guestForm guest-exact (g .guests) gs) in
+        let pw = gone-is (g .setup .capacity) (g .waiting) ws (k .waitingRoom) (k .whole .waitingUnused) (f .waits) place here in
+        let pf = joined-is (g .setup .depth) (g .flight) fs (k .flightRoom) (k .whole .flightUnused) free ws (g .waiting) place here in
+        sym (λ i. (gateAt (g .setup) (eg i) (g .time) (length-stay i) (ef i), pg i, sym pw i, sym pf i))
+
+    -- a send by reservation
+    pub reservation-sent : Picks (due t) Request.rtag (t .waiting) (At place)
+        → (outcomeOf (sentGate g) (Sent Reservation goesGuest goesId), gs, gone place (g .waiting) ws, joined place (g .flight) ws fs) ≡ does reservationPhase g gs ws fs
+    unfolding byReservation
+    reservation-sent h =
+        rw (h .pick)
+        (handed-written gs ws fs (sentGate g) gs (gone place (g .waiting) ws) (joined place (g .flight) ws fs)
+        (record { table = sending t goes stay; answer = Sent Reservation (goes .guest) (goes .id) }) (Sent Reservation goesGuest goesId) sent-written
+        (λ i. Sent Reservation (sym guest-goes i) (sym id-goes i)))

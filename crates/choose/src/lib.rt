@@ -1,0 +1,84 @@
+// The choice on a table that is known to be sound: one walk over the waiting rows finds what each phase would send. For this repository's own
+// crates, and no public call.
+use rules::Answer;
+use rules::Gate;
+use rules::Outcome;
+use rules::Phase;
+use table::gates;
+use walks::Found;
+ghost use mathlib.Core.Path.{_≡_};
+ghost use Prim.Native.Nat.{_<_};
+ghost use lib.Dec.{leb};
+ghost use Rattle.rules.specs.Tables.{Request};
+ghost use Rattle.rules.specs.Choice.{choice};
+ghost use Rattle.table.specs.View.{waitingOf, Known};
+ghost use Rattle.walks.specs.Walks.{Picks};
+ghost use Rattle.table.specs.Does.{does, weightPhase, reservationPhase};
+
+// The weight phase: the open request with the smallest share tag, which the walk found, goes, and its guest's reservation tags drop.
+fn by_weight(
+    gate: Gate,
+    guests: &mut [u64],
+    waiting: &mut [u64],
+    flight: &mut [u64],
+    found: Found,
+) -> Outcome
+    requires { ⌜ Known gate (now guests) (now waiting) (now flight) ⌝ }
+    requires { ⌜ gate .flight < gate .setup .depth ⌝ }
+    requires { ⌜ Picks (λ q. leb (q .ltag) (gate .time)) Request.stag (waitingOf (now waiting) (gate .waiting)) found ⌝ }
+    ensures { λ r. ⌜ (r, now (guests .exit), now (waiting .exit), now (flight .exit)) ≡ does weightPhase gate (now (guests .entry)) (now (waiting .entry)) (now (flight .entry)) ⌝ }
+{
+    let count = gate.waiting as usize;
+    let flying = gate.flight as usize;
+    match found {
+        Found::At(place) => {
+            let name = moves::rows::send(waiting, flight, place, count, flying);
+            let guest = name.guest;
+            let id = name.id as u32;
+            moves::rows::drop_tags(guests, waiting, count - 1, guest);
+            gates::sent(gate, Phase::Weight, guest, id)
+        }
+        Found::Nothing => gates::answered(gate, Answer::Nothing),
+    }
+}
+
+// The reservation phase: the due request with the smallest reservation tag goes; where none is due, the weight phase.
+fn by_reservation(
+    gate: Gate,
+    guests: &mut [u64],
+    waiting: &mut [u64],
+    flight: &mut [u64],
+) -> Outcome
+    requires { ⌜ Known gate (now guests) (now waiting) (now flight) ⌝ }
+    requires { ⌜ gate .flight < gate .setup .depth ⌝ }
+    ensures { λ r. ⌜ (r, now (guests .exit), now (waiting .exit), now (flight .exit)) ≡ does reservationPhase gate (now (guests .entry)) (now (waiting .entry)) (now (flight .entry)) ⌝ }
+{
+    let known = gate.guests as usize;
+    let count = gate.waiting as usize;
+    let flying = gate.flight as usize;
+    let time = gate.time;
+    let firsts = walks::rows::first_in_line(&waiting[..], count, &guests[..], known, time);
+    let found = firsts.due;
+    let spare = firsts.open;
+    match found {
+        Found::At(place) => {
+            let name = moves::rows::send(waiting, flight, place, count, flying);
+            let guest = name.guest;
+            let id = name.id as u32;
+            gates::sent(gate, Phase::Reservation, guest, id)
+        }
+        Found::Nothing => by_weight(gate, guests, waiting, flight, spare),
+    }
+}
+
+// The choice: nothing goes where no place is free.
+pub fn choose(gate: Gate, guests: &mut [u64], waiting: &mut [u64], flight: &mut [u64]) -> Outcome
+    requires { ⌜ Known gate (now guests) (now waiting) (now flight) ⌝ }
+    ensures { λ r. ⌜ (r, now (guests .exit), now (waiting .exit), now (flight .exit)) ≡ does choice gate (now (guests .entry)) (now (waiting .entry)) (now (flight .entry)) ⌝ }
+{
+    if gate.flight < gate.setup.depth {
+        by_reservation(gate, guests, waiting, flight)
+    } else {
+        gates::answered(gate, Answer::Nothing)
+    }
+}

@@ -1,0 +1,122 @@
+-- `arrive::arrive` meets its contract, by what its callees promise. Assumes nothing.
+use mathlib.Core.Path.{refl}
+use Rattle.rules.specs.declared.Event.the-variants.{Arrival}
+use Rattle.table.proofs.Facts.{rows-ask}
+use Rattle.enter.specs.Arrive.{Timely}
+use Rattle.enter.proofs.Judges.{arrival-names, unknown-guest, above-ceiling, before-last}
+use Rattle.enter.proofs.Settles.{waits-refused, own-repeated, own-waits, own-idle}
+use borrow.Author.Needs.{needs}
+use Rattle.enter.proofs.arrive.arrive.Statement.{statement}
+use Rattle.enter.proofs.arrive.arrive.Tie as tie
+
+returns : tie.Need-returns
+returns c =
+    let s = c .before .before .before .before .before .before in
+    (unknown-guest (s .args .gate) (s .args .guests .now) (s .args .waiting .now) (s .args .flight .now) (s .pre) (Arrival (s .args .what) (s .args .time)) (s .args .what .guest) (s .args .time) (arrival-names _ (s .args .what) (s .args .time)) (c .if1 .taken), refl, refl, refl)
+
+returns-2 : tie.Need-returns-2
+returns-2 c =
+    let s = c .before .before .before .before .before .before .before in
+    (above-ceiling (s .args .gate) (s .args .guests .now) (s .args .waiting .now) (s .args .flight .now) (s .pre) (Arrival (s .args .what) (s .args .time)) (s .args .what .guest) (s .args .time) (arrival-names _ (s .args .what) (s .args .time)) (c .before .if1 .left) (c .if2 .taken), refl, refl, refl)
+
+returns-3 : tie.Need-returns-3
+returns-3 c =
+    let s = c .before .before .before .before .before .before .before .before .before in
+    (before-last (s .args .gate) (s .args .guests .now) (s .args .waiting .now) (s .args .flight .now) (s .pre) (Arrival (s .args .what) (s .args .time)) (s .args .what .guest) (s .args .time) (arrival-names _ (s .args .what) (s .args .time)) (c .before .before .before .if1 .left) (c .before .before .if2 .left) (c .if3 .taken), refl, refl, refl)
+
+cast-own-rows : tie.Need-cast-own-rows
+cast-own-rows c = search needs
+
+own-rows-requires : tie.Need-own-rows-requires
+own-rows-requires c κs =
+    let s = c .before .before .before .before .before .before .before .before .before .before .before in
+    rows-ask (s .args .gate) (s .args .guests .now) (s .args .waiting .now) (s .args .flight .now) (s .pre)
+
+enum-told : tie.Need-enum-told
+enum-told c = search needs
+
+enum-told-2 : tie.Need-enum-told-2
+enum-told-2 c = search needs
+
+arrive-new-requires : tie.Need-arrive-new-requires
+arrive-new-requires c κs =
+    let s = c .before .before .before .before .before .before .before .before .before .before .before .before .before .before .before .before .before in
+    let o = c .before .before .before .before .before .own-rows in
+    let t : Timely (s .args .gate) (s .args .what .guest) (s .args .time) = record { known = c .before .before .before .before .before .before .before .before .before .before .before .if1 .left; late = c .before .before .before .before .before .before .before .before .before .before .if2 .left; early = c .before .before .before .before .before .before .before .before .if3 .left } in
+    let w = own-waits (s .args .gate) (s .args .guests .now) (s .args .waiting .now) (s .args .flight .now) (s .pre) (s .args .what) (s .args .time) t (o .result) (o .ensures) (c .before .before .before .enum-told2 .given .1) in
+    (s .pre, (t, (w .0, w .1)))
+
+enum-told-3 : tie.Need-enum-told-3
+enum-told-3 c = search needs
+
+arrive-new-requires-2 : tie.Need-arrive-new-requires-2
+arrive-new-requires-2 c κs =
+    let s = c .before .before .before .before .before .before .before .before .before .before .before .before .before .before .before .before .before in
+    let o = c .before .before .before .before .before .own-rows in
+    let t : Timely (s .args .gate) (s .args .what .guest) (s .args .time) = record { known = c .before .before .before .before .before .before .before .before .before .before .before .if1 .left; late = c .before .before .before .before .before .before .before .before .before .before .if2 .left; early = c .before .before .before .before .before .before .before .before .if3 .left } in
+    let w = own-idle (s .args .gate) (s .args .guests .now) (s .args .waiting .now) (s .args .flight .now) (s .pre) (s .args .what) (s .args .time) t (o .result) (o .ensures) (c .before .before .before .enum-told3 .given .1) in
+    (s .pre, (t, (w .0, w .1)))
+
+same-length : tie.Need-same-length
+same-length c = search needs
+
+returns-4 : tie.Need-returns-4
+returns-4 c =
+    let s = c .before .before .before .before .before .before .before .before .before .before .before .before .before .before in
+    let o = c .before .before .own-rows in
+    let t : Timely (s .args .gate) (s .args .what .guest) (s .args .time) = record { known = c .before .before .before .before .before .before .before .before .if1 .left; late = c .before .before .before .before .before .before .before .if2 .left; early = c .before .before .before .before .before .if3 .left } in (
+      waits-refused (s .args .gate) (s .args .guests .now) (s .args .waiting .now) (s .args .flight .now) (s .pre) (s .args .what) (s .args .time) t
+          (own-repeated (s .args .gate) (s .args .guests .now) (s .args .waiting .now) (s .args .flight .now) (s .pre) (s .args .what) (s .args .time) t (o .result) (o .ensures) (c .enum-told .given .1)),
+      refl,
+      refl,
+      refl,
+    )
+
+same-length-2 : tie.Need-same-length-2
+same-length-2 c = search needs
+
+same-length-3 : tie.Need-same-length-3
+same-length-3 c = search needs
+
+same-length-4 : tie.Need-same-length-4
+same-length-4 c = search needs
+
+returns-5 : tie.Need-returns-5
+returns-5 c = c .before .before .before .before .before .before .arrive-new .ensures
+
+same-length-5 : tie.Need-same-length-5
+same-length-5 c = search needs
+
+same-length-6 : tie.Need-same-length-6
+same-length-6 c = search needs
+
+same-length-7 : tie.Need-same-length-7
+same-length-7 c = search needs
+
+returns-6 : tie.Need-returns-6
+returns-6 c = c .before .before .before .before .before .before .arrive-new2 .ensures
+
+pub arrive-spec : {M : Type 1} → statement M
+arrive-spec =
+    tie.close
+    (tie.spec
+    returns
+    returns-2
+    returns-3
+    cast-own-rows
+    own-rows-requires
+    enum-told
+    enum-told-2
+    arrive-new-requires
+    enum-told-3
+    arrive-new-requires-2
+    same-length
+    returns-4
+    same-length-2
+    same-length-3
+    same-length-4
+    returns-5
+    same-length-5
+    same-length-6
+    same-length-7
+    returns-6)

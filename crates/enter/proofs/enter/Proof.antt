@@ -1,0 +1,87 @@
+-- `enter` meets its contract, by what its callees promise. Assumes nothing.
+use mathlib.Core.Path.{sym, subst}
+use Rattle.rules.specs.declared.Event.{Event}
+use Rattle.enter.specs.Enters.{Enters}
+use borrow.Author.Needs.{needs}
+use Rattle.enter.proofs.enter.Statement.{statement}
+use Rattle.enter.proofs.enter.Tie as tie
+
+enum-known-event : tie.Need-enum-known-event
+enum-known-event c = search needs
+
+arrive-requires : tie.Need-arrive-requires
+arrive-requires c κs = search needs
+
+enum-known-event-2 : tie.Need-enum-known-event-2
+enum-known-event-2 c = search needs
+
+complete-requires : tie.Need-complete-requires
+complete-requires c κs = search needs
+
+enum-known-event-3 : tie.Need-enum-known-event-3
+enum-known-event-3 c = search needs
+
+wait-requires : tie.Need-wait-requires
+wait-requires c κs = search needs
+
+same-length : tie.Need-same-length
+same-length c = search needs
+
+same-length-2 : tie.Need-same-length-2
+same-length-2 c = search needs
+
+same-length-3 : tie.Need-same-length-3
+same-length-3 c = search needs
+
+returns : tie.Need-returns
+returns c =
+    rw (c .before .before .before .before .before .before .before .before .before .before .before .event .given .1) (c .before .before .before .before .before .before .arrive .ensures)
+
+same-length-4 : tie.Need-same-length-4
+same-length-4 c = search needs
+
+same-length-5 : tie.Need-same-length-5
+same-length-5 c = search needs
+
+same-length-6 : tie.Need-same-length-6
+same-length-6 c = search needs
+
+returns-2 : tie.Need-returns-2
+returns-2 c =
+    rw (c .before .before .before .before .before .before .before .before .before .before .before .event2 .given .1) (c .before .before .before .before .before .before .complete .ensures)
+
+same-length-7 : tie.Need-same-length-7
+same-length-7 c = search needs
+
+same-length-8 : tie.Need-same-length-8
+same-length-8 c = search needs
+
+same-length-9 : tie.Need-same-length-9
+same-length-9 c = search needs
+
+returns-3 : tie.Need-returns-3
+returns-3 c =
+    rw (c .before .before .before .before .before .before .before .before .before .before .before .event3 .given .1) (c .before .before .before .before .before .before .wait .ensures)
+
+pub enter-spec : {M : Type 1} → statement M
+enter-spec =
+    tie.close
+    (tie.spec
+    enum-known-event
+    arrive-requires
+    enum-known-event-2
+    complete-requires
+    enum-known-event-3
+    wait-requires
+    same-length
+    same-length-2
+    same-length-3
+    returns
+    same-length-4
+    same-length-5
+    same-length-6
+    returns-2
+    same-length-7
+    same-length-8
+    same-length-9
+    returns-3)

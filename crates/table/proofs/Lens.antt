@@ -1,0 +1,103 @@
+-- A table written over lent numbers is shown by them again, and is known as before. Assumes nothing.
+use Prim.Native.Nat.{ℕ, _*_, _≤_}
+use mathlib.Core.Path.{_≡_, sym, ap, _∙_}
+use mathlib.Core.Bool.{true}
+use mathlib.Core.List.{List}
+use native.Mathlib.Omega.{arith}
+use lib.ListN.{length}
+use Rattle.lists.specs.Rows.{overRows}
+use Rattle.lists.specs.RowsLaws.{length-rows, length-over-rows, rows-over, over-twice, over-unused, over-same, all-used}
+use Rattle.rules.specs.Tables.{Table}
+use Rattle.rules.specs.Sound.{sound}
+use Rattle.rules.specs.Choice.{Result}
+use Rattle.rules.proofs.Facts.{sound-is}
+use Rattle.rules.proofs.SameSettings.{SameSettings, same-count}
+use Rattle.rules.specs.declared.Gate.{Gate}
+use Rattle.rules.specs.declared.Answer.{Answer}
+use Rattle.table.specs.View.{gateAt, outcomeOf, guestForm, requestForm, flightForm, guestsOf, tableOf, gateOf, handed, identified, Known}
+use Rattle.table.specs.Does.{written}
+use Rattle.table.specs.ViewLaws.{guest-exact, request-exact, flight-exact}
+use Rattle.table.specs.Columns.{guestWide, waitingWide, flightWide}
+
+-- the lent tables have room for what the table u needs
+pub record Room (gs ws fs : List ℕ) (u : Table) : Type 0 where
+  pub guests : length (u .guests) * guestWide ≤ length gs
+  pub waiting : u .setup .capacity * waitingWide ≤ length ws
+  pub flight : u .setup .depth * flightWide ≤ length fs
+
+module _ (gs ws fs : List ℕ) (u : Table) (room : Room gs ws fs u) (firm : sound u ≡ true) where
+  abbrev hs : List ℕ
+  hs = overRows guestForm (length (u .guests)) (u .guests) gs
+
+  abbrev vs : List ℕ
+  vs = overRows requestForm (u .setup .capacity) (u .waiting) ws
+
+  abbrev es : List ℕ
+  es = overRows flightForm (u .setup .depth) (u .flight) fs
+
+  -- what was written is shown
+  pub written-shown : tableOf (gateOf u) hs vs es ≡ u
+  written-shown =
+      let s = sound-is u firm in
+      let pg = rows-over guestForm guest-exact (length (u .guests)) (u .guests) gs (room .guests) (omega arith) in
+      let pw = rows-over requestForm request-exact (u .setup .capacity) (u .waiting) ws (room .waiting) (s .waiting-fits) in
+      let pf = rows-over flightForm flight-exact (u .setup .depth) (u .flight) fs (room .flight) (s .flight-fits) in
+      λ i. record { setup = u .setup; time = u .time; guests = pg i; waiting = pw i; flight = pf i }
+
+  -- and is known
+  pub written-known : identified u ≡ true → Known (gateOf u) hs vs es
+  written-known ids =
+      let s = sound-is u firm in
+      record {
+        guestRoom = rw (length-over-rows guestForm guest-exact (length (u .guests)) (u .guests) gs) (room .guests);
+        waitingRoom = rw (length-over-rows requestForm request-exact (u .setup .capacity) (u .waiting) ws) (room .waiting);
+        flightRoom = rw (length-over-rows flightForm flight-exact (u .setup .depth) (u .flight) fs) (room .flight);
+        isSound = ap sound written-shown ∙ firm;
+        isIdentified = ap identified written-shown ∙ ids;
+        whole = record {
+          waitingUnused = over-unused requestForm request-exact (u .setup .capacity) (u .waiting) ws (room .waiting) (s .waiting-fits);
+          flightUnused = over-unused flightForm flight-exact (u .setup .depth) (u .flight) fs (room .flight) (s .flight-fits);
+        };
+      }
+
+  -- what is handed back over the written numbers is handed back over the first ones
+  pub handed-again : (r : Result) → SameSettings (r .table) u → handed hs vs es r ≡ handed gs ws fs r
+  unfolding handed
+  handed-again r c =
+      let pg : overRows guestForm (length (r .table .guests)) (r .table .guests) hs ≡ overRows guestForm (length (r .table .guests)) (r .table .guests) gs =
+      rw (same-count (r .table) u c) (over-twice guestForm guest-exact (length (u .guests)) (r .table .guests) (u .guests) gs (room .guests)) in
+      let pw : overRows requestForm (r .table .setup .capacity) (r .table .waiting) vs ≡ overRows requestForm (r .table .setup .capacity) (r .table .waiting) ws =
+      rw (c .setup) (over-twice requestForm request-exact (u .setup .capacity) (r .table .waiting) (u .waiting) ws (room .waiting)) in
+      let pf : overRows flightForm (r .table .setup .depth) (r .table .flight) es ≡ overRows flightForm (r .table .setup .depth) (r .table .flight) fs =
+      rw (c .setup) (over-twice flightForm flight-exact (u .setup .depth) (r .table .flight) (u .flight) fs (room .flight)) in
+      λ i. (outcomeOf (gateOf (r .table)) (r .answer), pg i, pw i, pf i)
+
+module _ (g : Gate) (gs ws fs : List ℕ) (k : Known g gs ws fs) where
+  abbrev t : Table
+  t = tableOf g gs ws fs
+
+  -- the lent tables have room for any table of these settings
+  pub known-room : (u : Table) → SameSettings u t → Room gs ws fs u
+  known-room u a =
+      record {
+        guests = rw (same-count u t a, length-rows guestForm gs (g .guests)) (k .guestRoom);
+        waiting = rw (a .setup) (k .waitingRoom);
+        flight = rw (a .setup) (k .flightRoom);
+      }
+
+  -- what is known is its own table, written over it
+  pub known-written : (g, gs, ws, fs) ≡ written gs ws fs t
+  known-written =
+      let eg = length-rows guestForm gs (g .guests) in
+      let ew = length-rows requestForm ws (g .waiting) in
+      let ef = length-rows flightForm fs (g .flight) in
+      let pg = ap (λ (n : ℕ). overRows guestForm n (guestsOf gs (g .guests)) gs) eg ∙ over-same guestForm guest-exact (g .guests) (g .guests) gs (all-used guestForm guest-exact (g .guests) gs) in
+      let pw = over-same requestForm request-exact (g .setup .capacity) (g .waiting) ws (k .whole .waitingUnused) in
+      let pf = over-same flightForm flight-exact (g .setup .depth) (g .flight) fs (k .whole .flightUnused) in
+      sym (λ i. (gateAt (g .setup) (eg i) (g .time) (ew i) (ef i), pg i, pw i, pf i))
+
+-- the numbers that show a table, and an answer, are what is handed back
+pub handed-written : (gs ws fs : List ℕ) (g : Gate) (hs vs es : List ℕ) (r : Result) (a : Answer) → (g, hs, vs, es) ≡ written gs ws fs (r .table) → a ≡ r .answer
+    → (outcomeOf g a, hs, vs, es) ≡ handed gs ws fs r
+unfolding handed
+handed-written gs ws fs g hs vs es r a p q = λ i. (outcomeOf (p i .0) (q i), p i .1, p i .2, p i .3)
