@@ -15,7 +15,7 @@ use Rattle.lists.specs.Tab.{tab, tab-snoc}
 use Rattle.rules.specs.Answers.{numberOf}
 use Rattle.rules.specs.Sound.{counted, settled}
 use Rattle.rules.specs.Refusals.{Verdict, accept, refuse, judged, isAccept}
-use Rattle.rules.proofs.Judged.{passed, passed-again}
+use Rattle.rules.proofs.Judged.{passed, passed-behind}
 use Rattle.trace.specs.Header.{same, depthOf, guestsOf, capacityOf, body, settingsIn, headerTests, headerOf}
 use Rattle.trace.specs.declared.Header.the-variants.{Opened, Refused}
 
@@ -82,14 +82,14 @@ unfolding headerTests
 opens bs e =
     let ok : isAccept (judged (headerTests bs)) ≡ true = ap isAccept e in
     let no = passed (headerTests bs) ok in
-    let again = passed-again (headerTests bs) ok in
+    let behind-counts = passed-behind (headerTests bs) ok 1 in
     record {
       depthIs = refl;
       guestsIs = refl;
       capacityIs = refl;
       counts = not-false _ (no 1);
-      whole = ltb-false (length bs) (body (guestsOf bs)) (again 13);
-      settings = not-false _ (again 1);
+      whole = ltb-false (length bs) (body (guestsOf bs)) (behind-counts 13);
+      settings = not-false _ (behind-counts 1);
     }
 
 -- a header that opens
