@@ -3,6 +3,7 @@ use Prim.Native.Nat.{ℕ, zero, suc, _+_, _≤_, _<_}
 use mathlib.Core.Path.{_≡_, refl, sym, ap, _∙_, subst}
 use mathlib.Core.Bool.{Bool, true, false, and-false}
 use mathlib.Core.List.{List, [], _∷_, map}
+use mathlib.Core.Logic.{_↔_}
 use native.Mathlib.Omega.{arith}
 use native.Mathlib.Nat.{not-suc-le-zero, le-of-suc-le-suc}
 use native.Mathlib.Numerals.{add-one}
@@ -39,9 +40,13 @@ unfolding same
 same-refl [] = refl
 same-refl (x ∷ xs) = rw (eq-eqb x x refl) (same-refl xs)
 
+-- so the test says just that
+pub same-is : (xs ys : List ℕ) → (same xs ys ≡ true) ↔ (xs ≡ ys)
+same-is xs ys = (same-eq xs ys, λ e. subst (λ (l : List ℕ). same xs l ≡ true) e (same-refl xs))
+
 -- a test that holds exactly of equal lists is `same`
 pub is-same : (r : Bool) (xs ys : List ℕ) → (r ≡ true → xs ≡ ys) → (xs ≡ ys → r ≡ true) → r ≡ same xs ys
-is-same true xs ys f g = sym (subst (λ (l : List ℕ). same xs l ≡ true) (f refl) (same-refl xs))
+is-same true xs ys f g = sym (same-is xs ys .1 (f refl))
 is-same false xs ys f g = go (same xs ys) refl
   where
     go : (b : Bool) → same xs ys ≡ b → false ≡ same xs ys
