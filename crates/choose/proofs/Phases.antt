@@ -20,7 +20,7 @@ use Rattle.rules.specs.Chosen.{blank, at}
 use Rattle.rules.proofs.Facts.{orderly-is, any-orderly}
 use Rattle.rules.proofs.WeightFits.{weight-fits}
 use Rattle.rules.specs.declared.Gate.{Gate}
-use Rattle.table.specs.Columns.{guestWide, waitingWide, flightWide, mostGuests, mostCapacity, RNEXT, GUEST, RTAG}
+use Rattle.table.specs.Columns.{guestWide, waitingWide, flightWide, mostGuests, mostCapacity, RNEXT, GUEST, RTAG, mostDepth}
 use Rattle.table.specs.View.{guestForm, requestForm, guestsOf, tableOf, Known}
 use Rattle.walks.specs.LeastLaws.{least-ext, open-by-tag}
 use Rattle.moves.specs.Moves.{spacingOf}
@@ -81,7 +81,7 @@ module _ (g : Gate) (gs ws fs : List ℕ) (k : Known g gs ws fs) where
     pub send-asks : (place < g .waiting) × (g .waiting * waitingWide ≤ length ws) × (g .flight * flightWide + flightWide ≤ length fs)
     send-asks = (here, rows-ask g gs ws fs k .1, omega (arith, k .flightRoom))
 
-    pub sent-asks : (0 < g .waiting) × (g .flight < g .setup .depth) × (g .setup .depth ≤ 64)
+    pub sent-asks : (0 < g .waiting) × (g .flight < g .setup .depth) × (g .setup .depth ≤ mostDepth)
     sent-asks = (omega arith, free, f .counts .depths .1)
 
     abbrev n : ℕ

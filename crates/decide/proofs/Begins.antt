@@ -6,7 +6,7 @@ use lib.ListN.{length, drop}
 use Rattle.rules.specs.Run.{fresh}
 use Rattle.rules.proofs.Conditions.{counted-means}
 use Rattle.rules.specs.declared.Gate.{Gate}
-use Rattle.table.specs.Columns.{mostCapacity}
+use Rattle.table.specs.Columns.{mostCapacity, mostDepth, mostGuests}
 use Rattle.table.specs.View.{tableOf, Known}
 use Rattle.lines.specs.Line.{titleLine}
 use Rattle.lines.specs.Put.{Put}
@@ -17,8 +17,8 @@ use Rattle.decide.specs.Begin.{Begins}
 
 -- how large the counts of a header that opens can be
 pub record Sizes (bs : List ℕ) (d n c : ℕ) : Type 0 where
-  pub depth : d ≤ 64
-  pub guests : n ≤ 64
+  pub depth : d ≤ mostDepth
+  pub guests : n ≤ mostGuests
   pub capacity : c ≤ mostCapacity
   pub whole : body n ≤ length bs
 

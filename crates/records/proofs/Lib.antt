@@ -1,14 +1,11 @@
 pub mod ByValue
 pub mod CallCopies
 pub mod CallUsed
-pub mod Copier
 pub mod Copies
-pub mod Copying
 pub mod Home
 pub mod Lawful
 pub mod Parts
 pub mod Rec
 pub mod Rows
 pub mod Statements
-pub mod Thin
 pub mod Words

@@ -1,8 +1,6 @@
--- The statements that every public call over lent records has in common, as steps of its walk. A local i of the environment E at the place l
--- is `On i τ l`, which a walk answers by `refl`.
+-- The statements that both public calls over lent records have in common, as steps of a walk.
 --     makes-rows       rows = [0; guestsLong]                   [room of rows]  to  [guestsLong zeros]
 --     lends-rows       p = &rows; s = (p, guestsLong)           [room of p; room of s]  to  [p; s]
---     relends          p = &*x.0; s = (p, x.1)           [x; room of p; room of s]  to  [x; p; s]
 --     unpacks          the two, and unpack(..)           [guests; its token; zeros; count; x; four rooms; room of _]  to  [guests; its token; the records in the numbers; ..]
 --     packs            the two, and pack(..)             [guests; its token; numbers; count; x; four rooms; _]  to  [guests from the numbers; its token; numbers; ..]
 --     rows-gone        guestsLong numbers are the room of rows
@@ -40,14 +38,11 @@ use Rattle.rules.specs.declared.Guest.{Guest}
 use Rattle.table.specs.Columns.{guestWide, guestsLong}
 use Rattle.records.proofs.Rows.{unpacked, packed}
 use Rattle.records.proofs.Rec.{Rec}
+use Rattle.lent.proofs.Statements.{sv, On, from-on, relends}
 use Rattle.lent.proofs.Lent.{array-made, array-gone, repeat-typed}
 use Rattle.records.proofs.CallCopies.{Unpack, Pack, Guests, calls-unpack, calls-pack}
 use Rattle.records.proofs.guests.unpack.Symbol.{name as #records·guests·unpack}
 use Rattle.records.proofs.guests.pack.Symbol.{name as #records·guests·pack}
-
--- the machine value of a slice
-abbrev pub sv : {X : Type 0} → RefT (List X) → Val
-sv x = sliceVal (x .ptr) (length (x .now))
 
 -- what the `&mut [Guest]` owns at the list l
 abbrev pub Records : Lft → RefT (List Guest) → List Guest → Fml
@@ -61,13 +56,6 @@ zeros-long = length-replicate {A = ℕ} guestsLong 0
 
 pub room-of : (rs : List ℕ) → length rs ≡ guestsLong → Room u64 (length rs)
 room-of rs e = subst (Room u64) (sym e) (lit< tt, lit< tt)
-
-abbrev pub On : {M : Type 1} (𝓤 : URA M) (H : Heap 𝓤) → Env 𝓤 H → ℕ → Ty → ℕ → Type 0
-On 𝓤 H E i τ l = spotOf 𝓤 H E i ≡ (τ, l, zero)
-
-module _ {M : Type 1} {𝓤 : URA M} {H : Heap 𝓤} {A : Atoms 𝓤} {K : Type 0} {W : Given 𝓤 H A} {Γ : List (Item 𝓤)} {E : Env 𝓤 H} where
-  from-on : K → {i : ℕ} {st : List PStep} {sp sp′ : Spot 𝓤 H} → spotOf 𝓤 H E i ≡ sp → Walks K W Γ E sp st sp′ → Finds K W Γ E (place i st) sp′
-  from-on t {i} {st} {sp} {sp′} e w = from t (subst (λ (z : Spot 𝓤 H). Walks K W Γ E z st sp′) (sym e) w)
 
 module _ {M : Type 1} {𝓤 : URA M} {H : Heap 𝓤} {A : Atoms 𝓤} {K : Type 0} {W : Given 𝓤 H A} {Γ : List (Item 𝓤)} {E : Env 𝓤 H} {C : Calls 𝓤 H} {Λ : Loops 𝓤 H} {qq : Post 𝓤 H} {rest : Body} where
   pub makes-rows : K → {i l : ℕ} → On 𝓤 H E i (tyArray (tyInt w64) guestsLong) l
@@ -85,14 +73,6 @@ module _ {M : Type 1} {𝓤 : URA M} {H : Heap 𝓤} {A : Atoms 𝓤} {K : Type 
       assigns t (addr t (from-on t ei (stop t))) (from-on t ej (stop t)) (init t 0 refl (tt, tt)) $
       assigns t (agg t (and-then t (load t (from-on t ej (stop t)) (look t 0 refl)) (and-then t (lit t tt) (no-more t)))) (from-on t ek (stop t)) (init t 1 refl (tt, (tt, (record { fits = lit< tt }, tt)))) $
       rewrite t 1 (λ (x : ℕ). ‵ (fat fullShare (sliceTy (tyRef erased m (tyInt w64))) ls 0 (sliceVal (l, 0) x))) (sym e) refl $ s)
-
-  pub relends : K → {i j k lx lp ls b o n : ℕ} {ℓ : Lifetime} {m m′ : Mutability} {τ τ′ τ″ : Ty} → n < 2 ^ 64 → On 𝓤 H E i (sliceTy (tyRef ℓ m τ)) lx → On 𝓤 H E j (tyRef erased m′ τ′) lp → On 𝓤 H E k (sliceTy (tyRef erased m′ τ′)) ls
-      → Step K W (‵ (fat fullShare (sliceTy (tyRef ℓ m τ)) lx 0 (sliceVal (b, o) n)) ∷ ‵ (fat fullShare (tyRef erased m′ τ′) lp 0 (vptr b o)) ∷ ‵ (fat fullShare (sliceTy (tyRef erased m′ τ′)) ls 0 (sliceVal (b, o) n)) ∷ Γ) (runs C Λ E rest qq)
-      (‵ (fat fullShare (sliceTy (tyRef ℓ m τ)) lx 0 (sliceVal (b, o) n)) ∷ ‵ (froom (tyRef erased m′ τ′) lp 0) ∷ ‵ (froom (sliceTy (tyRef erased m′ τ′)) ls 0) ∷ Γ)
-      (runs C Λ E (seq (assign (place j []) (addrOf (place i (field 0 ∷ deref τ″ ∷ [])))) (seq (assign (place k []) (aggregate (copy (place j []) ∷ copy (place i (field 1 ∷ [])) ∷ []))) rest)) qq)
-  relends t fits ei ej ek = step (λ s.
-      assigns t (addr t (from-on t ei (fld t refl (hop t (look-in t 0 (sub t 0 refl (whole t))) (stop t))))) (from-on t ej (stop t)) (init t 1 refl (tt, tt)) $
-      assigns t (agg t (and-then t (load t (from-on t ej (stop t)) (look t 1 refl)) (and-then t (load t (from-on t ei (fld t refl (stop t))) (look-in t 0 (sub t 1 refl (whole t)))) (no-more t)))) (from-on t ek (stop t)) (init t 2 refl (tt, (tt, (record { fits = fits }, tt)))) $ s)
 
 module _ {M : Type 1} {𝓤 : URA M} {H : Heap 𝓤} {A : Atoms 𝓤} {K : Type 0} {W : Given 𝓤 H A} {Γ : List (Item 𝓤)} {G : Goal 𝓤 H} where
   pub rows-gone : K → {l : ℕ} (rs : List ℕ) → length rs ≡ guestsLong → Step K W (‵ (froom (tyArray (tyInt w64) guestsLong) l 0) ∷ Γ) G (‵ (cells (memOf u64) rs l 0) ∷ Γ) G

@@ -55,4 +55,5 @@ pub use Rattle.records.proofs.Copies.{count, rows, brought, count-lent,
 pub use Rattle.records.proofs.Home.{at-home, called-home, opened-home}
 pub use Rattle.records.proofs.CallUsed.{Used, calls-used}
 pub use Rattle.records.proofs.CallCopies.{Unpack, Pack}
-pub use Rattle.records.proofs.Statements.{sv, Records, room-of, makes-rows, lends-rows, relends, unpacks, packs, rows-gone}
+pub use Rattle.lent.proofs.Statements.{sv, relends}
+pub use Rattle.records.proofs.Statements.{Records, room-of, makes-rows, lends-rows, unpacks, packs, rows-gone}

@@ -21,6 +21,7 @@ use Rattle.trace.specs.declared.Header.the-variants.{Opened, Refused}
 use Rattle.trace.proofs.HeaderLaws.{Opens, opened}
 use Rattle.trace.proofs.FirstRead.{longest, settings-same, header-same}
 use Rattle.trace.proofs.Split.{reads-joined}
+use Rattle.table.specs.Columns.{mostGuests}
 
 -- a read that brought all
 all-there : (h : Header) (bs : List ℕ) → printedFirst h bs [] ≡ printedBy h bs
@@ -31,7 +32,7 @@ all-there (Opened d n c) bs = refl
 -- where the events begin, the bytes behind the first read come in reads
 begun-more : (d n c : ℕ) (xs ys : List ℕ) → longest ≤ length xs → Opens xs d n c → more (begun d n c xs) ys ≡ begun d n c (xs ++ ys)
 begun-more d n c xs ys long o =
-    let few : guestsOf xs ≤ 64 = counted-means d (guestsOf xs) c .holds .0 (rw (o .guestsIs) at (o .counts)) .guest-count .1 in
+    let few : guestsOf xs ≤ mostGuests = counted-means d (guestsOf xs) c .holds .0 (rw (o .guestsIs) at (o .counts)) .guest-count .1 in
     ap (λ (l : List ℕ). record { bytes = l; table = fresh d c (settingsIn xs); number = 0 }) (sym (drop-append-le (body n) xs ys (o .whole)))
     ∙ ap (λ (ss : List Settings). record { bytes = drop (body n) (xs ++ ys); table = fresh d c ss; number = 0 }) (sym (settings-same xs ys long few))
 

@@ -15,11 +15,11 @@ use Rattle.rules.specs.Refusals.{Verdict, accept, refuse, judged}
 use Rattle.trace.specs.Little.{byteAt}
 use Rattle.trace.specs.Header.{mark, same, versionOf, depthOf, guestsOf, capacityOf, body, numberAt, settingsAt, settingsIn, headerTests, headerBy, headerOf}
 use Rattle.rules.proofs.Conditions.{counted-means}
-use Rattle.table.specs.Columns.{settingsWide, LIMIT, SHARES}
+use Rattle.table.specs.Columns.{settingsWide, LIMIT, SHARES, mostGuests}
 
 -- the most bytes of a header
 abbrev pub longest : ℕ
-longest = body 64
+longest = body mostGuests
 
 module _ (xs ys : List ℕ) (long : longest ≤ length xs) where
   -- a byte of the first read
@@ -31,7 +31,7 @@ module _ (xs ys : List ℕ) (long : longest ≤ length xs) where
   number j h = rw (at (9 + 4 * j) (omega arith), at (9 + 4 * j + 1) (omega arith), at (9 + 4 * j + 2) (omega arith), at (9 + 4 * j + 3) (omega arith))
 
   -- a record
-  one-guest : (k : ℕ) → k < 64 → settingsAt (xs ++ ys) k ≡ settingsAt xs k
+  one-guest : (k : ℕ) → k < mostGuests → settingsAt (xs ++ ys) k ≡ settingsAt xs k
   one-guest k h =
       let r = number (k * settingsWide) (omega arith) in
       let l = number (k * settingsWide + LIMIT) (omega arith) in
@@ -43,7 +43,7 @@ module _ (xs ys : List ℕ) (long : longest ≤ length xs) where
   guests-same = at 6 (omega arith)
 
   -- all records
-  pub settings-same : guestsOf xs ≤ 64 → settingsIn (xs ++ ys) ≡ settingsIn xs
+  pub settings-same : guestsOf xs ≤ mostGuests → settingsIn (xs ++ ys) ≡ settingsIn xs
   settings-same few =
       ap (λ (n : ℕ). tab n (settingsAt (xs ++ ys))) guests-same
       ∙ tab-ext (guestsOf xs) (settingsAt (xs ++ ys)) (settingsAt xs) (λ k h. one-guest k (omega arith))
@@ -69,7 +69,7 @@ module _ (xs ys : List ℕ) (long : longest ≤ length xs) where
       go : (b : Bool) → counted (depthOf xs) (guestsOf xs) (capacityOf xs) ≡ b → judged (headerTests (xs ++ ys)) ≡ judged (headerTests xs)
       go false e = simp (le-ltb (length (xs ++ ys)) 9 (omega (arith, l)), le-ltb (length xs) 9 (omega arith), m, v, counts-same, e)
       go true e =
-          let few : guestsOf xs ≤ 64 = counted-means _ _ _ .holds .0 e .guest-count .1 in
+          let few : guestsOf xs ≤ mostGuests = counted-means _ _ _ .holds .0 e .guest-count .1 in
           let s : all settled (settingsIn (xs ++ ys)) ≡ all settled (settingsIn xs) = ap (all settled) (settings-same few) in
           simp (le-ltb (length (xs ++ ys)) 9 (omega (arith, l)), le-ltb (length xs) 9 (omega arith), m, v, counts-same, e, le-ltb (length (xs ++ ys)) (body (guestsOf (xs ++ ys))) (omega (arith, guests-same, l)), le-ltb (length xs) (body (guestsOf xs)) (omega arith), s)
 

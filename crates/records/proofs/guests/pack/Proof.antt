@@ -15,9 +15,9 @@ use Rattle.rules.proofs.Guest.Laws as G′
 use Rattle.table.specs.Columns.{guestWide}
 use Rattle.table.specs.View.{guestForm}
 use Rattle.records.proofs.Rows.{packed, packed-none, length-packed, packed-next}
-use Rattle.records.proofs.Rec.{Rec}
-use Rattle.records.proofs.Thin.{Get, Put}
-use Rattle.records.proofs.Copying.{Turns, copies-meets}
+use Rattle.records.proofs.Rec.{Rec, guest}
+use Rattle.lent.proofs.Thin.{Get, Put}
+use Rattle.lent.proofs.Copying.{Turns, copies-meets}
 use Rattle.records.proofs.guests.row_at.Symbol as row-at-def
 use Rattle.records.proofs.guests.row_at.Symbol.{name as #records·guests·row-at}
 use Rattle.records.proofs.guests.row_at.Met as row-at-thm
@@ -45,7 +45,7 @@ asked rows count gs = (count ≤ length gs) × (count * guestWide ≤ length row
 abbrev out : List ℕ → ℕ → List Guest → List Guest
 out rows count gs = rowsOf guestForm rows count ++ drop count gs
 
-turned : (rows : List ℕ) (count : ℕ) (gs : List Guest) → asked rows count gs → Turns u64 Rec may-get row may-write set asked out rows count gs
+turned : (rows : List ℕ) (count : ℕ) (gs : List Guest) → asked rows count gs → Turns Rec guest u64 Rec may-get row may-write set asked out rows count gs
 turned rows count gs ok = record {
   after = packed rows gs;
   begins = packed-none rows gs;
@@ -61,6 +61,6 @@ unfolding code.routine tablesOf
 pack-spec 𝓤 H 𝓜 𝓖 𝓡 =
     entered 𝓤 H (tripleOf 𝓤 H (𝓖 .A) f.signature (f.spec 𝓤 H (𝓖 .A) (𝓜 .mem) (𝓡 .run)))
     (tables 𝓤 H 𝓜 𝓡 code.env .C) (tables 𝓤 H 𝓜 𝓡 code.env .Λ) #records·guests·pack code.function (code.unfolded 𝓤 H 𝓜 𝓡)
-    (copies-meets u64 Rec may-get row may-write set asked out #records·guests·row-at #records·guests·write G′.mir 𝓤 H (𝓖 .A) (givenOf 𝓤 H 𝓜 𝓖) turned (tablesOf 𝓤 H 𝓜 (tables 𝓤 H 𝓜 𝓡 code.env))
-    (cited 𝓤 H (Get u64 may-get row 𝓤 H (𝓖 .A)) 𝓜 𝓡 code.env #records·guests·row-at row-at-def.routine code.calls-records·guests·row-at (row-at-thm.met 𝓤 H 𝓜 𝓖 𝓡))
-    (cited 𝓤 H (Put Rec may-write set 𝓤 H (𝓖 .A)) 𝓜 𝓡 code.env #records·guests·write write-def.routine code.calls-records·guests·write (write-thm.met 𝓤 H 𝓜 𝓖 𝓡)))
+    (copies-meets Rec guest u64 Rec may-get row may-write set asked out #records·guests·row-at #records·guests·write G′.mir 𝓤 H (𝓖 .A) (givenOf 𝓤 H 𝓜 𝓖) turned (tablesOf 𝓤 H 𝓜 (tables 𝓤 H 𝓜 𝓡 code.env))
+    (cited 𝓤 H (Get Rec guest u64 may-get row 𝓤 H (𝓖 .A)) 𝓜 𝓡 code.env #records·guests·row-at row-at-def.routine code.calls-records·guests·row-at (row-at-thm.met 𝓤 H 𝓜 𝓖 𝓡))
+    (cited 𝓤 H (Put Rec guest Rec may-write set 𝓤 H (𝓖 .A)) 𝓜 𝓡 code.env #records·guests·write write-def.routine code.calls-records·guests·write (write-thm.met 𝓤 H 𝓜 𝓖 𝓡)))

@@ -16,9 +16,9 @@ use Rattle.table.specs.Columns.{guestWide}
 use Rattle.table.specs.View.{guestForm}
 use Rattle.records.specs.Records.{blank}
 use Rattle.records.proofs.Rows.{unpacked, unpacked-none, length-unpacked, unpacked-next}
-use Rattle.records.proofs.Rec.{Rec}
-use Rattle.records.proofs.Thin.{Get, Put}
-use Rattle.records.proofs.Copying.{Turns, copies-meets}
+use Rattle.records.proofs.Rec.{Rec, guest}
+use Rattle.lent.proofs.Thin.{Get, Put}
+use Rattle.lent.proofs.Copying.{Turns, copies-meets}
 use Rattle.records.proofs.guests.read.Symbol as read-def
 use Rattle.records.proofs.guests.read.Symbol.{name as #records·guests·read}
 use Rattle.records.proofs.guests.read.Met as read-thm
@@ -49,7 +49,7 @@ asked gs count rows = (count ≤ length gs) × (count * guestWide ≤ length row
 abbrev out : List Guest → ℕ → List ℕ → List ℕ
 out gs count rows = overRows guestForm count (take count gs) rows
 
-turned : (gs : List Guest) (count : ℕ) (rows : List ℕ) → asked gs count rows → Turns Rec u64 may-read read may-put put asked out gs count rows
+turned : (gs : List Guest) (count : ℕ) (rows : List ℕ) → asked gs count rows → Turns Rec guest Rec u64 may-read read may-put put asked out gs count rows
 turned gs count rows ok = record {
   after = unpacked gs rows;
   begins = unpacked-none gs rows;
@@ -65,6 +65,6 @@ unfolding code.routine tablesOf
 unpack-spec 𝓤 H 𝓜 𝓖 𝓡 =
     entered 𝓤 H (tripleOf 𝓤 H (𝓖 .A) f.signature (f.spec 𝓤 H (𝓖 .A) (𝓜 .mem) (𝓡 .run)))
     (tables 𝓤 H 𝓜 𝓡 code.env .C) (tables 𝓤 H 𝓜 𝓡 code.env .Λ) #records·guests·unpack code.function (code.unfolded 𝓤 H 𝓜 𝓡)
-    (copies-meets Rec u64 may-read read may-put put asked out #records·guests·read #records·guests·put-row (tyInt w64) 𝓤 H (𝓖 .A) (givenOf 𝓤 H 𝓜 𝓖) turned (tablesOf 𝓤 H 𝓜 (tables 𝓤 H 𝓜 𝓡 code.env))
-    (cited 𝓤 H (Get Rec may-read read 𝓤 H (𝓖 .A)) 𝓜 𝓡 code.env #records·guests·read read-def.routine code.calls-records·guests·read (read-thm.met 𝓤 H 𝓜 𝓖 𝓡))
-    (cited 𝓤 H (Put u64 may-put put 𝓤 H (𝓖 .A)) 𝓜 𝓡 code.env #records·guests·put-row put-row-def.routine code.calls-records·guests·put-row (put-row-thm.met 𝓤 H 𝓜 𝓖 𝓡)))
+    (copies-meets Rec guest Rec u64 may-read read may-put put asked out #records·guests·read #records·guests·put-row (tyInt w64) 𝓤 H (𝓖 .A) (givenOf 𝓤 H 𝓜 𝓖) turned (tablesOf 𝓤 H 𝓜 (tables 𝓤 H 𝓜 𝓡 code.env))
+    (cited 𝓤 H (Get Rec guest Rec may-read read 𝓤 H (𝓖 .A)) 𝓜 𝓡 code.env #records·guests·read read-def.routine code.calls-records·guests·read (read-thm.met 𝓤 H 𝓜 𝓖 𝓡))
+    (cited 𝓤 H (Put Rec guest u64 may-put put 𝓤 H (𝓖 .A)) 𝓜 𝓡 code.env #records·guests·put-row put-row-def.routine code.calls-records·guests·put-row (put-row-thm.met 𝓤 H 𝓜 𝓖 𝓡)))

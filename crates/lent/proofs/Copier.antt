@@ -1,5 +1,6 @@
 -- The MIR of a function (&[T], usize, &mut [U]) that copies the first records one by one, in one form for slices of any types T and U. Local 1
--- is the slice that is read, 2 the count, 3 the slice that is written, 4 the place, 5 the record. `unpack` and `pack` are two of them:
+-- is the slice that is read, 2 the count, 3 the slice that is written, 4 the place, 5 the record. `unpack` and `pack` of crate records
+-- are two of them:
 --     let mut i: usize = 0;
 --     while i < count {
 --         let guest = get(from, i);
@@ -12,7 +13,6 @@ use mir.Syntax.{Ty, Name, Fn, Body, local, valueLocal, named, erased, imm, mut, 
 use denote.RattleType.{RattleType}
 use denote.Memory.{pointee}
 use denote.Slice.{sliceTy}
-use Rattle.rules.proofs.Guest.Laws as G′
 
 -- the types of the locals that hold a slice
 abbrev pub τ₁ : RattleType → Ty
@@ -27,8 +27,8 @@ abbrev pub τ₈ : RattleType → Ty
 abbrev pub τ₉ : RattleType → Ty
 τ₉ R′ = sliceTy (τ₈ R′)
 
--- a turn, what follows the loop, and the whole function; τ is the type of an element that is written
-module _ (R R′ : RattleType) (get put : Name) (τ : Ty) where
+-- a turn, what follows the loop, and the whole function; τ is the type of an element that is written, and σ that of the record
+module _ (R R′ : RattleType) (get put : Name) (τ σ : Ty) where
   abbrev pub turn : Body
   turn =
       seq (assign (place 6 []) (op2 (lt unsigned) (copy (place 4 [])) (copy (place 2 []))))
@@ -49,6 +49,6 @@ module _ (R R′ : RattleType) (get put : Name) (τ : Ty) where
     params = 3;
     locals =
         local tyUnit valueLocal ∷ local (τ₁ R) valueLocal ∷ local (tyInt w64) valueLocal ∷ local (τ₃ R′) valueLocal ∷ local (tyInt w64) valueLocal
-        ∷ local G′.mir valueLocal ∷ local tyBool valueLocal ∷ local tyUnit valueLocal ∷ local (τ₈ R′) valueLocal ∷ local (τ₉ R′) valueLocal ∷ [];
+        ∷ local σ valueLocal ∷ local tyBool valueLocal ∷ local tyUnit valueLocal ∷ local (τ₈ R′) valueLocal ∷ local (τ₉ R′) valueLocal ∷ [];
     body = seq (assign (place 4 []) (rvOpd (int w64 0))) (seq (block (loop turn)) ending);
   }

@@ -1,6 +1,7 @@
--- What the thin functions over one element promise, in one form for a slice of any type T, and their calls as steps of a walk.
---     Get        of a function (&[T], usize) -> Guest: the record that `got` says of the list and the place
---     Put        of a function (&mut [T], usize, Guest): the list that `put` says of the list, the place and the record
+-- What the thin functions over one element promise, in one form for a slice of any type T and a record of any type X that is passed by value,
+-- and their calls as steps of a walk.
+--     Get        of a function (&[T], usize) -> X: the record that `got` says of the list and the place
+--     Put        of a function (&mut [T], usize, X): the list that `put` says of the list, the place and the record
 --     calls-get  [the `&[T]`; its token]  to  the same, where the record lands
 --     calls-put  [the `&mut [T]` at l; its token]  to  the same at the list that `put` says
 -- The operands are read beside two items that the step puts in front of the rest of the context.
@@ -23,7 +24,7 @@ use types.Kit.{Given, Item, ‵, raw, _⊛_, some, later, Post, runs, lands, Seq
 use types.Run.{Opds}
 use types.Tokens.{lft-new, lft-end}
 use denote.RattleType.{RattleType}
-use denote.Exit.{yes}
+use denote.Exit.{yes, Last}
 use denote.Laws.{Is, shows}
 use denote.Plain.{Nothing, uint-makes}
 use denote.Ref.{RefT, now}
@@ -36,16 +37,15 @@ use denote.Triple.Clauses.{Ended, Clauses, ensured, lasts, closing}
 use denote.Triple.Spec.{tripleOf}
 use denote.Triple.Statement.{Contract, Triple}
 use denote.Triple.Walked.{says}
-use Rattle.rules.specs.declared.Guest.{Guest}
-use Rattle.records.proofs.Rec.{Rec, vals, val, tells, makes}
+use Rattle.lent.proofs.ByValue.{ByValue}
 use Rattle.lent.proofs.Again.{LentAgain, lends-again, comes-back}
 
 -- READING
 
-module _ (R : RattleType) (asked : List (R .Denot) → ℕ → Type 0) (got : List (R .Denot) → ℕ → Guest) where
+module _ (X : RattleType) (pass : ByValue X) (R : RattleType) (asked : List (R .Denot) → ℕ → Type 0) (got : List (R .Denot) → ℕ → X .Denot) where
   abbrev get-ended : Ended
   get-ended = record {
-    signature = record { lifetimes = 1; outlives = []; params = shrSliceOf (0 ∷ []) tt (plain (λ _. R)) ∷ plain (λ _. usize) ∷ []; result = plain (λ _. Rec) };
+    signature = record { lifetimes = 1; outlives = []; params = shrSliceOf (0 ∷ []) tt (plain (λ _. R)) ∷ plain (λ _. usize) ∷ []; result = plain (λ _. X) };
     kept = (yes, (yes, tt));
   }
 
@@ -60,7 +60,7 @@ module _ (R : RattleType) (asked : List (R .Denot) → ℕ → Type 0) (got : Li
     abbrev sg : Val
     sg = sliceVal (x .ptr) (length (x .now))
 
-    abbrev g : Guest
+    abbrev g : X .Denot
     g = got (x .now) i
 
     abbrev Own : Fml
@@ -76,17 +76,17 @@ module _ (R : RattleType) (asked : List (R .Denot) → ℕ → Type 0) (got : Li
 
     module _ {K : Type 0} {Γ : List (Item 𝓤)} {E : Env 𝓤 H} {C : Calls 𝓤 H} {Λ : Loops 𝓤 H} {qq : Post 𝓤 H} {d : Place} {rest : Body} {xs : List Operand} {f : Name} where
       pub calls-get : K → FmC 𝓤 H (W .laws) C → Triple 𝓤 (C f) (Get 𝓤 H A) → ((i′ j : Item 𝓤) → Opds K W (i′ ∷ j ∷ Γ) E xs (sg ∷ vint w64 i ∷ []))
-          → (Is Rec g (vals g) → Seq K W (‵ Own ∷ ‵ (flft κ q) ∷ Γ) (lands C Λ E d (val g) rest qq))
+          → (Is X g (pass .val g ∷ []) → Seq K W (‵ Own ∷ ‵ (flft κ q) ∷ Γ) (lands C Λ E d (pass .val g) rest qq))
           → Seq K W (‵ Own ∷ ‵ (flft κ q) ∷ Γ) (runs C Λ E (seq (call f xs d) rest) qq)
       calls-get t fm known os k =
           use1 W (‵ Own ⊛ ‵ Own) (shr-slice-copy 𝓤 H A W (named 0) κ R .twice x (sg ∷ [])) $ split t $ move t (2 ∷ 0 ∷ []) $ use2 W (raw (Get 𝓤 H A .pre to-get)) goes-get $
           calls-at t fm (Get 𝓤 H A) known to-get (os (raw (Get 𝓤 H A .pre to-get)) (‵ Own)) (λ w.
-          use1 W (later (some (λ (r : Guest). ((‵ (flft κ q) ⊛ ‵ ftrue) ⊛ ‵ (Rec .own r (w ∷ []))) ⊛ raw (ensured 𝓤 H A get-ended (get-clauses 𝓤 H A) (κ, tt) (x, (i, tt)) tt r)))) (id⊢ 𝓤 _) $ await t tt $ pick t (λ r.
+          use1 W (later (some (λ (r : X .Denot). ((‵ (flft κ q) ⊛ ‵ ftrue) ⊛ ‵ (X .own r (w ∷ []))) ⊛ raw (ensured 𝓤 H A get-ended (get-clauses 𝓤 H A) (κ, tt) (x, (i, tt)) tt r)))) (id⊢ 𝓤 _) $ await t tt $ pick t (λ r.
           split t $ move t (1 ∷ []) $ use1 W (some (λ (ws : Unit {0} × (Unit {0} × Unit {0})). ‵ (lasts get-ended (κ, tt) (x, (i, tt)) ws) ⊛ raw (fact 𝓤 (r ≡ g)))) (id⊢ 𝓤 _) $ pick t (λ ws.
-          split t $ drop t $ heard t (r ≡ g) (λ e. split t $ move t (1 ∷ []) $ peeks t Rec (Is Rec) (shows 𝓤 H A Rec) r (w ∷ []) (λ is.
+          split t $ drop t $ heard t (r ≡ g) (λ e. split t $ move t (1 ∷ []) $ peeks t X (Is X) (shows 𝓤 H A X) r (w ∷ []) (λ is.
           drop t $ split t $ move t (1 ∷ []) $ drop t $ move t (1 ∷ 0 ∷ []) $
-          subst (λ (v : Val). Seq K W (‵ Own ∷ ‵ (flft κ q) ∷ Γ) (lands C Λ E d v rest qq)) (sym (ap only (tells r (w ∷ []) is) ∙ ap val e))
-          (k (subst (λ (h : Guest). Is Rec h (vals h)) e (subst (Is Rec r) (tells r (w ∷ []) is) is))))))))
+          subst (λ (v : Val). Seq K W (‵ Own ∷ ‵ (flft κ q) ∷ Γ) (lands C Λ E d v rest qq)) (sym (ap only (pass .tells r (w ∷ []) is) ∙ ap (pass .val) e))
+          (k (subst (λ (h : X .Denot). Is X h (pass .val h ∷ [])) e (subst (Is X r) (pass .tells r (w ∷ []) is) is))))))))
 
 -- WRITING
 
@@ -94,10 +94,10 @@ module _ (R : RattleType) (asked : List (R .Denot) → ℕ → Type 0) (got : Li
 abbrev pub Lent-at : (R : RattleType) → Lft → (b o n : ℕ) → GName → List (R .Denot) → Fml
 Lent-at R κ b o n γ l = MutSlice (named 1) κ R .own (record { ptr = (b, o); name = γ; now = l }) (sliceVal (b, o) n ∷ [])
 
-module _ (R : RattleType) (asked : List (R .Denot) → ℕ → Type 0) (put : List (R .Denot) → ℕ → Guest → List (R .Denot)) where
+module _ (X : RattleType) (pass : ByValue X) (R : RattleType) (asked : List (R .Denot) → ℕ → Type 0) (put : List (R .Denot) → ℕ → X .Denot → List (R .Denot)) where
   abbrev put-ended : Ended
   put-ended = record {
-    signature = record { lifetimes = 1; outlives = []; params = mutSliceOf (0 ∷ []) tt (plain (λ _. R)) ∷ plain (λ _. usize) ∷ plain (λ _. Rec) ∷ []; result = plain (λ _. unit) };
+    signature = record { lifetimes = 1; outlives = []; params = mutSliceOf (0 ∷ []) tt (plain (λ _. R)) ∷ plain (λ _. usize) ∷ plain (λ _. X) ∷ []; result = plain (λ _. unit) };
     kept = (yes, (yes, (yes, tt)));
   }
 
@@ -108,8 +108,8 @@ module _ (R : RattleType) (asked : List (R .Denot) → ℕ → Type 0) (put : Li
     abbrev pub Put : Contract 𝓤
     Put = tripleOf 𝓤 H A (put-ended .signature) (closing 𝓤 H A put-ended put-clauses)
 
-  module _ {M : Type 1} (𝓤 : URA M) (H : Heap 𝓤) (A : Atoms 𝓤) (W : Given 𝓤 H A) (κ : Lft) (q : Share) (b o n : ℕ) (γ : GName) (l : List (R .Denot)) (i : ℕ) (g : Guest)
-      (long : length l ≡ n) (room : Room R n) (fits : i < 2 ^ 64) (is : Is Rec g (vals g)) (ok : asked l i) where
+  module _ {M : Type 1} (𝓤 : URA M) (H : Heap 𝓤) (A : Atoms 𝓤) (W : Given 𝓤 H A) (κ : Lft) (q : Share) (b o n : ℕ) (γ : GName) (l : List (R .Denot)) (i : ℕ) (g : X .Denot)
+      (long : length l ≡ n) (room : Room R n) (fits : i < 2 ^ 64) (is : Is X g (pass .val g ∷ [])) (ok : asked l i) where
     abbrev y : GName → List (R .Denot) → RefT (List (R .Denot))
     y δ l = record { ptr = (b, o); name = δ; now = l }
 
@@ -120,15 +120,15 @@ module _ (R : RattleType) (asked : List (R .Denot) → ℕ → Type 0) (put : Li
     Held-at = Lent-at R κ b o n γ
 
     abbrev to-put : ℕ → GName → Put 𝓤 H A .Ghost
-    to-put ν δ = (((ν ∷ [], tt), (fullShare, tt), tt, (y δ l, (i, (g, tt))), (sp (length l) ∷ [], (vint w64 i ∷ [], (vals g, tt)))), tt)
+    to-put ν δ = (((ν ∷ [], tt), (fullShare, tt), tt, (y δ l, (i, (g, tt))), (sp (length l) ∷ [], (vint w64 i ∷ [], (pass .val g ∷ [], tt)))), tt)
 
     goes-put : (ν : ℕ) (δ : GName) → ent 𝓤 (sep 𝓤 (A .lft (ν ∷ []) fullShare) (sem 𝓤 H A (MutSlice (named 0) (ν ∷ []) R .own (y δ l) (sp (length l) ∷ [])))) (Put 𝓤 H A .pre (to-put ν δ))
     goes-put ν δ =
         qed W (‵ (flft (ν ∷ []) fullShare) ∷ ‵ (MutSlice (named 0) (ν ∷ []) R .own (y δ l) (sp (length l) ∷ [])) ∷ []) ∵ says ! ok $ nothing ! $ move ! (1 ∷ 0 ∷ []) $ join ! $ frame ! $
-        nothing ! $ owned ! Rec (Is Rec) (makes 𝓤 H A W) g _ is $ fjoin ! $ owned ! usize (Is usize) (uint-makes 𝓤 H A W w64) i _ (refl, fits) $ fjoin ! $ move ! (1 ∷ 0 ∷ []) $ fjoin ! $ done !
+        nothing ! $ owned ! X (Is X) (pass .makes 𝓤 H A) g _ is $ fjoin ! $ owned ! usize (Is usize) (uint-makes 𝓤 H A W w64) i _ (refl, fits) $ fjoin ! $ move ! (1 ∷ 0 ∷ []) $ fjoin ! $ done !
 
     module _ {K : Type 0} {Γ : List (Item 𝓤)} {E : Env 𝓤 H} {C : Calls 𝓤 H} {Λ : Loops 𝓤 H} {qq : Post 𝓤 H} {d : Place} {rest : Body} {xs : List Operand} {f : Name} where
-      pub calls-put : K → FmC 𝓤 H (W .laws) C → Triple 𝓤 (C f) (Put 𝓤 H A) → ((i′ j : Item 𝓤) → Opds K W (i′ ∷ j ∷ Γ) E xs (sp n ∷ vint w64 i ∷ val g ∷ []))
+      pub calls-put : K → FmC 𝓤 H (W .laws) C → Triple 𝓤 (C f) (Put 𝓤 H A) → ((i′ j : Item 𝓤) → Opds K W (i′ ∷ j ∷ Γ) E xs (sp n ∷ vint w64 i ∷ pass .val g ∷ []))
           → Step K W (‵ (Held-at (put l i g)) ∷ ‵ (flft κ q) ∷ Γ) (lands C Λ E d vunit rest qq) (‵ (Held-at l) ∷ ‵ (flft κ q) ∷ Γ) (runs C Λ E (seq (call f xs d) rest) qq)
       calls-put t fm known os = step (λ k.
           rewrite t 0 (λ (m : ℕ). ‵ (MutSlice (named 1) κ R .own (y γ l) (sp m ∷ []))) (sym long) refl $
@@ -136,9 +136,9 @@ module _ (R : RattleType) (asked : List (R .Denot) → ℕ → Type 0) (put : Li
           lft-new t tt (λ ν. move t (1 ∷ 2 ∷ []) $
           use2 W (later (some (λ (δ : GName). ‵ (MutSlice (named 0) (ν ∷ []) R .own (y δ l) (sp (length l) ∷ [])) ⊛ ‵ (LentAgain R κ (ν ∷ []) q γ b o δ l)))) (lends-again R κ (ν ∷ []) q γ b o 𝓤 H A W (named 1) (named 0) l) $ await t tt $ pick t (λ δ. split t $
           move t (2 ∷ 0 ∷ []) $ use2 W (raw (Put 𝓤 H A .pre (to-put ν δ))) (goes-put ν δ) $
-          calls-at t fm (Put 𝓤 H A) known (to-put ν δ) (subst (λ (m : ℕ). Opds K W (raw (Put 𝓤 H A .pre (to-put ν δ)) ∷ ‵ (LentAgain R κ (ν ∷ []) q γ b o δ l) ∷ Γ) E xs (sp m ∷ vint w64 i ∷ val g ∷ [])) (sym long) (os (raw (Put 𝓤 H A .pre (to-put ν δ))) (‵ (LentAgain R κ (ν ∷ []) q γ b o δ l)))) (λ w.
+          calls-at t fm (Put 𝓤 H A) known (to-put ν δ) (subst (λ (m : ℕ). Opds K W (raw (Put 𝓤 H A .pre (to-put ν δ)) ∷ ‵ (LentAgain R κ (ν ∷ []) q γ b o δ l) ∷ Γ) E xs (sp m ∷ vint w64 i ∷ pass .val g ∷ [])) (sym long) (os (raw (Put 𝓤 H A .pre (to-put ν δ))) (‵ (LentAgain R κ (ν ∷ []) q γ b o δ l)))) (λ w.
           use1 W (later (some (λ (r : Unit {0}). ((‵ (flft (ν ∷ []) fullShare) ⊛ ‵ ftrue) ⊛ ‵ (Nothing .own r (w ∷ []))) ⊛ raw (ensured 𝓤 H A put-ended (put-clauses 𝓤 H A) (ν ∷ [], tt) (y δ l, (i, (g, tt))) tt r)))) (id⊢ 𝓤 _) $ await t tt $ pick t (λ r.
-          split t $ move t (1 ∷ []) $ use1 W (some (λ (ws : List (R .Denot) × (Unit {0} × (Unit {0} × Unit {0}))). ‵ (lasts put-ended (ν ∷ [], tt) (y δ l, (i, (g, tt))) ws) ⊛ raw (fact 𝓤 (ws .0 ≡ put l i g)))) (id⊢ 𝓤 _) $ pick t (λ ws.
+          split t $ move t (1 ∷ []) $ use1 W (some (λ (ws : List (R .Denot) × (Unit {0} × (Last (X .exit yes) g × Unit {0}))). ‵ (lasts put-ended (ν ∷ [], tt) (y δ l, (i, (g, tt))) ws) ⊛ raw (fact 𝓤 (ws .0 ≡ put l i g)))) (id⊢ 𝓤 _) $ pick t (λ ws.
           split t $ move t (1 ∷ []) $ heard t (ws .0 ≡ put l i g) (λ e. fsplit t $ fsplit t $ move t (1 ∷ []) $ feqL t (λ len. move t (2 ∷ []) $ split t $ move t (1 ∷ []) $ feqL t (λ u.
           -- the lifetime is ended, and the slice comes back at that list
           split t $ lft-end t tt $ move t (0 ∷ 4 ∷ 2 ∷ []) $
