@@ -33,4 +33,5 @@ pub mod Trials
 pub mod Answered
 pub mod Guards
 pub mod InFlight
+pub mod Arrived
 pub mod Soundness
