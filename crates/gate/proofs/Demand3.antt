@@ -19,7 +19,9 @@ use Rattle.rules.specs.Run.{step}
 use Rattle.rules.specs.Turn.{sorted, findsRoom, atFree, sentByReservation, InTurn}
 use Rattle.rules.proofs.Answered.{refused-exactly}
 use Rattle.rules.proofs.Conditions.{lacking}
+use Rattle.rules.specs.TurnAt.{DueAt, InTurnAt}
 use Rattle.rules.proofs.Demand3.{demand-3, demand-3-at}
+use Rattle.rules.proofs.TurnAt.{demand-3-places, no-place-no-send}
 use Rattle.rules.specs.declared.Answer.the-variants.{Nothing}
 use Rattle.table.specs.View.{requestForm, flightForm}
 use Rattle.gate.specs.Calls.{Host, holds, call, shows, firm, narrow, taken, finds, freeReplies, standing, dueThere, aheadOf}
@@ -92,3 +94,14 @@ module _ (h : Host) (es : List Event) (f : firm h ≡ true) (n : all narrow es �
   calls-demand-3-at k e l =
       rw (free-run es h f n)
       (demand-3-at (shows h) (take i (shows h .waiting)) (drop (suc i) (shows h .waiting)) (standing h i) es (firm-holds h f .isSound) parted due k e (rw (free-run es h f n) at l))
+
+-- The same by places: of any firm table and a due place, whatever is called meanwhile.
+pub calls-demand-3-places : (h : Host) (es : List Event) → firm h ≡ true → all narrow es ≡ true → (i : ℕ) → DueAt (shows h) i → InTurnAt (shows h) i (freeReplies h es)
+calls-demand-3-places h es f n i d = rw (free-run es h f n) (demand-3-places (shows h) i es (firm-holds h f .isSound) d)
+
+-- And a call that is accepted and finds no place free sends nothing.
+pub calls-no-place : (h : Host) (e : Event) → firm h ≡ true → taken (call e h .0 .answer) ≡ true → finds e (h .gate) ≡ false → call e h .0 .answer ≡ Nothing
+calls-no-place h e f a r =
+    let k = firm-holds h f in
+    call-answers h k e
+    ∙ no-place-no-send (shows h) e (sym (ap taken (call-answers h k e) ∙ step-taken (shows h) e) ∙ a) (sym (free-call h k e) ∙ rw (a, r))

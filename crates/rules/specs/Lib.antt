@@ -13,3 +13,4 @@ pub mod Arrived
 pub mod Refused
 pub mod Order
 pub mod Turn
+pub mod TurnAt
