@@ -11,7 +11,9 @@ use Rattle.rules.specs.declared.Event.{Event}
 use Rattle.rules.specs.Refused.{NoneHolds}
 use Rattle.rules.specs.Run.{step}
 use Rattle.rules.specs.Turn.{isDue, ahead, sorted, findsRoom, atFree, InTurn}
+use Rattle.rules.specs.TurnAt.{DueAt, InTurnAt}
 use Rattle.rules.proofs.Demand3.{demand-3}
+use Rattle.rules.proofs.TurnAt.{demand-3-places}
 use Rattle.rules.specs.declared.Answer.{Answer}
 use Rattle.trace.specs.Event.{whole}
 use Rattle.trace.specs.Printed.{answered, answersTo}
@@ -51,3 +53,8 @@ pub trace-demand-3 : (bs : List ℕ) → NoneHolds (headerCases bs) → (i : ℕ
 trace-demand-3 bs good i h a b x w due =
     let d = demand-3 (tableAt bs i) a b x (run (readsOf (bytesAt bs i))) (table-sound bs good i) w due in
     (d .0, d .1, d .2, d .3, rw (free-from bs i h) (d .4))
+
+-- The same by places: the request at place i of those that wait is due when event k comes.
+pub trace-demand-3-places : (bs : List ℕ) → NoneHolds (headerCases bs) → (k : ℕ) → k ≤ whole (eventBytes bs) → (i : ℕ) → DueAt (tableAt bs k) i
+    → InTurnAt (tableAt bs k) i (freeFrom bs k)
+trace-demand-3-places bs good k h i d = rw (free-from bs k h) (demand-3-places (tableAt bs k) i (run (readsOf (bytesAt bs k))) (table-sound bs good k) d)
