@@ -20,9 +20,11 @@ use Rattle.rules.specs.declared.Event.the-variants.{Arrival, Completion, Tick}
 use Rattle.rules.specs.Refusals.{tests, eventTests, accepted}
 use Rattle.rules.specs.Run.{step}
 use Rattle.rules.specs.Turn.{sorted, findsRoom, atFree, sentByReservation, InTurn}
+use Rattle.rules.specs.TurnAt.{DueAt, InTurnAt}
 use Rattle.rules.proofs.Judged.{passed}
 use Rattle.rules.proofs.Answered.{step-taken}
 use Rattle.rules.proofs.Demand3.{demand-3, demand-3-at}
+use Rattle.rules.proofs.TurnAt.{demand-3-places, no-place-no-send}
 use Rattle.rules.specs.declared.Answer.the-variants.{Nothing}
 use Rattle.table.specs.View.{requestForm, flightForm}
 use Rattle.gate.specs.Promise.{Lending}
@@ -98,3 +100,16 @@ module _ (v : Lending) (lawful : Lawful v) where
     calls-demand-3-at k e l =
         rw (free-run es h f n)
         (demand-3-at (shows v h) (take i (shows v h .waiting)) (drop (suc i) (shows v h .waiting)) (standing v h i) es (holds-sound v lawful h (firm-holds v lawful h f)) parted due k e (rw (free-run es h f n) at l))
+
+  -- The same by places: of any firm table and a due place, whatever is called meanwhile.
+  pub calls-demand-3-places : (h : Host v) (es : List Event) → firm v h ≡ true → all narrow es ≡ true → (i : ℕ) → DueAt (shows v h) i
+      → InTurnAt (shows v h) i (freeReplies v h es)
+  calls-demand-3-places h es f n i d = rw (free-run es h f n) (demand-3-places (shows v h) i es (holds-sound v lawful h (firm-holds v lawful h f)) d)
+
+  -- And a call that is accepted and finds no place free sends nothing.
+  pub calls-no-place : (h : Host v) (e : Event) → firm v h ≡ true → taken (call v e h .0 .answer) ≡ true → finds e (h .gate) ≡ false
+      → call v e h .0 .answer ≡ Nothing
+  calls-no-place h e f a r =
+      let k = firm-holds v lawful h f in
+      let c = call-answers v lawful h k e in
+      c ∙ no-place-no-send (shows v h) e (sym (ap taken c ∙ step-taken (shows v h) e) ∙ a) (sym (free-call h k e) ∙ rw (a, r))

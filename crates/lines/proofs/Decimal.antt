@@ -1,18 +1,18 @@
 -- The fewest digits that the kit's `io::decimal` writes are the digits of a line; and what a line's digits say: they read back as the number,
 -- and none but 0 begins with a zero. Assumes nothing.
 use Prim.Native.Nat.{ℕ, zero, suc, _+_, _*_, _-_, _/_, _%_, _^_, _≤_, _<_}
-use mathlib.Core.Path.{_≡_, refl, ap, _∙_}
+use mathlib.Core.Path.{_≡_, refl, sym, ap, _∙_}
 use mathlib.Core.Bool.{Bool, true, false}
-use mathlib.Core.List.{List, [], _∷_, _++_}
+use mathlib.Core.List.{List, [], _∷_, _++_, append-nil}
 use native.Mathlib.Omega.{arith}
 use native.Mathlib.Nat.{pow-suc, pow-le-pow-right, one-le-pow, le-of-suc-le-suc, not-suc-le-zero, mod-eq-of-lt}
 use native.Mathlib.Decide.{decLe}
 use lib.Dec.{lit<, ltb}
-use lib.ListN.{getD}
+use lib.ListN.{getD, drop}
 use borrow.Author.Tests.{lt-ltb, le-ltb, ltb-false}
 use Rattle.io.specs.Digits.{digits, Fewest}
 use Rattle.lists.specs.Words.{if_then_else_}
-use Rattle.lines.specs.Line.{decimalIn, decimalOf}
+use Rattle.lines.specs.Line.{decimalIn, decimalOf, refusedWith}
 
 -- AS MANY AS `io` WRITES
 
@@ -85,6 +85,13 @@ back-in (suc f) n h = go (ltb n 10) refl (λ l. back-in f (n / 10) l)
 -- the digits of n read back as n
 pub decimal-back : (n : ℕ) → readBack 0 (decimalOf n) ≡ n
 decimal-back n = back-in n n (omega arith)
+
+-- so a line `trace refused` has one number only
+pub refused-once : (m n : ℕ) → refusedWith m ≡ refusedWith n → m ≡ n
+refused-once m n e = omega (arith, sym (tens m) ∙ ap (λ (l : List ℕ). readBack 0 (drop 14 l)) e ∙ tens n)
+  where
+    tens : (k : ℕ) → readBack 0 (drop 14 (refusedWith k)) ≡ k * 10
+    tens k = read-append 0 (decimalOf k ++ []) (10 ∷ []) ∙ rw (append-nil, decimal-back) (omega arith)
 
 head-append : (xs ys : List ℕ) → 48 < getD xs 0 0 → 48 < getD (xs ++ ys) 0 0
 head-append [] ys h = absurd (omega arith)

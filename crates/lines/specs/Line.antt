@@ -35,9 +35,13 @@ lineOf number a = decimalOf number ++ (32 ∷ (answerOf a ++ (10 ∷ [])))
 abbrev pub traceRefused : List ℕ
 traceRefused = 116 ∷ 114 ∷ 97 ∷ 99 ∷ 101 ∷ 32 ∷ 114 ∷ 101 ∷ 102 ∷ 117 ∷ 115 ∷ 101 ∷ 100 ∷ []
 
+-- the line `trace refused` with number n
+abbrev pub refusedWith : ℕ → List ℕ
+refusedWith n = traceRefused ++ (spaced (n ∷ []) ++ (10 ∷ []))
+
 -- "the one line `trace refused` and the number"
 unfoldable pub refusalLine : Refusal → List ℕ
-refusalLine r = traceRefused ++ (spaced (numberOf r ∷ []) ++ (10 ∷ []))
+refusalLine r = refusedWith (numberOf r)
 
 -- "the header line `event answer`"
 abbrev pub titleLine : List ℕ

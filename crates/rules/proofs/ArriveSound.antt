@@ -51,6 +51,10 @@ map-empty : (f : Request → Request) (l : List Request) → empty l ≡ true �
 map-empty f [] e = refl
 map-empty f (q ∷ l) e = absurd (false≢true e)
 
+-- no share tag that waits is below the smallest
+pub smallest-all : (t : Table) → all (λ q. leb (smallest t) (q .stag)) (t .waiting) ≡ true
+smallest-all t = sym (all-of-map (leb (smallest t)) Request.stag (t .waiting)) ∙ lowest-all (map Request.stag (t .waiting)) (smallest t) (omega arith)
+
 module _ (t : Table) (now : ℕ) where
   -- what becomes of guest i
   abbrev moved : ℕ → Guest → Guest
@@ -63,19 +67,19 @@ module _ (t : Table) (now : ℕ) where
   adjusted-names true = ap (_++ t .flight) (map-same name (shifted now (smallest t)) (λ q. refl) (t .waiting))
 
   -- what is in flight is as it was
-  adjusted-flight : (b : Bool) → (adjusted b now t) .flight ≡ t .flight
+  pub adjusted-flight : (b : Bool) → (adjusted b now t) .flight ≡ t .flight
   unfolding adjusted
   adjusted-flight false = refl
   adjusted-flight true = refl
 
   -- as many wait as before
-  adjusted-length : (b : Bool) → length ((adjusted b now t) .waiting) ≡ length (t .waiting)
+  pub adjusted-length : (b : Bool) → length ((adjusted b now t) .waiting) ≡ length (t .waiting)
   unfolding adjusted
   adjusted-length false = refl
   adjusted-length true = length-map (t .waiting) (shifted now (smallest t))
 
   -- "The arriving guest's own next number is not moved."
-  adjusted-owner : (b : Bool) (g : ℕ) → idle t g ≡ b → g < length (t .guests) → owner ((adjusted b now t) .guests) g ≡ owner (t .guests) g
+  pub adjusted-owner : (b : Bool) (g : ℕ) → idle t g ≡ b → g < length (t .guests) → owner ((adjusted b now t) .guests) g ≡ owner (t .guests) g
   unfolding adjusted
   adjusted-owner false g e h = refl
   adjusted-owner true g e h = getD-each moved 0 (t .guests) g nobodys h ∙ rw (zero-add g, e)
@@ -85,14 +89,11 @@ module _ (t : Table) (now : ℕ) where
   unfolding idle
   moved-order s g known = go (idle t g) refl
     where
-      least : all (λ q. leb (smallest t) (q .stag)) (t .waiting) ≡ true
-      least = sym (all-of-map (leb (smallest t)) Request.stag (t .waiting)) ∙ lowest-all (map Request.stag (t .waiting)) (smallest t) (omega arith)
-
       go : (b : Bool) → idle t g ≡ b → orderly (moved g (owner (t .guests) g)) (map (shifted now (smallest t)) (mine g (t .waiting))) ≡ true
       go true e = rw (e, map-empty (shifted now (smallest t)) (mine g (t .waiting)) e) (s .guests-orderly g known)
       go false e =
           rw e
-          (shift-own now (smallest t) (owner (t .guests) g) (mine g (t .waiting)) (all-filter (λ q. leb (smallest t) (q .stag)) (of g) (t .waiting) least) e
+          (shift-own now (smallest t) (owner (t .guests) g) (mine g (t .waiting)) (all-filter (λ q. leb (smallest t) (q .stag)) (of g) (t .waiting) (smallest-all t)) e
           (s .guests-orderly g known))
 
   -- and so they are in the table

@@ -49,7 +49,7 @@ equal a b = record { holds = (eqb-true a b, eq-eqb a b); fails = (eqb-false a b,
 
 -- NAMES
 
-same-is : (a b : Flight) → same a b ≡ true → a ≡ b
+pub same-is : (a b : Flight) → same a b ≡ true → a ≡ b
 same-is a b h =
     let p = both (eqb (a .guest) (b .guest)) (eqb (a .id) (b .id)) h in
     λ i. record { guest = eqb-true (a .guest) (b .guest) (p .0) i; id = eqb-true (a .id) (b .id) (p .1) i }

@@ -59,7 +59,7 @@ unfolding arriveAs placed adjusted
 arrive-flight true now a t = refl
 arrive-flight false now a t = refl
 
-enter-flight : (t : Table) (e : Event) → (enter t e) .flight ≡ leftBy e (t .flight)
+pub enter-flight : (t : Table) (e : Event) → (enter t e) .flight ≡ leftBy e (t .flight)
 unfolding enter arrive complete wait
 enter-flight t (Arrival a now) = arrive-flight (idle t (a .guest)) now a t
 enter-flight t (Completion f now) = refl

@@ -80,21 +80,20 @@ passed (c ∷ cs) h n = go (c .holds) refl (λ k. passed cs k n)
         let r = k (rw e at h) in
         rw (e, r) (elim (eqb (numberOf (c .refusal)) n) as (λ b. (if b then false else false) ≡ false) [ true ↦ refl | false ↦ refl ])
 
--- what stands behind is accepted
-passed-behind : (cs : List Test) → isAccept (judged cs) ≡ true → (n : ℕ) → isAccept (judged (behind n cs)) ≡ true
-passed-behind [] h n = refl
-passed-behind (c ∷ cs) h n = go (c .holds) refl (λ k. passed-behind cs k n)
+-- nor of what stands behind the first test that has number m: so a number that stands twice is told by what stands before it
+pub passed-behind : (cs : List Test) → isAccept (judged cs) ≡ true → (m n : ℕ) → condition n (behind m cs) ≡ false
+passed-behind cs h m n = passed (behind m cs) (still cs h) n
   where
-    go : (b : Bool) → c .holds ≡ b → (isAccept (judged cs) ≡ true → isAccept (judged (behind n cs)) ≡ true)
-        → isAccept (judged (if eqb (numberOf (c .refusal)) n then cs else behind n cs)) ≡ true
-    go true e k = absurd (false≢true (rw e at h))
-    go false e k =
-        let here : isAccept (judged cs) ≡ true = rw e at h in
-        elim (eqb (numberOf (c .refusal)) n) as (λ b. isAccept (judged (if b then cs else behind n cs)) ≡ true) [ true ↦ here | false ↦ k here ]
-
--- so neither does that of the second test that has number n
-pub passed-again : (cs : List Test) → isAccept (judged cs) ≡ true → (n : ℕ) → condition n (behind n cs) ≡ false
-passed-again cs h n = passed (behind n cs) (passed-behind cs h n) n
+    still : (cs : List Test) → isAccept (judged cs) ≡ true → isAccept (judged (behind m cs)) ≡ true
+    still [] h = refl
+    still (c ∷ cs) h = go (c .holds) refl (still cs)
+      where
+        go : (b : Bool) → c .holds ≡ b → (isAccept (judged cs) ≡ true → isAccept (judged (behind m cs)) ≡ true)
+            → isAccept (judged (if eqb (numberOf (c .refusal)) m then cs else behind m cs)) ≡ true
+        go true e k = absurd (false≢true (rw e at h))
+        go false e k =
+            let here : isAccept (judged cs) ≡ true = rw e at h in
+            elim (eqb (numberOf (c .refusal)) m) as (λ b. isAccept (judged (if b then cs else behind m cs)) ≡ true) [ true ↦ here | false ↦ k here ]
 
 -- A LIST OF TESTS AND A LIST OF CASES
 

@@ -7,6 +7,7 @@ pub mod Line
 pub mod LineMoves
 pub mod Turn
 pub mod Demand3
+pub mod TurnAt
 pub mod Ticks
 pub mod Readings
 pub mod Spacings
@@ -33,4 +34,5 @@ pub mod Trials
 pub mod Answered
 pub mod Guards
 pub mod InFlight
+pub mod Arrived
 pub mod Soundness

@@ -12,7 +12,7 @@ use Rattle.rules.specs.Tables.{Settings, Request, reserved, limited, rsp
 use Rattle.rules.specs.Sound.{counted, settled, ranges, distinct, orderly, sound}
 use Rattle.rules.specs.Refusals.{accept, judged, isAccept, openTests}
 use Rattle.rules.specs.Run.{newcomer, fresh}
-use Rattle.rules.proofs.Judged.{passed, passed-again}
+use Rattle.rules.proofs.Judged.{passed, passed-behind}
 use Rattle.rules.proofs.Chains.{kept-fresh}
 use Rattle.rules.proofs.Facts.{is-sound, is-orderly}
 
@@ -45,7 +45,7 @@ fresh-sound short d n c ss h l =
     let cs = openTests short d n c ss in
     let ok : isAccept (judged cs) ≡ true = ap isAccept h in
     let counts = not-false (counted d n c) (passed cs ok 1) in
-    let settings = not-false (all settled ss) (passed-again cs ok 1) in
+    let settings = not-false (all settled ss) (passed-behind cs ok 1 1) in
     is-sound (fresh d c ss)
     (record {
       in-range = fresh-ranges d c ss (rw l counts) settings;

@@ -1,12 +1,24 @@
 -- Document 01's marked edge readings, as one table under a single statement. Assumes nothing.
 use mathlib.Core.Path.{_≡_, refl}
+use mathlib.Core.Bool.{Bool}
 use mathlib.Core.List.{List, [], _∷_}
 use Prim.Native.Nat.{ℕ}
-use Rattle.rules.specs.Numbers.{down, up, tagAt}
-use Rattle.rules.specs.Tables.{Request, Table}
-use Rattle.rules.specs.Events.{Event, Tick}
+use Rattle.rules.specs.Tables.{Guest, Request, Table, rspacing, lspacing, sspacing}
+use Rattle.rules.specs.Events.{Event, Tick, stamped}
 use Rattle.rules.specs.Run.{fresh}
 use Rattle.rules.proofs.Trials.{ms, settings, comes, ends, three, -, R, W, X, lines, waitingAfter}
+
+-- a guest that has all three kinds of tags, with "Next number 10" of each
+abbrev tens : Guest
+tens = record { settings = settings 1 1 1; rnext = 10; lnext = 10; snext = 10 }
+
+-- the three tags of a request
+abbrev tagsOf : Request → List ℕ
+tagsOf q = q .rtag ∷ q .ltag ∷ q .stag ∷ []
+
+-- those that the guest's next request gets at a time, where it is idle or not
+abbrev given : (idle : Bool) (now : ℕ) → List ℕ
+given idle now = tagsOf (stamped idle now (record { guest = 0; id = 1 }) tens)
 
 -- "depth 4, one guest (reservation 100, limit 250, shares 1), capacity 8"
 abbrev pub one : Table
@@ -29,13 +41,13 @@ tags t es = waitingAfter Request.stag t es
 
 -- the readings that document 01 marks with a star, in its order
 pub record Readings : Type 0 where
-  pub reservation-3 : down 3 ≡ 333333333
-  pub limit-3 : up 3 ≡ 333333334
-  pub shares-300 : down 300 ≡ 3333333
-  pub shares-1000000 : down 1000000 ≡ 1000
-  pub next-at : tagAt 10 10 ≡ 10
-  pub next-before : tagAt 9 10 ≡ 10
-  pub next-after : tagAt 11 10 ≡ 11
+  pub reservation-3 : (l w : ℕ) (q : Request) → rspacing (settings 3 l w) q ≡ 333333333
+  pub limit-3 : (r w : ℕ) (q : Request) → lspacing (settings r 3 w) q ≡ 333333334
+  pub shares-300 : (r l : ℕ) (q : Request) → sspacing (settings r l 300) q ≡ 3333333
+  pub shares-1000000 : (r l : ℕ) (q : Request) → sspacing (settings r l 1000000) q ≡ 1000
+  pub next-at : (idle : Bool) → given idle 10 ≡ 10 ∷ 10 ∷ 10 ∷ []
+  pub next-before : (idle : Bool) → given idle 9 ≡ 10 ∷ 10 ∷ 10 ∷ []
+  pub next-after : (idle : Bool) → given idle 11 ≡ 11 ∷ 11 ∷ 11 ∷ []
   pub ten-answers : lines one ten ≡ R 0 1 ∷ - ∷ - ∷ - ∷ W 0 2 ∷ W 0 3 ∷ R 0 4 ∷ X 6 ∷ - ∷ X 10 ∷ []
   pub first-tags : tags two (three []) ≡ ms 1000 ∷ ms 2000 ∷ []
   pub moved-down : tags two (three (comes 1 1 100 ∷ [])) ≡ ms 100 ∷ ms 1100 ∷ ms 100 ∷ []
@@ -47,13 +59,13 @@ pub readings : Readings
 unfolding lines
 readings =
     record {
-      reservation-3 = refl;
-      limit-3 = refl;
-      shares-300 = refl;
-      shares-1000000 = refl;
-      next-at = refl;
-      next-before = refl;
-      next-after = refl;
+      reservation-3 = λ l w q. refl;
+      limit-3 = λ r w q. refl;
+      shares-300 = λ r l q. refl;
+      shares-1000000 = λ r l q. refl;
+      next-at = λ idle. refl;
+      next-before = λ idle. refl;
+      next-after = λ idle. refl;
       ten-answers = refl;
       first-tags = refl;
       moved-down = refl;

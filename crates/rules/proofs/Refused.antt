@@ -22,7 +22,8 @@ pub record Tells (v : Verdict) (gives : ℕ → Type 0) (accepts : Type 0) : Typ
   pub accepting : accepts ↔ (v ≡ accept)
 
 -- what tells the verdict of tests is refused exactly by their cases
-pub exactly : {cs : List Test} {ks : List Case} {gives : ℕ → Type 0} {accepts : Type 0} → Tested cs ks → Tells (judged cs) gives accepts → RefusedExactly ks gives accepts
+pub exactly : {cs : List Test} {ks : List Case} {gives : ℕ → Type 0} {accepts : Type 0}
+    → Tested cs ks → Tells (judged cs) gives accepts → RefusedExactly ks gives accepts
 exactly h tells = record { number = λ n. Iff·trans (tells .number n) (judged-first h n); no-number = Iff·trans (tells .accepting) (judged-none h) }
 
 -- THE TESTS OF EACH CALL
@@ -37,7 +38,7 @@ guest-tested : (g now : ℕ) (t : Table) {cs : List Test} {ks : List Case} → T
 guest-tested g now t rest = at-most (length (t .guests)) g .holds and time-tested now t rest
 
 -- an event's own, at a sound table
-event-tested : (t : Table) (e : Event) → sound t ≡ true → Tested (eventTests t e) (eventCases t e)
+pub event-tested : (t : Table) (e : Event) → sound t ≡ true → Tested (eventTests t e) (eventCases t e)
 unfolding eventTests eventCases
 event-tested t (Arrival a now) s =
     guest-tested (a .guest) now t
@@ -49,7 +50,8 @@ event-tested t (Completion f now) s = guest-tested (f .guest) now t (lacking f (
 event-tested t (Tick now) s = time-tested now t end
 
 -- a call's
-pub call-tested : (short unsound : Bool) (t : Table) (e : Event) → (unsound ≡ false → sound t ≡ true) → Tested (tests short unsound t e) (callCases short unsound t e)
+pub call-tested : (short unsound : Bool) (t : Table) (e : Event) → (unsound ≡ false → sound t ≡ true)
+    → Tested (tests short unsound t e) (callCases short unsound t e)
 call-tested short unsound t e honest = Iff·rfl and unless Iff·rfl (λ u. event-tested t e (honest u))
 
 -- an opening's

@@ -9,6 +9,8 @@ pub mod Refusals
 pub mod Run
 -- What the theorems say of them, in facts that compute nothing.
 pub mod Chosen
+pub mod Arrived
 pub mod Refused
 pub mod Order
 pub mod Turn
+pub mod TurnAt

@@ -4,3 +4,5 @@ pub mod Buckets
 pub mod Judged
 pub mod Zeros
 pub mod SoundKnown
+pub mod Mine
+pub mod SoundNumbers

@@ -3,6 +3,7 @@ use Prim.Native.Nat.{ℕ, zero, suc, _+_, _≤_, _<_}
 use mathlib.Core.Path.{_≡_, refl, sym, ap, _∙_, subst}
 use mathlib.Core.Bool.{Bool, true, false, and-false}
 use mathlib.Core.List.{List, [], _∷_, map}
+use mathlib.Core.Logic.{_↔_}
 use native.Mathlib.Omega.{arith}
 use native.Mathlib.Nat.{not-suc-le-zero, le-of-suc-le-suc}
 use native.Mathlib.Numerals.{add-one}
@@ -15,7 +16,7 @@ use Rattle.lists.specs.Tab.{tab, tab-snoc}
 use Rattle.rules.specs.Answers.{numberOf}
 use Rattle.rules.specs.Sound.{counted, settled}
 use Rattle.rules.specs.Refusals.{Verdict, accept, refuse, judged, isAccept}
-use Rattle.rules.proofs.Judged.{passed, passed-again}
+use Rattle.rules.proofs.Judged.{passed, passed-behind}
 use Rattle.trace.specs.Header.{same, depthOf, guestsOf, capacityOf, body, settingsIn, headerTests, headerOf}
 use Rattle.trace.specs.declared.Header.the-variants.{Opened, Refused}
 
@@ -39,9 +40,13 @@ unfolding same
 same-refl [] = refl
 same-refl (x ∷ xs) = rw (eq-eqb x x refl) (same-refl xs)
 
+-- so the test says just that
+pub same-is : (xs ys : List ℕ) → (same xs ys ≡ true) ↔ (xs ≡ ys)
+same-is xs ys = (same-eq xs ys, λ e. subst (λ (l : List ℕ). same xs l ≡ true) e (same-refl xs))
+
 -- a test that holds exactly of equal lists is `same`
 pub is-same : (r : Bool) (xs ys : List ℕ) → (r ≡ true → xs ≡ ys) → (xs ≡ ys → r ≡ true) → r ≡ same xs ys
-is-same true xs ys f g = sym (subst (λ (l : List ℕ). same xs l ≡ true) (f refl) (same-refl xs))
+is-same true xs ys f g = sym (same-is xs ys .1 (f refl))
 is-same false xs ys f g = go (same xs ys) refl
   where
     go : (b : Bool) → same xs ys ≡ b → false ≡ same xs ys
@@ -82,14 +87,14 @@ unfolding headerTests
 opens bs e =
     let ok : isAccept (judged (headerTests bs)) ≡ true = ap isAccept e in
     let no = passed (headerTests bs) ok in
-    let again = passed-again (headerTests bs) ok in
+    let behind-counts = passed-behind (headerTests bs) ok 1 in
     record {
       depthIs = refl;
       guestsIs = refl;
       capacityIs = refl;
       counts = not-false _ (no 1);
-      whole = ltb-false (length bs) (body (guestsOf bs)) (again 13);
-      settings = not-false _ (again 1);
+      whole = ltb-false (length bs) (body (guestsOf bs)) (behind-counts 13);
+      settings = not-false _ (behind-counts 1);
     }
 
 -- a header that opens

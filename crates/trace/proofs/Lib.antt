@@ -8,3 +8,8 @@ pub mod Split
 pub mod FirstRead
 pub mod AnySplit
 pub mod Example
+pub mod Answers
+pub mod HeaderExactly
+pub mod LineExactly
+pub mod Order
+pub mod Demand3

@@ -16,7 +16,7 @@ use Rattle.trace.proofs.EventLaws.{events-snoc, length-events}
 
 -- TWO RUNS
 
-answers-append : (t : Table) (xs ys : List Read) → answersTo t (xs ++ ys) ≡ answersTo t xs ++ answersTo (tableAfter t xs) ys
+pub answers-append : (t : Table) (xs ys : List Read) → answersTo t (xs ++ ys) ≡ answersTo t xs ++ answersTo (tableAfter t xs) ys
 unfolding answersTo tableAfter
 answers-append t [] ys = refl
 answers-append t (x ∷ xs) ys = ap (answered t x .answer ∷_) (answers-append (answered t x .table) xs ys)
@@ -26,12 +26,12 @@ unfolding tableAfter
 table-append t [] ys = refl
 table-append t (x ∷ xs) ys = table-append (answered t x .table) xs ys
 
-length-answers : (t : Table) (es : List Read) → length (answersTo t es) ≡ length es
+pub length-answers : (t : Table) (es : List Read) → length (answersTo t es) ≡ length es
 unfolding answersTo
 length-answers t [] = refl
 length-answers t (e ∷ es) = ap suc (length-answers (answered t e .table) es)
 
-lines-append : (n : ℕ) (xs ys : List Answer) → linesFrom n (xs ++ ys) ≡ linesFrom n xs ++ linesFrom (n + length xs) ys
+pub lines-append : (n : ℕ) (xs ys : List Answer) → linesFrom n (xs ++ ys) ≡ linesFrom n xs ++ linesFrom (n + length xs) ys
 unfolding linesFrom
 lines-append n [] ys = rw add-zero
 lines-append n (x ∷ xs) ys =

@@ -1,0 +1,66 @@
+-- A run of calls through C, each handed what the last one left: the gate's six numbers and the three tables, as a host holds them.
+use Prim.Native.Nat.{ℕ}
+use mathlib.Core.Path.{_≡_}
+use mathlib.Core.Bool.{Bool, not, _&&_}
+use mathlib.Core.List.{List, [], _∷_}
+use lib.Dec.{eqb}
+use Rattle.lists.specs.Words.{if_then_else_}
+use Rattle.rules.specs.Tables.{Table}
+use Rattle.rules.specs.declared.Event.{Event}
+use Rattle.gate.specs.Promise.{numbers, called}
+use Rattle.gate.specs.Calls.{Host, shows, finds}
+use Rattle.host.specs.declared.Reply.{Reply}
+use Rattle.host.specs.Host.{gateIn, hosted}
+
+-- what a host in C holds between calls: the gate's six numbers, and its three tables
+pub record Lent : Type 0 where
+  pub six : List ℕ
+  pub guests : List ℕ
+  pub waiting : List ℕ
+  pub flight : List ℕ
+
+-- the same with the gate that the six numbers are
+abbrev pub inside : Lent → Host numbers
+inside h = record { gate = gateIn (h .six); guests = h .guests; waiting = h .waiting; flight = h .flight }
+
+-- the table that is shown
+abbrev pub shownBy : Lent → Table
+shownBy h = shows numbers (inside h)
+
+-- a call through C on what a host holds: the answer's four numbers, the six of the gate, and the three tables
+abbrev pub through : Event → Lent → Reply × List ℕ × List ℕ × List ℕ × List ℕ
+through e h = hosted (h .six) (called e (gateIn (h .six)) (h .guests) (h .waiting) (h .flight))
+
+-- what a host holds after it
+abbrev pub kept : Reply × List ℕ × List ℕ × List ℕ × List ℕ → Lent
+kept b = record { six = b .1; guests = b .2; waiting = b .3; flight = b .4 }
+
+-- what it holds after a run of calls
+unfoldable pub heldBy : Lent → List Event → Lent
+heldBy h [] = h
+heldBy h (e ∷ es) = heldBy (kept (through e h)) es
+
+-- the four numbers of each answer to a run of calls
+unfoldable pub fours : Lent → List Event → List Reply
+fours h [] = []
+fours h (e ∷ es) = through e h .0 ∷ fours (kept (through e h)) es
+
+-- an answer's four numbers are a refusal with number n: kind 3, and the number
+abbrev pub Refuses : Reply → ℕ → Type 0
+Refuses r n = (r .kind ≡ 3) × (r .refusal ≡ n)
+
+-- they are no refusal
+abbrev pub Takes : Reply → Type 0
+Takes r = r .kind ≡ 3 → ⊥
+
+-- the same as a test
+abbrev pub takes : Reply → Bool
+takes r = not (eqb (r .kind) 3)
+
+-- the four numbers of the answers to the calls of a run that are accepted and find a place free, in order
+unfoldable pub freeFours : Lent → List Event → List Reply
+freeFours h [] = []
+freeFours h (e ∷ es) =
+    if takes (through e h .0) && finds e (gateIn (h .six))
+    then through e h .0 ∷ freeFours (kept (through e h)) es
+    else freeFours (kept (through e h)) es

@@ -1,0 +1,92 @@
+-- The promises are kept: the one inhabitant of Promises.antt. Assumes nothing.
+use mathlib.Core.Path.{sym, _∙_}
+use Rattle.rules.proofs.Arrived.{step-described, step-once}
+use Rattle.rules.proofs.StepSound.{step-sound}
+use Rattle.rules.proofs.TurnAt.{demand-3-places, no-place-no-send}
+use Rattle.rules.proofs.Readings.{readings}
+use Rattle.gate.specs.Promise.{Lending, numbers}
+use Rattle.gate.proofs.Lending.{Lawful, numbers-lawful}
+use Rattle.gate.proofs.Refusing.{called-exactly, open-exactly, refusal-keeps, opening-keeps}
+use Rattle.gate.proofs.Runs.{calls-run}
+use Rattle.gate.proofs.Opened.{opened-firm}
+use Rattle.gate.proofs.Once.{called-once, opened-once}
+use Rattle.gate.proofs.Beyond.{called-beyond, opened-beyond}
+use Rattle.gate.proofs.Unread.{called-unread, opened-unread}
+use Rattle.gate.proofs.Order.{calls-in-order}
+use Rattle.gate.proofs.Demand3.{calls-demand-3-places, calls-no-place}
+use Rattle.records.specs.Promise.{records}
+use Rattle.records.proofs.Lawful.{records-lawful}
+use Rattle.host.proofs.Once.{reply-once, open-once}
+use Rattle.host.proofs.Runs.{through-exactly, through-open-exactly, through-opened, through-run, through-in-order, through-demand-3}
+use Rattle.trace.proofs.HeaderExactly.{header-exactly}
+use Rattle.trace.proofs.LineExactly.{line-exactly, line-numbers, table-sound}
+use Rattle.trace.proofs.Order.{trace-in-order}
+use Rattle.trace.proofs.Demand3.{trace-demand-3-places}
+use Rattle.promises.proofs.Promises.{OnTheRules, OverLent, ThroughC, OfATrace, Promises}
+
+rules-kept : OnTheRules
+rules-kept =
+    record {
+      described = step-described;
+      once = step-once;
+      sound-kept = step-sound;
+      demand-3 = demand-3-places;
+      no-place-no-send = no-place-no-send;
+      readings = readings;
+    }
+
+lent-kept : (v : Lending) (lawful : Lawful v) → OverLent v lawful
+lent-kept v lawful =
+    record {
+      called-exactly = called-exactly v lawful;
+      opened-exactly = open-exactly v;
+      refusal-keeps = refusal-keeps v;
+      opening-keeps = opening-keeps v;
+      opens = opened-firm v lawful;
+      runs = calls-run v lawful;
+      called-once = called-once v;
+      opened-once = opened-once v;
+      called-untouched = called-beyond v lawful;
+      opened-untouched = opened-beyond v lawful;
+      called-unread = called-unread v lawful;
+      opened-unread = opened-unread v lawful;
+      in-order = calls-in-order v lawful;
+      demand-3 = calls-demand-3-places v lawful;
+      no-place-no-send = calls-no-place v lawful;
+    }
+
+c-kept : ThroughC
+c-kept =
+    record {
+      called-exactly = through-exactly;
+      opened-exactly = through-open-exactly;
+      opens = through-opened;
+      runs = through-run;
+      called-once = λ b c h e p q. p ∙ sym q;
+      opened-once = open-once;
+      four-once = reply-once;
+      in-order = through-in-order;
+      demand-3 = through-demand-3;
+    }
+
+trace-kept : OfATrace
+trace-kept =
+    record {
+      header-exactly = header-exactly;
+      line-exactly = line-exactly;
+      line-numbers = line-numbers;
+      table-sound = table-sound;
+      in-order = trace-in-order;
+      demand-3 = trace-demand-3-places;
+    }
+
+-- What the product promises is kept.
+pub promises : Promises
+promises =
+    record {
+      on-the-rules = rules-kept;
+      over-numbers = lent-kept numbers numbers-lawful;
+      over-records = lent-kept records records-lawful;
+      through-c = c-kept;
+      of-a-trace = trace-kept;
+    }

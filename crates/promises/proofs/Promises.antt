@@ -1,0 +1,128 @@
+-- WHAT THE PRODUCT PROMISES, on one page: the demands over every public face, in one record. The functions themselves promise the equations
+-- `called` and `opened` (crates/gate/specs/Promise.antt); what these say is here. Kept.antt has its one inhabitant.
+use Prim.Native.Nat.{ℕ, _*_, _≤_, _<_}
+use mathlib.Core.Path.{_≡_}
+use mathlib.Core.Bool.{true, false, not}
+use mathlib.Core.List.{List, _++_, map}
+use lib.ListN.{length, take}
+use Rattle.lists.specs.Words.{all}
+use Rattle.rules.specs.Tables.{Table}
+use Rattle.rules.specs.Sound.{sound}
+use Rattle.rules.specs.Answers.{shown, taken}
+use Rattle.rules.specs.Choice.{Result}
+use Rattle.rules.specs.Chosen.{Chosen}
+use Rattle.rules.specs.Arrived.{Entered}
+use Rattle.rules.specs.Refusals.{accepted}
+use Rattle.rules.specs.Refused.{RefusedExactly, NoneHolds, callCases, openCases}
+use Rattle.rules.specs.Order.{waits, left}
+use Rattle.rules.specs.Run.{fresh, step}
+use Rattle.rules.specs.Turn.{findsRoom, atFree}
+use Rattle.rules.specs.TurnAt.{DueAt, InTurnAt}
+use Rattle.rules.specs.declared.Event.{Event}
+use Rattle.rules.specs.declared.Gate.{Gate}
+use Rattle.rules.specs.declared.Refusal.{Refusal}
+use Rattle.rules.specs.declared.Answer.{Answer}
+use Rattle.rules.specs.declared.Answer.the-variants.{Nothing, Refused}
+use Rattle.rules.proofs.Readings.{Readings}
+use Rattle.rules.proofs.Trials.{X}
+use Rattle.table.specs.Columns.{settingsWide}
+use Rattle.gate.specs.Promise.{Lending, numbers, HandedIn, tableIn, seenIn, shortIn, soundIn, unchangedIn, calledIn, settingsIn, openShortIn, unopened, openedIn, opened}
+use Rattle.gate.specs.Needs.{Beyond, Alike, Same}
+use Rattle.gate.specs.Calls.{Host, holds, shows, firm, narrow, finds, call, held, replies, took, freeReplies}
+use Rattle.gate.proofs.Lending.{Lawful}
+use Rattle.gate.proofs.Runs.{Runs}
+use Rattle.records.specs.Promise.{records}
+use Rattle.records.proofs.Lawful.{records-lawful}
+use Rattle.gate.proofs.Lending.{numbers-lawful}
+use Rattle.host.specs.Host.{gateIn, replyOf, hosted}
+use Rattle.host.specs.Calls.{Lent, inside, shownBy, through, kept, heldBy, fours, Refuses, Takes, freeFours}
+use Rattle.host.proofs.Runs.{ThroughRuns}
+use Rattle.host.proofs.Once.{Back}
+use Rattle.lines.specs.Line.{titleLine, refusedWith}
+use Rattle.trace.specs.Printed.{linesFrom, printed}
+use Rattle.trace.specs.Event.{whole}
+use Rattle.trace.specs.Answers.{eventBytes, bytesAt, tableAt, readsOf, answersOf, answerAt, acceptedIds, freeFrom}
+use Rattle.trace.specs.Cases.{headerCases, lineCases}
+
+-- ON THE RULES
+
+-- an accepted event in plain facts, which fit one outcome only, and demand 3
+pub record OnTheRules : Type 0 where
+  pub described : (t : Table) (e : Event) → accepted t e ≡ true → (u : Table) × Entered t e u × Chosen u (step t e)
+  pub once : (t : Table) (e : Event) (u : Table) (r : Result) → accepted t e ≡ true → Entered t e u → Chosen u r → r ≡ step t e
+  pub sound-kept : (t : Table) (e : Event) → sound t ≡ true → sound (step t e .table) ≡ true
+  pub demand-3 : (t : Table) (i : ℕ) (es : List Event) → sound t ≡ true → DueAt t i → InTurnAt t i (atFree t es)
+  pub no-place-no-send : (t : Table) (e : Event) → accepted t e ≡ true → findsRoom t e ≡ false → step t e .answer ≡ Nothing
+  pub readings : Readings
+
+-- OVER LENT TABLES, in a way of lending guests
+
+pub record OverLent (v : Lending) (lawful : Lawful v) : Type 0 where
+  -- demand 1: each refusal is given exactly when document 01 says, with its number, and changes nothing
+  pub called-exactly : (g : Gate) (gs : List (v .Cell)) (ws fs : List ℕ) (e : Event)
+      → RefusedExactly (callCases (shortIn v g gs ws fs) (not (soundIn v g gs ws fs)) (tableIn v g gs ws fs) e) (λ n. shown (calledIn v e g gs ws fs .0 .answer) ≡ X n) (taken (calledIn v e g gs ws fs .0 .answer) ≡ true)
+  pub opened-exactly : (d n c : ℕ) (ss : List ℕ) (gs : List (v .Cell)) (ws fs : List ℕ)
+      → RefusedExactly (openCases (openShortIn v d n c ss gs ws fs) d n c (settingsIn ss n)) (λ k. shown (openedIn v d n c ss gs ws fs .0 .answer) ≡ X k) (taken (openedIn v d n c ss gs ws fs .0 .answer) ≡ true)
+  pub refusal-keeps : (e : Event) (g : Gate) (gs : List (v .Cell)) (ws fs : List ℕ) (r : Refusal) → calledIn v e g gs ws fs .0 .answer ≡ Refused r
+      → calledIn v e g gs ws fs ≡ unchangedIn v g gs ws fs (Refused r)
+  pub opening-keeps : (d n c : ℕ) (ss : List ℕ) (gs : List (v .Cell)) (ws fs : List ℕ) (r : Refusal) → openedIn v d n c ss gs ws fs .0 .answer ≡ Refused r
+      → openedIn v d n c ss gs ws fs ≡ unchangedIn v unopened gs ws fs (Refused r)
+  -- demand 2: an accepted opening gives a fresh table, a run of calls is a run of steps, and both leave tables that are sound; any two outcomes that a promise admits are equal
+  pub opens : (d n c : ℕ) (ss : List ℕ) (gs : List (v .Cell)) (ws fs : List ℕ) → taken (openedIn v d n c ss gs ws fs .0 .answer) ≡ true
+      → (firm v (holds v (openedIn v d n c ss gs ws fs)) ≡ true) × (shows v (holds v (openedIn v d n c ss gs ws fs)) ≡ fresh d c (settingsIn ss n))
+  pub runs : (es : List Event) (h : Host v) → firm v h ≡ true → all narrow es ≡ true → Runs v lawful h es
+  pub called-once : (h k : HandedIn v) (gs : List (v .Cell)) (ws fs : List ℕ) (e : Event) (g : Gate)
+      → seenIn v h ≡ seenIn v (calledIn v e g gs ws fs) → seenIn v k ≡ seenIn v (calledIn v e g gs ws fs) → h ≡ k
+  pub opened-once : (h k : HandedIn v) (gs : List (v .Cell)) (ws fs : List ℕ) (d n c : ℕ) (ss : List ℕ)
+      → seenIn v h ≡ seenIn v (openedIn v d n c ss gs ws fs) → seenIn v k ≡ seenIn v (openedIn v d n c ss gs ws fs) → h ≡ k
+  -- "Places beyond what the settings need are neither read nor changed, at opening too."
+  pub called-untouched : (e : Event) (g : Gate) (gs : List (v .Cell)) (ws fs : List ℕ) → Beyond v (g .guests) (g .setup .capacity) (g .setup .depth) gs ws fs (calledIn v e g gs ws fs)
+  pub opened-untouched : (d n c : ℕ) (ss : List ℕ) (gs : List (v .Cell)) (ws fs : List ℕ) → Beyond v n c d gs ws fs (openedIn v d n c ss gs ws fs)
+  pub called-unread : (e : Event) (g : Gate) (gs : List (v .Cell)) (ws fs : List ℕ) (hs : List (v .Cell)) (vs es : List ℕ)
+      → Alike v (g .guests) (g .setup .capacity) (g .setup .depth) gs ws fs hs vs es → Same v (g .guests) (g .setup .capacity) (g .setup .depth) (calledIn v e g gs ws fs) (calledIn v e g hs vs es)
+  pub opened-unread : (d n c : ℕ) (ss ts : List ℕ) (gs : List (v .Cell)) (ws fs : List ℕ) (hs : List (v .Cell)) (vs es : List ℕ) → take (n * settingsWide) ss ≡ take (n * settingsWide) ts
+      → Alike v n c d gs ws fs hs vs es → Same v n c d (openedIn v d n c ss gs ws fs) (openedIn v d n c ts hs vs es)
+  -- "Requests of one guest always leave in order of acceptance"
+  pub in-order : (n : ℕ) (es : List Event) (h : Host v) → waits n (shows v h) ++ took n es (replies v h es) ≡ left n (replies v h es) ++ waits n (shows v (held v h es))
+  -- demand 3
+  pub demand-3 : (h : Host v) (es : List Event) → firm v h ≡ true → all narrow es ≡ true → (i : ℕ) → DueAt (shows v h) i → InTurnAt (shows v h) i (freeReplies v h es)
+  pub no-place-no-send : (h : Host v) (e : Event) → firm v h ≡ true → taken (call v e h .0 .answer) ≡ true → finds e (h .gate) ≡ false → call v e h .0 .answer ≡ Nothing
+
+-- THROUGH C, over the gate's six numbers and the three tables as a host holds them. The tables that a call leaves are those over numbers, so what
+-- stands beyond the need is untouched and unread there
+
+pub record ThroughC : Type 0 where
+  pub called-exactly : (h : Lent) (e : Event)
+      → RefusedExactly (callCases (shortIn numbers (gateIn (h .six)) (h .guests) (h .waiting) (h .flight)) (not (soundIn numbers (gateIn (h .six)) (h .guests) (h .waiting) (h .flight))) (shownBy h) e) (Refuses (through e h .0)) (Takes (through e h .0))
+  pub opened-exactly : (six : List ℕ) (d n c : ℕ) (ss gs ws fs : List ℕ)
+      → RefusedExactly (openCases (openShortIn numbers d n c ss gs ws fs) d n c (settingsIn ss n)) (Refuses (hosted six (opened d n c ss gs ws fs) .0)) (Takes (hosted six (opened d n c ss gs ws fs) .0))
+  pub opens : (six : List ℕ) → length six ≡ 6 → (d n c : ℕ) (ss gs ws fs : List ℕ) → Takes (hosted six (opened d n c ss gs ws fs) .0)
+      → (length (kept (hosted six (opened d n c ss gs ws fs)) .six) ≡ 6) × (firm numbers (inside (kept (hosted six (opened d n c ss gs ws fs)))) ≡ true) × (shownBy (kept (hosted six (opened d n c ss gs ws fs))) ≡ fresh d c (settingsIn ss n))
+  pub runs : (es : List Event) (h : Lent) → length (h .six) ≡ 6 → firm numbers (inside h) ≡ true → all narrow es ≡ true → ThroughRuns h es
+  pub called-once : (b c : Back) (h : Lent) (e : Event) → b ≡ through e h → c ≡ through e h → b ≡ c
+  pub opened-once : (b c : Back) (six : List ℕ) (d n m : ℕ) (ss gs ws fs : List ℕ) → b ≡ hosted six (opened d n m ss gs ws fs) → c ≡ hosted six (opened d n m ss gs ws fs) → b ≡ c
+  pub four-once : (a b : Answer) → replyOf a ≡ replyOf b → a ≡ b
+  pub in-order : (n : ℕ) (es : List Event) (h : Lent) → length (h .six) ≡ 6
+      → (got : List Answer) × (fours h es ≡ map replyOf got) × (waits n (shownBy h) ++ took n es got ≡ left n got ++ waits n (shownBy (heldBy h es)))
+  pub demand-3 : (h : Lent) (es : List Event) → length (h .six) ≡ 6 → firm numbers (inside h) ≡ true → all narrow es ≡ true → (i : ℕ) → DueAt (shownBy h) i
+      → (got : List Answer) × (freeFours h es ≡ map replyOf got) × InTurnAt (shownBy h) i got
+
+-- OF A TRACE, of any bytes
+
+pub record OfATrace : Type 0 where
+  pub header-exactly : (bs : List ℕ) → RefusedExactly (headerCases bs) (λ n. printed bs ≡ refusedWith n) (printed bs ≡ titleLine ++ linesFrom 0 (answersOf bs))
+  pub line-exactly : (bs : List ℕ) → NoneHolds (headerCases bs) → (k : ℕ) → k * 14 < length (eventBytes bs)
+      → RefusedExactly (lineCases (tableAt bs k) (bytesAt bs k)) (λ n. shown (answerAt bs k) ≡ X n) (taken (answerAt bs k) ≡ true)
+  pub line-numbers : (bs : List ℕ) → NoneHolds (headerCases bs) → (k : ℕ) → k * 14 < length (eventBytes bs) → (n : ℕ) → shown (answerAt bs k) ≡ X n → 3 < n
+  pub table-sound : (bs : List ℕ) → NoneHolds (headerCases bs) → (k : ℕ) → sound (tableAt bs k) ≡ true
+  pub in-order : (g : ℕ) (bs : List ℕ) → acceptedIds g (readsOf (eventBytes bs)) (answersOf bs) ≡ left g (answersOf bs) ++ waits g (tableAt bs (whole (eventBytes bs)))
+  pub demand-3 : (bs : List ℕ) → NoneHolds (headerCases bs) → (k : ℕ) → k ≤ whole (eventBytes bs) → (i : ℕ) → DueAt (tableAt bs k) i → InTurnAt (tableAt bs k) i (freeFrom bs k)
+
+-- ALL OF IT
+
+pub record Promises : Type 0 where
+  pub on-the-rules : OnTheRules
+  pub over-numbers : OverLent numbers numbers-lawful
+  pub over-records : OverLent records records-lawful
+  pub through-c : ThroughC
+  pub of-a-trace : OfATrace
