@@ -305,6 +305,9 @@ def test_failures(tally, house):
     os.close(folder)
     closed = house.sgq("decide", "example.sgq", preexec_fn=lambda: os.close(1))
     check(tally, "standard output closed", closed, 1, said="standard output is closed", lines=1)
+    given = (house.root / "example.sgq").read_bytes()
+    closed = house.sgq("decide", "-", given=given, preexec_fn=lambda: os.close(2))
+    check(tally, "standard error closed", closed, 0, expected("example"), lines=0)
     for name in ("example.sgq", "-", "example"):
         with standing_in(house, UNWRITTEN):
             trace = (house.root / "example.sgq").read_bytes()
