@@ -62,6 +62,7 @@ REFUSED = [
     (13, b"", "it ends within its header (13)"),
 ]
 MOST_SECONDS = 60  # to wait for what a run will do at once, where it does it at all
+HANGS = 600  # seconds after which a run is taken to hang
 NOBODY = 65534
 LITTLE = 64 << 20  # bytes of memory for data
 
@@ -111,7 +112,7 @@ class House:
         settings = {"env": self.environment, "cwd": self.root, "capture_output": True, "input": given, **more}
         if "stdin" in settings:
             del settings["input"]
-        return subprocess.run([self.root / script, *words], timeout=MOST_SECONDS, **settings)
+        return subprocess.run([self.root / script, *words], timeout=HANGS, **settings)
 
     @contextlib.contextmanager
     def begun(self, *words):
