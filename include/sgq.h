@@ -38,12 +38,13 @@ extern "C" {
  * 1 to 1,000,000." */
 #define SGQ_MOST_RATE 1000000
 
-/* How many 64-bit numbers each record has; the structs below are these rows. */
+/* How many 64-bit numbers each record has; the structs below are these rows. They stand here once. */
 #define SGQ_GATE_NUMBERS 6
 #define SGQ_SETTINGS_NUMBERS 3
 #define SGQ_GUEST_NUMBERS 6
 #define SGQ_REQUEST_NUMBERS 5
 #define SGQ_FLIGHT_NUMBERS 2
+#define SGQ_ANSWER_NUMBERS 4
 
 /* The gate: what it was opened with, the time and the counts. "A fresh table has time 0, nothing waiting or in
  * flight". */
@@ -139,12 +140,13 @@ enum sgq_refusal {
 };
 
 /* The calls. A table is a pointer to numbers and how many there are; it may be longer than the settings need: "Places
- * beyond what the settings need are neither read nor changed, at opening too." The needs are 6 numbers for the gate,
- * 6 for each guest, 5 for each of the capacity's waiting places and 2 for each of the depth's places in flight. */
+ * beyond what the settings need are neither read nor changed, at opening too." The needs are SGQ_GATE_NUMBERS for the
+ * gate, SGQ_GUEST_NUMBERS for each guest, SGQ_REQUEST_NUMBERS for each of the capacity's waiting places and
+ * SGQ_FLIGHT_NUMBERS for each of the depth's places in flight. */
 
-/* Opens a gate: the answer is SGQ_NOTHING, or refused with 1 or 2. Settings are 3 numbers a guest. The gate and the
- * tables may hold anything before; after it, "a fresh table has time 0, nothing waiting or in flight, all next numbers
- * 0", and "every place past the count holds zeros". */
+/* Opens a gate: the answer is SGQ_NOTHING, or refused with 1 or 2. Settings are SGQ_SETTINGS_NUMBERS a guest. The gate
+ * and the tables may hold anything before; after it, "a fresh table has time 0, nothing waiting or in flight, all next
+ * numbers 0", and "every place past the count holds zeros". */
 sgq_answer sgq_open(uint64_t *gate, uint64_t depth, uint64_t guests, uint64_t capacity,
                     const uint64_t *settings, size_t settings_length,
                     uint64_t *guest_table, size_t guest_table_length,
@@ -262,7 +264,7 @@ typedef char sgq_settings_is_its_row[sizeof(sgq_settings) == SGQ_SETTINGS_NUMBER
 typedef char sgq_guest_is_its_row[sizeof(sgq_guest) == SGQ_GUEST_NUMBERS * sizeof(uint64_t) ? 1 : -1];
 typedef char sgq_request_is_its_row[sizeof(sgq_request) == SGQ_REQUEST_NUMBERS * sizeof(uint64_t) ? 1 : -1];
 typedef char sgq_flight_is_its_row[sizeof(sgq_flight) == SGQ_FLIGHT_NUMBERS * sizeof(uint64_t) ? 1 : -1];
-typedef char sgq_answer_is_four_numbers[sizeof(sgq_answer) == 4 * sizeof(uint64_t) ? 1 : -1];
+typedef char sgq_answer_is_its_row[sizeof(sgq_answer) == SGQ_ANSWER_NUMBERS * sizeof(uint64_t) ? 1 : -1];
 
 #ifdef __cplusplus
 }

@@ -107,7 +107,7 @@ impl fmt::Display for Refusal {
 
 impl std::error::Error for Refusal {}
 
-/// The library's four numbers by name.
+/// The library's answer by name.
 pub(crate) fn named(answer: raw::Answer) -> Result<Answer, Refusal> {
     match answer.kind {
         0 => Ok(Answer::Nothing),

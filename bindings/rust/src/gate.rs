@@ -39,7 +39,7 @@ impl Gate {
     ) -> Result<Answer, Refusal> {
         let count = settings.len() as u64;
         let lent = self.lend();
-        // SAFETY: see `lend`; the settings are rows of three numbers.
+        // SAFETY: see `lend`; the settings are rows of numbers too.
         named(unsafe {
             raw::sgq_open(
                 lent.gate,

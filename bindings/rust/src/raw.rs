@@ -4,7 +4,32 @@
 //! its own signatures say: pointers that are aligned and not null, true lengths, and tables that do not overlap and
 //! that nobody else reads or writes during the call. Nothing is asked of the numbers: any tables may be lent.
 
-/// The gate's six numbers: what it was opened with, the time and the counts.
+/// How many numbers the gate is.
+pub const GATE_NUMBERS: usize = 6;
+/// How many numbers a guest's settings are.
+pub const SETTINGS_NUMBERS: usize = 3;
+/// How many numbers a guest is.
+pub const GUEST_NUMBERS: usize = 6;
+/// How many numbers a waiting request is.
+pub const REQUEST_NUMBERS: usize = 5;
+/// How many numbers a request in flight is.
+pub const FLIGHT_NUMBERS: usize = 2;
+/// How many numbers an answer is.
+pub const ANSWER_NUMBERS: usize = 4;
+
+// The records are the rows, with nothing between the numbers: these lines do not compile where that fails.
+const _: () = assert!(numbers_of::<Numbers>() == GATE_NUMBERS);
+const _: () = assert!(numbers_of::<Settings>() == SETTINGS_NUMBERS);
+const _: () = assert!(numbers_of::<Guest>() == GUEST_NUMBERS);
+const _: () = assert!(numbers_of::<Request>() == REQUEST_NUMBERS);
+const _: () = assert!(numbers_of::<Flight>() == FLIGHT_NUMBERS);
+const _: () = assert!(numbers_of::<Answer>() == ANSWER_NUMBERS);
+
+const fn numbers_of<T>() -> usize {
+    size_of::<T>() / size_of::<u64>()
+}
+
+/// The gate: what it was opened with, the time and the counts.
 #[repr(C)]
 #[derive(Clone, Copy, Debug, Default, PartialEq, Eq)]
 pub struct Numbers {
@@ -90,7 +115,7 @@ pub struct Answer {
 }
 
 extern "C" {
-    /// Opens a gate; settings are three numbers a guest.
+    /// Opens a gate; settings are [`SETTINGS_NUMBERS`] a guest.
     pub fn sgq_open(
         gate: *mut u64,
         depth: u64,

@@ -1,7 +1,7 @@
 //! The names beside the numbers of the library, and the calls on tables that a `Gate` never lends.
 
-use sgq::raw::{self, Numbers};
-use sgq::{Flight, Gate, Guest, Refusal, Request, Settings};
+use sgq::raw::{self, FLIGHT_NUMBERS, GUEST_NUMBERS, REQUEST_NUMBERS};
+use sgq::{Gate, Refusal, CEILING};
 
 #[test]
 fn refusals_by_number() {
@@ -22,65 +22,79 @@ fn refusals_are_errors() {
 }
 
 #[test]
-fn rows() {
-    let numbers = [
-        size_of::<Numbers>(),
-        size_of::<Settings>(),
-        size_of::<Guest>(),
-        size_of::<Request>(),
-        size_of::<Flight>(),
-        size_of::<raw::Answer>(),
-    ]
-    .map(|size| size / size_of::<u64>());
-    assert_eq!(numbers, [6, 3, 6, 5, 2, 4]);
-}
-
-#[test]
 fn a_gate_goes_to_another_thread() {
     fn goes<T: Send + Sync>() {}
     goes::<Gate>();
 }
 
 /// What a tick answers on this gate, with the tables of one guest, depth 1 and capacity 1 lent to these lengths.
-fn tick(gate: [u64; 6], guests: usize, waiting: usize, flight: usize) -> raw::Answer {
+fn tick(gate: raw::Numbers, guests: usize, waiting: usize, flight: usize) -> raw::Answer {
     let mut gate = gate;
-    let mut guest_table = [0, 0, 1, 0, 0, 0];
-    let mut waiting_table = [0; 5];
-    let mut flight_table = [0; 2];
+    let mut guest_table = [raw::Guest {
+        settings: raw::Settings {
+            shares: 1,
+            ..Default::default()
+        },
+        ..Default::default()
+    }];
+    let mut waiting_table = [raw::Request::default()];
+    let mut flight_table = [raw::Flight::default()];
+    assert!(guests <= GUEST_NUMBERS && waiting <= REQUEST_NUMBERS && flight <= FLIGHT_NUMBERS);
     // SAFETY: four tables of their own, of which at most as much is lent as there is.
     unsafe {
         raw::sgq_tick(
-            gate.as_mut_ptr(),
-            guest_table[..guests].as_mut_ptr(),
+            (&raw mut gate).cast(),
+            guest_table.as_mut_ptr().cast(),
             guests,
-            waiting_table[..waiting].as_mut_ptr(),
+            waiting_table.as_mut_ptr().cast(),
             waiting,
-            flight_table[..flight].as_mut_ptr(),
+            flight_table.as_mut_ptr().cast(),
             flight,
             0,
         )
     }
 }
 
-#[test]
-fn short_and_unsound_tables() {
-    let sound = [1, 1, 1, 0, 0, 0];
-    let refusal = |number| raw::Answer {
+fn refusal(number: u64) -> raw::Answer {
+    raw::Answer {
         kind: 3,
         refusal: number,
         ..raw::Answer::default()
-    };
-    assert_eq!(tick(sound, 6, 5, 2), raw::Answer::default());
-    for (guests, waiting, flight) in [(5, 5, 2), (6, 4, 2), (6, 5, 1), (0, 0, 0)] {
-        let answer = tick(sound, guests, waiting, flight);
+    }
+}
+
+const SOUND: raw::Numbers = raw::Numbers {
+    depth: 1,
+    guests: 1,
+    capacity: 1,
+    time: 0,
+    waiting: 0,
+    flight: 0,
+};
+
+#[test]
+fn short_tables() {
+    let (g, w, f) = (GUEST_NUMBERS, REQUEST_NUMBERS, FLIGHT_NUMBERS);
+    assert_eq!(tick(SOUND, g, w, f), raw::Answer::default());
+    for (guests, waiting, flight) in [(g - 1, w, f), (g, w - 1, f), (g, w, f - 1), (0, 0, 0)] {
+        let answer = tick(SOUND, guests, waiting, flight);
         assert_eq!(answer, refusal(Refusal::ShortTable.number()));
     }
-    for unsound in [
-        [0, 1, 1, 0, 0, 0],
-        [1, 1, 1, 1 << 62, 0, 0],
-        [1, 1, 1, 0, 2, 0],
-    ] {
-        let answer = tick(unsound, 6, 5, 2);
+}
+
+#[test]
+fn unsound_tables() {
+    let no_depth = raw::Numbers { depth: 0, ..SOUND };
+    let late = raw::Numbers {
+        time: CEILING + 1,
+        ..SOUND
+    };
+    let too_many = raw::Numbers {
+        waiting: 2,
+        ..SOUND
+    };
+    for unsound in [no_depth, late, too_many] {
+        let answer = tick(unsound, GUEST_NUMBERS, REQUEST_NUMBERS, FLIGHT_NUMBERS);
         assert_eq!(answer, refusal(Refusal::NotSound.number()));
     }
 }

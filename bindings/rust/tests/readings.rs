@@ -1,6 +1,7 @@
 //! Document 01's example and edge readings, and each refusal, through the wrapper.
 
-use sgq::{Answer, Flight, Gate, Phase, Refusal, Settings, CEILING};
+use sgq::{Answer, Flight, Gate, Phase, Refusal, Settings};
+use sgq::{CEILING, MOST_CAPACITY, MOST_DEPTH, MOST_GUESTS, MOST_RATE};
 
 const MS: u64 = 1_000_000;
 
@@ -149,16 +150,21 @@ fn an_id_in_use() {
 fn bad_settings() {
     let good = settings(5, 5, 1);
     let opened = |depth, capacity, guests: &[Settings]| Gate::open(depth, capacity, guests).err();
-    assert_eq!(opened(64, 1_024, &[good; 64]), None);
-    for (depth, capacity) in [(0, 1), (65, 1), (u64::MAX, 1), (1, 0), (1, u64::MAX)] {
-        assert_eq!(opened(depth, capacity, &[good]), Some(Refusal::Setting));
+    let most = vec![good; MOST_GUESTS as usize];
+    assert_eq!(opened(MOST_DEPTH, MOST_CAPACITY, &most), None);
+    for depth in [0, MOST_DEPTH + 1, u64::MAX] {
+        assert_eq!(opened(depth, 1, &[good]), Some(Refusal::Setting));
+    }
+    for capacity in [0, MOST_CAPACITY + 1, u64::MAX] {
+        assert_eq!(opened(1, capacity, &[good]), Some(Refusal::Setting));
     }
     assert_eq!(opened(1, 1, &[]), Some(Refusal::Setting));
-    assert_eq!(opened(1, 1, &[good; 65]), Some(Refusal::Setting));
+    let too_many = vec![good; MOST_GUESTS as usize + 1];
+    assert_eq!(opened(1, 1, &too_many), Some(Refusal::Setting));
     for bad in [
         settings(6, 5, 1),
         settings(0, 0, 0),
-        settings(0, 1_000_001, 1),
+        settings(0, MOST_RATE + 1, 1),
     ] {
         assert_eq!(opened(1, 1, &[good, bad]), Some(Refusal::Setting));
     }

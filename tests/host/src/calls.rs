@@ -70,7 +70,7 @@ fn of_library(
         tables.waiting.len(),
         tables.flight.len(),
     );
-    // SAFETY: six numbers of the gate and the tables as long as they are, each in memory of its own.
+    // SAFETY: all numbers of the gate and the tables as long as they are, each in memory of its own.
     let answer = unsafe {
         match call {
             Call::Open(o) => {
@@ -115,7 +115,7 @@ fn taken_back(call: &Call, tables: &mut Owned, fences: &mut Fences) -> Result<()
 
 fn of_second(call: &Call, tables: &mut Owned) -> raw::Answer {
     let mut lent = tables.lend();
-    four_numbers(match call {
+    in_numbers(match call {
         Call::Open(o) => second::open(o.depth, o.guests, o.capacity, &o.settings, &mut lent),
         &Call::Arrive { guest, id, time } => second::arrive(&mut lent, guest, id, time),
         &Call::Complete { guest, id, time } => second::complete(&mut lent, guest, id, time),
@@ -124,7 +124,7 @@ fn of_second(call: &Call, tables: &mut Owned) -> raw::Answer {
 }
 
 /// The second program's answer as the C interface gives it.
-fn four_numbers(answer: Answer) -> raw::Answer {
+fn in_numbers(answer: Answer) -> raw::Answer {
     let (kind, guest, id, refusal) = match answer {
         Answer::Nothing => (0, 0, 0, 0),
         Answer::Sent { phase, guest, id } => match phase {

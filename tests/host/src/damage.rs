@@ -1,9 +1,12 @@
 //! Random tables, most of them damaged, and random calls on them.
 
 use crate::calls::{Call, Opening};
-use second::numbers::{CEILING, MOST_RATE};
+use second::numbers::{CEILING, MOST_CAPACITY, MOST_DEPTH, MOST_GUESTS, MOST_RATE};
 use second::sample::{sound_tables, spoil, Owned, Prng};
-use second::tables::{FLIGHT_NUMBERS, GATE_NUMBERS, GUEST_NUMBERS, WAITING_NUMBERS};
+use second::tables::Flight;
+use second::tables::{
+    FLIGHT_NUMBERS, GATE_NUMBERS, GUEST_NUMBERS, SETTINGS_NUMBERS, WAITING_NUMBERS,
+};
 
 /// Tables with no damage or up to three.
 pub fn tables(rng: &mut Prng) -> Owned {
@@ -25,7 +28,7 @@ pub fn damage(rng: &mut Prng, tables: &mut Owned) {
     }
 }
 
-/// Any number of any table or of the gate changed, or a table cut anywhere. The gate keeps its six numbers, which the C
+/// Any number of any table or of the gate changed, or a table cut anywhere. The gate keeps its numbers, which the C
 /// interface always lends.
 fn spoil_lent(rng: &mut Prng, tables: &mut Owned) {
     let gate = tables.gate.clone();
@@ -46,7 +49,8 @@ fn rubbish(rng: &mut Prng, tables: &mut Owned) {
 /// A table cut by one number, by a row or so, or to nothing.
 fn cut(rng: &mut Prng, tables: &mut Owned) {
     let table = some_table(rng, tables);
-    let gone = rng.pick(&[1, 1, 2, 5, 6, table.len()]);
+    let rows = [FLIGHT_NUMBERS, WAITING_NUMBERS, GUEST_NUMBERS];
+    let gone = rng.pick(&[1, 1, rows[0], rows[1], rows[2], table.len()]);
     table.truncate(table.len().saturating_sub(gone));
 }
 
@@ -65,21 +69,28 @@ fn repeat_id(rng: &mut Prng, tables: &mut Owned) {
         return;
     }
     match rng.pick(&all) {
-        Row::Waiting(at) => {
-            let guest = tables.waiting[at];
-            let like = all.into_iter().filter(|row| row.guest(tables) == guest);
+        Row::Waiting(place) => {
+            let mut row = tables.view().waiting(place);
+            let like = all
+                .into_iter()
+                .filter(|other| other.guest(tables) == row.guest);
             let like: Vec<_> = like.collect();
-            tables.waiting[at + 1] = rng.pick(&like).id(tables);
+            row.id = rng.pick(&like).id(tables);
+            overwrite(&mut tables.waiting, place, row.numbers());
         }
-        Row::Flight(at) => {
+        Row::Flight(place) => {
             let from = rng.pick(&all);
             let (guest, id) = (from.guest(tables), from.id(tables));
-            tables.flight[at..at + FLIGHT_NUMBERS].copy_from_slice(&[guest, id]);
+            overwrite(&mut tables.flight, place, Flight { guest, id }.numbers());
         }
     }
 }
 
-/// Where a request begins in its table.
+fn overwrite<const WIDTH: usize>(table: &mut [u64], place: usize, row: [u64; WIDTH]) {
+    table[place * WIDTH..][..WIDTH].copy_from_slice(&row);
+}
+
+/// The place of a request in its table.
 #[derive(Clone, Copy)]
 enum Row {
     Waiting(usize),
@@ -89,26 +100,25 @@ enum Row {
 impl Row {
     fn guest(self, tables: &Owned) -> u64 {
         match self {
-            Row::Waiting(at) => tables.waiting[at],
-            Row::Flight(at) => tables.flight[at],
+            Row::Waiting(place) => tables.view().waiting(place).guest,
+            Row::Flight(place) => tables.view().flight(place).guest,
         }
     }
 
     fn id(self, tables: &Owned) -> u64 {
         match self {
-            Row::Waiting(at) => tables.waiting[at + 1],
-            Row::Flight(at) => tables.flight[at + 1],
+            Row::Waiting(place) => tables.view().waiting(place).id,
+            Row::Flight(place) => tables.view().flight(place).id,
         }
     }
 }
 
 /// The requests that the gate counts, as far as the tables reach.
 fn rows(tables: &Owned) -> Vec<Row> {
-    let places = |length: usize, row: usize, count: u64| {
-        (0..(length / row).min(count as usize)).map(move |place| place * row)
-    };
-    let waiting = places(tables.waiting.len(), WAITING_NUMBERS, tables.gate[4]);
-    let flight = places(tables.flight.len(), FLIGHT_NUMBERS, tables.gate[5]);
+    let gate = tables.view().gate();
+    let places = |length: usize, width: usize, count: u64| 0..(length / width).min(count as usize);
+    let waiting = places(tables.waiting.len(), WAITING_NUMBERS, gate.waiting);
+    let flight = places(tables.flight.len(), FLIGHT_NUMBERS, gate.flight);
     waiting
         .map(Row::Waiting)
         .chain(flight.map(Row::Flight))
@@ -130,22 +140,25 @@ pub fn calls(rng: &mut Prng, tables: &Owned) -> [Call; 4] {
 
 /// A guest and an id, often of a request that the tables hold.
 fn named(rng: &mut Prng, tables: &Owned) -> (u64, u32) {
-    let guests = tables.gate[1];
+    let guests = tables.view().gate().guests;
     let any_id = rng.sized(10) as u32;
     let rows = rows(tables);
     match rng.below(10) {
-        0 => (rng.pick(&[guests, 64, u64::MAX, guests | 1 << 32]), any_id),
+        0 => {
+            let unknown = [guests, MOST_GUESTS, u64::MAX, guests | 1 << 32];
+            (rng.pick(&unknown), any_id)
+        }
         1..=4 if !rows.is_empty() => {
             let row = rng.pick(&rows);
             (row.guest(tables), row.id(tables) as u32)
         }
-        _ => (rng.below(guests.clamp(1, 64)), any_id),
+        _ => (rng.below(guests.clamp(1, MOST_GUESTS)), any_id),
     }
 }
 
 /// A time near the gate's, near a tag, near the ceiling, or any.
 fn time(rng: &mut Prng, tables: &Owned) -> u64 {
-    let last = tables.gate[3];
+    let last = tables.view().gate().time;
     match rng.below(16) {
         0 => last.wrapping_sub(rng.between(1, 3)),
         1 => rng.pick(&[CEILING, CEILING + 1, u64::MAX, CEILING - 1]),
@@ -161,12 +174,12 @@ fn time(rng: &mut Prng, tables: &Owned) -> u64 {
 
 /// An opening for which the tables are just long enough, then often something wrong with it.
 fn opening(rng: &mut Prng, tables: &Owned) -> Opening {
-    let fits = |length: usize, row: usize, most: u64| ((length / row) as u64).clamp(1, most);
-    let guests = fits(tables.guests.len(), GUEST_NUMBERS, 64);
+    let fits = |length: usize, width: usize, most: u64| ((length / width) as u64).clamp(1, most);
+    let guests = fits(tables.guests.len(), GUEST_NUMBERS, MOST_GUESTS);
     let mut opening = Opening {
-        depth: fits(tables.flight.len(), FLIGHT_NUMBERS, 64),
+        depth: fits(tables.flight.len(), FLIGHT_NUMBERS, MOST_DEPTH),
         guests,
-        capacity: fits(tables.waiting.len(), WAITING_NUMBERS, 1_024),
+        capacity: fits(tables.waiting.len(), WAITING_NUMBERS, MOST_CAPACITY),
         settings: (0..guests).flat_map(|_| settings(rng)).collect(),
     };
     for _ in 0..rng.pick(&[0, 1, 1, 2]) {
@@ -175,13 +188,14 @@ fn opening(rng: &mut Prng, tables: &Owned) -> Opening {
     opening
 }
 
-fn settings(rng: &mut Prng) -> [u64; 3] {
+fn settings(rng: &mut Prng) -> [u64; SETTINGS_NUMBERS] {
     let settings = second::sample::any_settings(rng);
     [settings.reservation, settings.limit, settings.shares]
 }
 
 fn spoil_opening(rng: &mut Prng, opening: &mut Opening) {
-    let out = [0, 65, 1_025, u64::MAX, 1 << 32 | 1];
+    // The most guests are as many as the most depth.
+    let out = [0, MOST_DEPTH + 1, MOST_CAPACITY + 1, u64::MAX, 1 << 32 | 1];
     let listed = opening.settings.len();
     match rng.below(10) {
         0 => opening.depth = rng.pick(&out),

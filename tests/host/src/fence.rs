@@ -1,14 +1,20 @@
 //! Memory that ends at a fence: a page that must not be touched. What is lent to the library stands right before it, so
 //! that a read or write past a lent length ends the run, with a line that names the seed.
 
+use second::numbers::MOST_CAPACITY;
+use second::tables::WAITING_NUMBERS;
 use std::ffi::{c_int, c_void};
 use std::io::Write;
 use std::slice;
 use std::sync::atomic::{AtomicU64, Ordering};
 
 const PAGE: usize = 4_096;
-const PAGES: usize = 16; // more than the longest table with rubbish behind it
+const PAGES: usize = 16;
 const WORDS: usize = PAGES * PAGE / size_of::<u64>();
+
+/// More than the rubbish behind a table.
+const RUBBISH: usize = 64;
+const _: () = assert!(WORDS >= MARKS + MOST_CAPACITY as usize * WAITING_NUMBERS + RUBBISH);
 
 /// Marks stand before what is lent, against writes before its beginning.
 const MARKS: usize = 8;

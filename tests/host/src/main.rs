@@ -109,7 +109,7 @@ fn damaged_large(first: u64, large: &Owned, fences: &mut Fences, tally: &mut Tal
         let result = four_calls(seed, &mut rng, &tables, fences, &mut seen);
         tally.add(&format!("large tables, seed {seed}"), result);
     }
-    let waiting = large.gate[4];
+    let waiting = large.view().gate().waiting;
     println!(
         "damaged tables with {waiting} waiting: {} calls",
         seen.calls
