@@ -186,11 +186,14 @@ def test_layout(tally):
 
 
 def test_script(tally):
-    """The page of sgq has each word of the script's help."""
+    """The page of sgq has each word of the script's help, and the script the header's version, if it says one."""
     ended = subprocess.run([ROOT / "sgq", "help"], capture_output=True, text=True)
     page = plain((PAGES / "sgq.1").read_text())
-    for word in sorted(set(re.findall(r"\./sgq (\w+)", ended.stdout))):
+    for word in sorted(set(re.findall(r"\./sgq ([\w-]+)", ended.stdout)) - {"WORD"}):
         tally.add(f"sgq {word} in sgq.1", None if f"./sgq {word}" in page else "it is not there")
+    ended = subprocess.run([ROOT / "sgq", "--version"], capture_output=True, text=True)
+    said = re.match(r"sgq (\d+\.\d+\.\d+)\n", ended.stdout)
+    tally.add("the script's version", None if said is None or said.group(1) == VERSION else f"it is not {VERSION}")
 
 
 def tests(tally):
