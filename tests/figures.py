@@ -7,7 +7,6 @@ Figures stand in a block below a line 'Figures `NAME`:', each part that is print
 target/staticlib/libhost.a, which 'rt staticlib host' writes; the environment variable SGQ_LIB may name another archive.
 Ends with 'N passed, M failed'.
 """
-import os
 import pathlib
 import re
 import shutil
@@ -15,9 +14,8 @@ import subprocess
 import sys
 import tempfile
 
-from kit import ROOT, Stop, run_tests
+from kit import LIBRARY, ROOT, Stop, need_library, run_tests
 
-LIBRARY = pathlib.Path(os.environ.get("SGQ_LIB") or ROOT / "target" / "staticlib" / "libhost.a").absolute()
 EXAMPLES = ROOT / "examples"
 PAGE = ROOT / "docs" / "HOSTS.md"
 WARNINGS = ["-Wall", "-Wextra", "-Wpedantic", "-Werror", "-Wshadow", "-Wconversion", "-Wcast-qual"]
@@ -65,8 +63,7 @@ def tests(tally):
     words = sys.argv[1:]
     if words not in ([], ["--mend"]):
         raise Stop("tests/figures.py takes no word but --mend")
-    if not LIBRARY.is_file():
-        raise Stop(f"there is no {LIBRARY}: 'rt staticlib host' in the root writes target/staticlib/libhost.a")
+    need_library()
     found = [name for name in ("gcc", "clang") if shutil.which(name)]
     if not found:
         raise Stop("there is no compiler for C: install gcc or clang")

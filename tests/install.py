@@ -2,8 +2,8 @@
 """Tests what 'make install' installs, in an empty prefix, and the README's commands for a host in C.
 
 The library is target/staticlib/libhost.a, which 'rt staticlib host' writes; the environment variable SGQ_LIB may name
-another archive. Each test runs in a copy of what 'make' needs, where a stand-in for rt writes that archive. The man pages
-are held to the header. Ends with 'N passed, M failed'.
+another archive. Each test runs in a copy of what 'make' needs, where a stand-in for rt writes that archive. The wrapper in
+Rust is built over what is installed, and the man pages are held to the header. Ends with 'N passed, M failed'.
 """
 import os
 import pathlib
@@ -13,9 +13,8 @@ import subprocess
 import sys
 import tempfile
 
-from kit import ROOT, Stop, run_tests
+from kit import LIBRARY, ROOT, Stop, need_library, run_tests
 
-LIBRARY = pathlib.Path(os.environ.get("SGQ_LIB") or ROOT / "target" / "staticlib" / "libhost.a").absolute()
 HEADER = (ROOT / "include" / "sgq.h").read_text()
 README = (ROOT / "README.md").read_text()
 PAGES = ROOT / "install" / "man"
@@ -145,6 +144,18 @@ def test_linked(tally, house, prefix):
         tally.add(f"cc first.c {flags}", why_not(ended, (f"[{soname}]" in ended.stdout) == needed))
 
 
+def test_wrapper(tally, folder, prefix):
+    """The wrapper, away from this repository, finds the installed archive by pkg-config."""
+    shutil.copytree(ROOT / "bindings" / "rust", folder / "wrapper", ignore=shutil.ignore_patterns("target"))
+    environment = {name: value for name, value in os.environ.items() if name != "SGQ_LIB"}
+    words = ["cargo", "test", "--quiet", "--offline", "--manifest-path", folder / "wrapper" / "Cargo.toml"]
+    for name, path, good in (("installed", prefix / "lib" / "pkgconfig", True), ("not installed", "/nowhere", False)):
+        environment.update(PKG_CONFIG_PATH=str(path), PKG_CONFIG_LIBDIR="/nowhere")
+        ended = subprocess.run(words, capture_output=True, text=True, env=environment)
+        why = None if good == (ended.returncode == 0) else f"it ended with {ended}"
+        tally.add(f"bindings/rust where the library is {name}", why)
+
+
 # The man pages.
 
 
@@ -197,11 +208,10 @@ def test_script(tally):
 
 
 def tests(tally):
-    for tool, what in (("make", "installs"), ("cc", "links"), ("pkg-config", "says how"), ("nm", "reads what is shown")):
+    for tool in ("make", "cc", "pkg-config", "nm", "readelf", "cargo"):
         if not shutil.which(tool):
-            raise Stop(f"{tool} is missing: install it, it {what}")
-    if not LIBRARY.is_file():
-        raise Stop(f"there is no {LIBRARY}: 'rt staticlib host' in the root writes target/staticlib/libhost.a")
+            raise Stop(f"{tool} is missing: install it and put it on PATH")
+    need_library()
     with tempfile.TemporaryDirectory() as name:
         folder = pathlib.Path(name)
         for part in ("first", "staged", "readme"):
@@ -209,6 +219,7 @@ def tests(tally):
         house = House(folder / "first")
         test_install(tally, house, folder / "first" / "prefix")
         test_symbols(tally, house, folder / "first" / "prefix")
+        test_wrapper(tally, folder / "first", folder / "first" / "prefix")
         test_staged(tally, house, folder / "staged")
         test_readme(tally, folder / "readme")
     test_pages(tally)
