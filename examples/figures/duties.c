@@ -60,27 +60,29 @@ void ticks_figures(void)
     by_tags();
 }
 
-/* A client with a limit of two a second asks for 32 and goes away; the next client asks for one. */
+/* A client with a limit of two a second asks for 32 and goes away; the next client asks for one. What the gate sends is
+ * completed at once. */
 static void go_away(uint64_t quota)
 {
     const sgq_settings settings[1] = {{0, 2, 1}};
-    const struct load gone = {32, 0, 0, 1, quota};
-    house_open(&house, 4, 64, settings, 1, 4, MS);
+    const struct load gone = {32, 0, 0, 0, quota};
+    house_open(&house, 4, 64, settings, 1, 4, 0);
     house_load(&house, 0, gone);
     house_play(&house, MS);
     house.door.count = 0; /* what has not arrived at the gate can be forgotten */
     uint64_t left = house.gate.waiting;
-    const struct load next = {1, 0, MS, 1, 0};
+    const struct load next = {1, 0, MS, 0, 0};
     house_load(&house, 0, next);
     house_play(&house, 60 * SECOND);
-    printf("%5" PRIu64 "  %21" PRIu64 "  %11s", quota, left, "");
+    print_quota(5, quota);
+    printf("  %17" PRIu64 "  %7s", left, "");
     print_ms(house.tally[0].longest);
     printf("\n");
 }
 
 void withdrawn_figures(void)
 {
-    printf("quota  left at the gate, gone  the next waits, ms\n");
+    printf("quota  left at the gate  the next waits, ms\n");
     go_away(0);
     go_away(4);
 }

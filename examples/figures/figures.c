@@ -13,6 +13,14 @@ void print_ms(uint64_t nanoseconds)
     printf("%9" PRIu64 ".%" PRIu64, nanoseconds / MS, nanoseconds % MS * 10 / MS);
 }
 
+void print_quota(int wide, uint64_t quota)
+{
+    if (quota == 0)
+        printf("%*s", wide, "none");
+    else
+        printf("%*" PRIu64, wide, quota);
+}
+
 void print_answer(const char *what, sgq_answer answer)
 {
     if (answer.kind == SGQ_REFUSED)

@@ -25,6 +25,9 @@ void gates_figures(void);
 void refusals_figures(void);
 void reopen_figures(void);
 
+/* A quota, or that there is none, right-aligned. */
+void print_quota(int wide, uint64_t quota);
+
 /* Nanoseconds as milliseconds, to the tenth, right-aligned. */
 void print_ms(uint64_t nanoseconds);
 

@@ -57,11 +57,13 @@ void capacity_figures(void)
 void quota_figures(void)
 {
     static const uint64_t rows[][2] = {{24, 0}, {64, 0}, {128, 0}, {24, 20}, {64, 60}};
-    printf("capacity  quota of the pictures  bids refused 8  bids: longest to the array, ms\n");
+    printf("capacity  quota of the pictures  refusals 8 of bids  bids: longest to the array, ms\n");
     for (size_t row = 0; row < SGQ_COUNT(rows); row++) {
         const struct tally *bids = &house.tally[ROOM];
         play(4, rows[row][0], rows[row][1]);
-        printf("%8" PRIu64 "  %21" PRIu64 "  %14" PRIu64 "%19s", rows[row][0], rows[row][1], bids->refused, "");
+        printf("%8" PRIu64 "  ", rows[row][0]);
+        print_quota(21, rows[row][1]);
+        printf("  %18" PRIu64 "%21s", bids->refused, "");
         print_ms(bids->longest);
         printf("\n");
     }

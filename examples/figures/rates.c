@@ -186,31 +186,28 @@ static void held_back(void)
     for (uint32_t id = 0; id < 30; id++)
         if (sgq_sent(sgq_tables_arrive(&house.lent, 0, id, 0)))
             return;
-    uint64_t now = 2 * SECOND, sent = 0;
-    sgq_answer answer = sgq_tables_complete(&house.lent, 1, 0, now);
-    for (; sgq_sent(answer); sent++) {
-        now += MS;
-        answer = sgq_tables_complete(&house.lent, 0, (uint32_t)answer.id, now);
-    }
+    const uint64_t free = 2 * SECOND;
+    uint64_t sent = 0;
+    sgq_answer answer = sgq_tables_complete(&house.lent, 1, 0, free);
+    while (sgq_sent(answer))
+        answer = sgq_tables_complete(&house.lent, 0, (uint32_t)answer.id, free + ++sent * MS);
+    uint64_t took = (sent - 1) * MS;
     printf("limit 10 a second, 30 wait, the array is taken for 2 s: then %" PRIu64 " go within %" PRIu64 " ms\n", sent,
-           (now - 2 * SECOND) / MS);
-    printf("in the first 2 s and those ms: %" PRIu64 ", by the limit at most %" PRIu64 "\n", sent,
-           now / (SECOND / 10) + 1);
+           took / MS);
+    printf("by the limit at most %" PRIu64 " have gone by then\n", (free + took) / (SECOND / 10) + 1);
 }
 
 /* Five requests after ten quiet seconds: when each goes, from then. */
 static void after_a_pause(void)
 {
     const sgq_settings settings[1] = {{0, 10, 100}};
-    const struct load first = {1, 0, 0, 1, 0}, later = {5, 0, 10 * SECOND, 1, 0};
+    const struct load first = {1, 0, 0, 0, 0}, later = {5, 0, 10 * SECOND, 0, 0};
     open_array(settings, 1, 4);
     house_load(&house, 0, first);
     house_play(&house, 10 * SECOND);
     house_load(&house, 0, later);
     house_play(&house, 20 * SECOND);
-    printf("5 requests after 10 quiet seconds: the last goes after");
-    print_ms(house.tally[0].longest);
-    printf(" ms\n");
+    printf("5 requests after 10 quiet seconds: the last goes after %" PRIu64 " ms\n", house.tally[0].longest / MS);
 }
 
 void limit_figures(void)
