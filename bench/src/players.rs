@@ -2,7 +2,7 @@
 
 use crate::trace::Trace;
 use second::sample::Owned;
-use second::tables::{Gate as Row, FLIGHT_NUMBERS, SETTINGS_NUMBERS, WAITING_NUMBERS};
+use second::tables::Gate as Row;
 use second::trace::Event;
 use second::{Settings, State};
 
@@ -32,7 +32,7 @@ impl Library {
     }
 }
 
-fn wrapped(&[reservation, limit, shares]: &[u64; SETTINGS_NUMBERS]) -> sgq::Settings {
+fn wrapped(&[reservation, limit, shares]: &[u64; 3]) -> sgq::Settings {
     sgq::Settings {
         reservation,
         limit,
@@ -74,7 +74,7 @@ impl Second {
     }
 }
 
-fn plain(&[reservation, limit, shares]: &[u64; SETTINGS_NUMBERS]) -> Settings {
+fn plain(&[reservation, limit, shares]: &[u64; 3]) -> Settings {
     Settings {
         reservation,
         limit,
@@ -92,9 +92,9 @@ fn tables(state: &State) -> Owned {
         flight: state.flight.len() as u64,
     };
     let mut waiting: Vec<u64> = state.waiting.iter().flat_map(|w| w.numbers()).collect();
-    waiting.resize(state.capacity * WAITING_NUMBERS, 0);
+    waiting.resize(state.capacity * 5, 0);
     let mut flight: Vec<u64> = state.flight.iter().flat_map(|f| f.numbers()).collect();
-    flight.resize(state.depth * FLIGHT_NUMBERS, 0);
+    flight.resize(state.depth * 2, 0);
     Owned {
         gate: gate.numbers().to_vec(),
         guests: state.guests.iter().flat_map(|g| g.numbers()).collect(),

@@ -1,13 +1,12 @@
 //! A bench trace, read whole.
 
-use second::tables::SETTINGS_NUMBERS;
 use second::trace::{Event, EVENT_BYTES, GUEST_BYTES, MARK, START_BYTES};
 
 pub struct Trace {
     pub depth: u64,
     pub capacity: u64,
     /// Reservation, limit and shares of each guest.
-    pub settings: Vec<[u64; SETTINGS_NUMBERS]>,
+    pub settings: Vec<[u64; 3]>,
     pub events: Vec<Event>,
 }
 
@@ -23,14 +22,14 @@ impl Trace {
         let trace = Trace {
             depth: start[5] as u64,
             capacity: u16::from_le_bytes([start[7], start[8]]) as u64,
-            settings: records.map(settings_of).collect(),
+            settings: records.map(three_numbers).collect(),
             events: parts.map(event).collect(),
         };
         (start[..3] == MARK && trace.events.len() == events).then_some(trace)
     }
 }
 
-fn settings_of(record: &[u8]) -> [u64; SETTINGS_NUMBERS] {
+fn three_numbers(record: &[u8]) -> [u64; 3] {
     [0, 4, 8].map(|at| {
         let number = record[at..at + 4].try_into().expect("four bytes");
         u32::from_le_bytes(number) as u64
