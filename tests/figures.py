@@ -7,14 +7,15 @@ Figures stand in a block below a line 'Figures `NAME`:', each part that is print
 target/staticlib/libhost.a, which 'rt staticlib host' writes; the environment variable SGQ_LIB may name another archive.
 Ends with 'N passed, M failed'.
 """
+import concurrent.futures
 import pathlib
 import re
-import shutil
 import subprocess
 import sys
 import tempfile
 
-from kit import LIBRARY, ROOT, Stop, need_library, run_tests
+from kit import CORES, LIBRARY, ROOT, Stop, need_library, run_tests
+from machine import before_linked, compiler, is_installed, say_how
 
 EXAMPLES = ROOT / "examples"
 PAGE = ROOT / "docs" / "HOSTS.md"
@@ -23,13 +24,13 @@ QUOTED = re.compile(r"^(Figures `(\w+)`:\n\n```\n)(.*?)^```$", re.MULTILINE | re
 CODE = re.compile(r"^```c\n(.*?)^```$", re.MULTILINE | re.DOTALL)
 
 
-def printed(compiler):
-    """What the figures' program prints, by part."""
+def printed(name):
+    """What the figures' program prints, by part, where that compiler builds it."""
     with tempfile.TemporaryDirectory() as folder:
         program = pathlib.Path(folder) / "figures"
         sources = sorted((EXAMPLES / "figures").glob("*.c"))
-        words = [compiler, "-std=c99", "-O2", *WARNINGS, f"-I{ROOT / 'include'}", *sources, LIBRARY, "-o", program]
-        for step in (words, [program]):
+        words = [*compiler(name), "-std=c99", "-O2", *WARNINGS, f"-I{ROOT / 'include'}", *sources, LIBRARY, "-o", program]
+        for step in (words, [*before_linked(), program]):
             ended = subprocess.run(step, capture_output=True, text=True)
             if ended.returncode != 0:
                 raise Stop(f"{step[0]} ended with status {ended.returncode}\n{ended.stdout}{ended.stderr}")
@@ -64,14 +65,16 @@ def tests(tally):
     if words not in ([], ["--mend"]):
         raise Stop("tests/figures.py takes no word but --mend")
     need_library()
-    found = [name for name in ("gcc", "clang") if shutil.which(name)]
+    found = [name for name in ("gcc", "clang") if is_installed(name)]
     if not found:
         raise Stop("there is no compiler for C: install gcc or clang")
-    figures = printed(found[0])
+    say_how(linked=True)
+    with concurrent.futures.ThreadPoolExecutor(CORES) as pool:
+        figures, *others = pool.map(printed, found)
     if words:
         mend(figures)
-    for compiler in found[1:]:
-        tally.add(f"figures, {compiler}", None if printed(compiler) == figures else "they are not the same")
+    for name, other in zip(found[1:], others):
+        tally.add(f"figures, {name}", None if other == figures else "they are not the same")
     test_figures(tally, figures)
     test_code(tally)
 

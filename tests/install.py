@@ -13,6 +13,7 @@ import subprocess
 import sys
 import tempfile
 
+import machine
 from kit import LIBRARY, ROOT, Stop, need_library, run_tests
 
 HEADER = (ROOT / "include" / "sgq.h").read_text()
@@ -23,6 +24,22 @@ RT = """#!/bin/sh
 echo called >>"{calls}"
 mkdir -p target/staticlib && cp "{library}" target/staticlib/libhost.a
 """
+# Where programs for x86-64 do not run as they are: the cross compiler, and around what it links a script that runs it.
+CC = """#!/bin/sh
+{gcc} "$@" || exit
+made=a.out
+while [ $# -gt 0 ]; do
+    case $1 in -shared) exit ;; -o) made=$2 ;; esac
+    shift
+done
+mv "$made" "$made{linked}"
+cat >"$made" <<'END'
+#!/bin/sh
+exec {before}${{LD_LIBRARY_PATH:+:$LD_LIBRARY_PATH}} "$0{linked}" "$@"
+END
+chmod +x "$made"
+"""
+LINKED = "" if machine.OWN else ".x86-64"  # the end of the name of what cc has linked
 
 
 class House:
@@ -36,8 +53,13 @@ class House:
             shutil.copy(ROOT / name, self.root)
         (self.root / "crates").mkdir()
         self.bin.mkdir()
-        (self.bin / "rt").write_text(RT.format(calls=self.calls, library=LIBRARY))
-        (self.bin / "rt").chmod(0o755)
+        self.stand_in("rt", RT.format(calls=self.calls, library=LIBRARY))
+        if not machine.OWN:
+            self.stand_in("cc", CC.format(gcc=machine.GCC, linked=LINKED, before=" ".join(machine.before_linked())))
+
+    def stand_in(self, name, text):
+        (self.bin / name).write_text(text)
+        (self.bin / name).chmod(0o755)
 
     def sh(self, text, **more):
         """Runs a script in the house; SGQ_LIB is not handed on, and pkg-config knows only what the script says."""
@@ -130,7 +152,7 @@ def test_readme(tally, folder):
 
 
 # How pkg-config links a program, and whether that then needs the shared object.
-LINKED = {
+WAYS = {
     "$(pkg-config --cflags --libs sgq)": True,
     "$(pkg-config --cflags sgq) $(pkg-config --variable=archive sgq)": False,
 }
@@ -138,8 +160,8 @@ LINKED = {
 
 def test_linked(tally, house, prefix):
     soname = "libsgq.so." + VERSION.rpartition(".")[0]
-    for flags, needed in LINKED.items():
-        line = f"cc first.c {flags} -o linked && readelf -d linked"
+    for flags, needed in WAYS.items():
+        line = f"cc first.c {flags} -o linked && readelf -d linked{LINKED}"
         ended = house.sh(line, PKG_CONFIG_PATH=str(prefix / "lib" / "pkgconfig"))
         tally.add(f"cc first.c {flags}", why_not(ended, (f"[{soname}]" in ended.stdout) == needed))
 
@@ -148,6 +170,7 @@ def test_wrapper(tally, folder, prefix):
     """The wrapper, away from this repository, finds the installed archive by pkg-config."""
     shutil.copytree(ROOT / "bindings" / "rust", folder / "wrapper", ignore=shutil.ignore_patterns("target"))
     environment = {name: value for name, value in os.environ.items() if name != "SGQ_LIB"}
+    environment.update(machine.cargo_environment())
     words = ["cargo", "test", "--quiet", "--offline", "--manifest-path", folder / "wrapper" / "Cargo.toml"]
     for name, path, good in (("installed", prefix / "lib" / "pkgconfig", True), ("not installed", "/nowhere", False)):
         environment.update(PKG_CONFIG_PATH=str(path), PKG_CONFIG_LIBDIR="/nowhere")
@@ -212,6 +235,7 @@ def tests(tally):
         if not shutil.which(tool):
             raise Stop(f"{tool} is missing: install it and put it on PATH")
     need_library()
+    machine.say_how(linked=True)
     with tempfile.TemporaryDirectory() as name:
         folder = pathlib.Path(name)
         for part in ("first", "staged", "readme"):

@@ -1,12 +1,12 @@
 """What the tests share: the second program and its random traces, the library, the text tool, and the count of what passed."""
 import os
 import pathlib
-import platform
 import shutil
 import subprocess
 import sys
 
-ROOT = pathlib.Path(__file__).resolve().parent.parent
+from machine import ROOT, Stop, need_linking
+
 FAILED = ROOT / "target" / "failed"
 BUILT = ROOT / "second" / "target"
 SECOND = BUILT / "release" / "second"
@@ -20,17 +20,13 @@ sys.path.insert(0, str(ROOT / "samples"))
 import sgqtext  # noqa: E402  (it stands in samples/)
 
 
-class Stop(Exception):
-    """Why no test can be run."""
-
-
 def need_library():
     """The library is there, and this machine can link it."""
     if not LIBRARY.is_file():
         raise Stop(f"there is no {LIBRARY}: 'rt staticlib host' in the root writes target/staticlib/libhost.a")
-    of = LIBRARY.read_bytes().partition(b"\x7fELF")[2][14:16]
-    if of == X86_64 and platform.machine() != "x86_64":
-        raise Stop(f"{LIBRARY} is for x86-64, and this machine is {platform.machine()}: no program here can link it")
+    if LIBRARY.read_bytes().partition(b"\x7fELF")[2][14:16] != X86_64:
+        raise Stop(f"{LIBRARY} is not for x86-64")
+    need_linking()
 
 
 def build_second():

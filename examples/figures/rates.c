@@ -120,7 +120,8 @@ void ahead_figures(void)
     at_the_ceiling();
 }
 
-/* A guest runs alone, pauses for a second, and comes back beside another of the same shares. */
+/* A guest runs alone, pauses for a second, and comes back beside another of the same shares. It waits no longer than it ran
+ * alone, and that is played out. */
 static void come_back(uint64_t alone, uint64_t shares)
 {
     const sgq_settings settings[2] = {{0, 0, shares}, {0, 0, shares}};
@@ -131,7 +132,7 @@ static void come_back(uint64_t alone, uint64_t shares)
     house_play(&house, alone + 2 * SECOND);
     house_count_anew(&house);
     keep_busy(0, 16, alone + 2 * SECOND);
-    house_play(&house, 3 * alone + 100 * SECOND);
+    house_play(&house, 2 * alone + 10 * SECOND);
     printf("%8" PRIu64 "  %6" PRIu64 "  ", alone / SECOND, shares);
     printf("%14s", "");
     print_ms(house.tally[0].longest);
