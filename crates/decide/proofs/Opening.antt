@@ -2,14 +2,13 @@
 -- Assumes nothing.
 use Prim.Native.Nat.{ℕ, _*_}
 use mathlib.Core.Path.{_≡_, refl, sym, ap, _∙_, subst}
-use mathlib.Core.Bool.{true, false, not}
+use mathlib.Core.Bool.{true, false}
 use mathlib.Core.List.{List}
 use native.Mathlib.Omega.{arith}
 use lib.ListN.{length}
 use lib.Seq.{sets, length-sets}
-use borrow.Author.Tests.{le-ltb, not-true}
+use borrow.Author.Tests.{le-ltb}
 use Rattle.lists.specs.Words.{all}
-use Rattle.lists.specs.WordsLaws.{both}
 use Rattle.lists.specs.Tab.{tab}
 use Rattle.lists.specs.Rows.{rowsOf}
 use Rattle.rules.specs.declared.Settings.{Settings}
@@ -19,11 +18,12 @@ use Rattle.rules.specs.Run.{fresh}
 use Rattle.rules.specs.declared.Outcome.{Outcome}
 use Rattle.rules.specs.declared.Answer.the-variants.{Nothing}
 use Rattle.table.specs.Columns.{guestWide, waitingWide, flightWide, settingsWide}
-use Rattle.table.specs.View.{settingsForm, tableOf, Handed, handed, short, soundNumbers, Known}
-use Rattle.gate.specs.Promise.{Seen, seen, openShort, openedBy, openingAt, opened}
+use Rattle.table.specs.View.{settingsForm, tableOf, Handed, handed, Known}
+use Rattle.gate.specs.Promise.{numbers, handedIn, Seen, seen, openShortIn, openedByIn, openingIn, openedIn, opened}
 use Rattle.gate.specs.Calls.{taken}
-use Rattle.gate.proofs.Verdicts.{firm-known}
-use Rattle.gate.proofs.Opened.{opened-firm}
+use Rattle.gate.proofs.Lending.{numbers-lawful}
+use Rattle.gate.proofs.Verdicts.{handed-numbers}
+use Rattle.gate.proofs.Opened.{opened-firm, opened-known}
 use Rattle.trace.specs.Header.{numberAt, settingsAt, settingsIn, headerOf}
 use Rattle.trace.specs.declared.Header.the-variants.{Opened}
 use Rattle.trace.proofs.HeaderLaws.{Opens, opened as header-opens}
@@ -46,32 +46,29 @@ module _ (bs old gs ws fs : List ℕ) (d n c : ℕ) (h : headerOf bs ≡ Opened 
   rows : rowsOf settingsForm ss n ≡ settingsIn bs
   rows = settings-rows bs old n (omega (arith, z .guests, large .settings)) ∙ ap (λ (k : ℕ). tab k (settingsAt bs)) (o .guestsIs)
 
-  long : openShort d n c ss gs ws fs ≡ false
-  unfolding openShort
+  long : openShortIn numbers d n c ss gs ws fs ≡ false
+  unfolding openShortIn
   long =
       rw (le-ltb (length ss) (n * settingsWide) (omega (arith, z .guests, large .settings, length-sets old 0 (tab (n * settingsWide) (numberAt bs)))), le-ltb (length gs) (n * guestWide) (omega (arith, z .guests, large .guests)), le-ltb (length ws) (c * waitingWide) (omega (arith, z .capacity, large .waiting)), le-ltb (length fs) (d * flightWide) (omega (arith, z .depth, large .flight)))
       refl
 
-  accepts : openingAt d n c ss gs ws fs ≡ accept
-  unfolding openingAt openTests
+  accepts : openingIn numbers d n c ss gs ws fs ≡ accept
+  unfolding openingIn openTests
   accepts = let s : all settled (rowsOf settingsForm ss n) ≡ true = ap (all settled) rows ∙ o .settings in simp (o .counts, long, s)
 
   is-fresh : opened d n c ss gs ws fs ≡ handed gs ws fs (record { table = fresh d c (settingsIn bs); answer = Nothing })
-  unfolding opened
+  unfolding openedIn
   is-fresh =
-      ap (λ (v : Verdict). openedBy v d n c ss gs ws fs) accepts
-      ∙ ap (λ (l : List Settings). handed gs ws fs (record { table = fresh d c l; answer = Nothing })) rows
+      ap (λ (v : Verdict). openedByIn numbers v d n c ss gs ws fs) accepts
+      ∙ ap (λ (l : List Settings). handedIn numbers gs ws fs (record { table = fresh d c l; answer = Nothing })) rows
+      ∙ handed-numbers gs ws fs (record { table = fresh d c (settingsIn bs); answer = Nothing })
 
   is-taken : taken (opened d n c ss gs ws fs .0 .answer) ≡ true
   unfolding handed
   is-taken = ap (λ (x : Handed). taken (x .0 .answer)) is-fresh
 
   is-known : Known (opened d n c ss gs ws fs .0 .gate) (opened d n c ss gs ws fs .1) (opened d n c ss gs ws fs .2) (opened d n c ss gs ws fs .3)
-  is-known =
-      let x = opened d n c ss gs ws fs in
-      let f = opened-firm d n c ss gs ws fs is-taken .0 in
-      let b = both (not (short (x .0 .gate) (x .1) (x .2) (x .3))) (soundNumbers (x .0 .gate) (x .1) (x .2) (x .3)) f in
-      firm-known (x .0 .gate) (x .1) (x .2) (x .3) (not-true (short (x .0 .gate) (x .1) (x .2) (x .3)) (b .0)) (b .1)
+  is-known = opened-known d n c ss gs ws fs is-taken
 
   module _ (r : Outcome) (hs vs es : List ℕ) (p : seen (r, hs, vs, es) ≡ seen (opened d n c ss gs ws fs)) where
     -- the tables became the fresh one
@@ -87,5 +84,5 @@ module _ (bs old gs ws fs : List ℕ) (d n c : ℕ) (h : headerOf bs ≡ Opened 
     pub opening-shows : tableOf (r .gate) hs vs es ≡ fresh d c (settingsIn bs)
     opening-shows =
         ap (λ (x : Seen). tableOf (x .0) (x .2) (x .3) (x .4)) p
-        ∙ opened-firm d n c ss gs ws fs is-taken .1
+        ∙ opened-firm numbers numbers-lawful d n c ss gs ws fs is-taken .1
         ∙ ap (fresh d c) rows

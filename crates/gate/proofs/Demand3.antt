@@ -1,5 +1,5 @@
 -- DEMAND 3 of the calls: a waiting request whose reservation is due goes by reservation, after exactly those that stand before it, over any run
--- of calls, for every way in which guests are lent. Assumes nothing.
+-- of calls, for every way in which guests are lent. Words in quotes are demand 3's. Assumes nothing.
 use Prim.Native.Nat.{ℕ, suc, _<_}
 use mathlib.Core.Path.{_≡_, refl, sym, ap, _∙_}
 use mathlib.Core.Bool.{Bool, true, false, not, _&&_}

@@ -34,7 +34,7 @@ took n (e ∷ es) (a ∷ got) = (if taken a then brings n e else []) ++ took n e
 
 -- DEMAND 3, read off the gates and the answers
 
--- an event that is accepted at the gate g finds "a place free at the array (a completion frees its own first)"
+-- demand 3: an event that is accepted at the gate g finds "a place free at the array (a completion frees its own first)"
 abbrev pub finds : Event → Gate → Bool
 finds (Arrival a now) g = ltb (g .flight) (g .setup .depth)
 finds (Completion f now) g = ltb (g .flight - 1) (g .setup .depth)
@@ -88,10 +88,10 @@ module _ (v : Lending) where
   abbrev pub standing : Host → ℕ → Request
   standing h i = requestForm .read (lineAt waitingWide (h .waiting) i)
 
-  -- the request at place i is "a waiting request whose reservation tag is at or before that time"
+  -- demand 3: the request at place i is "a waiting request whose reservation tag is at or before that time"
   abbrev pub dueThere : Host → ℕ → Bool
   dueThere h i = isDue (shows h) (standing h i)
 
-  -- the waiting requests that stand before the one at place i "by reservation tag, equal tags by order of acceptance"
+  -- demand 3: the waiting requests that stand before the one at place i "by reservation tag, equal tags by order of acceptance"
   abbrev pub aheadOf : Host → ℕ → List Request
   aheadOf h i = ahead (shows h) (standing h i) (take i (shows h .waiting)) (drop (suc i) (shows h .waiting))

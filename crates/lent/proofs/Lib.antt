@@ -1,5 +1,6 @@
 pub mod Again
 pub mod ByValue
+pub mod Calls
 pub mod Copier
 pub mod Copying
 pub mod Lent

@@ -125,7 +125,7 @@ module _ (X : RattleType) (pass : ByValue X) (R : RattleType) (asked : List (R .
     goes-put : (ν : ℕ) (δ : GName) → ent 𝓤 (sep 𝓤 (A .lft (ν ∷ []) fullShare) (sem 𝓤 H A (MutSlice (named 0) (ν ∷ []) R .own (y δ l) (sp (length l) ∷ [])))) (Put 𝓤 H A .pre (to-put ν δ))
     goes-put ν δ =
         qed W (‵ (flft (ν ∷ []) fullShare) ∷ ‵ (MutSlice (named 0) (ν ∷ []) R .own (y δ l) (sp (length l) ∷ [])) ∷ []) ∵ says ! ok $ nothing ! $ move ! (1 ∷ 0 ∷ []) $ join ! $ frame ! $
-        nothing ! $ owned ! X (Is X) (pass .makes 𝓤 H A) g _ is $ fjoin ! $ owned ! usize (Is usize) (uint-makes 𝓤 H A W w64) i _ (refl, fits) $ fjoin ! $ move ! (1 ∷ 0 ∷ []) $ fjoin ! $ done !
+        nothing ! $ owned ! X (Is X) (pass .makes 𝓤 H A W) g _ is $ fjoin ! $ owned ! usize (Is usize) (uint-makes 𝓤 H A W w64) i _ (refl, fits) $ fjoin ! $ move ! (1 ∷ 0 ∷ []) $ fjoin ! $ done !
 
     module _ {K : Type 0} {Γ : List (Item 𝓤)} {E : Env 𝓤 H} {C : Calls 𝓤 H} {Λ : Loops 𝓤 H} {qq : Post 𝓤 H} {d : Place} {rest : Body} {xs : List Operand} {f : Name} where
       pub calls-put : K → FmC 𝓤 H (W .laws) C → Triple 𝓤 (C f) (Put 𝓤 H A) → ((i′ j : Item 𝓤) → Opds K W (i′ ∷ j ∷ Γ) E xs (sp n ∷ vint w64 i ∷ pass .val g ∷ []))

@@ -50,6 +50,6 @@ guest = record {
   mir = G′.mir;
   val = val;
   tells = tells;
-  makes = λ 𝓤 H A. LL.makes G.the-type G′.the-plain 𝓤 H A;
+  makes = λ 𝓤 H A W. LL.makes G.the-type G′.the-plain 𝓤 H A;
   typed = λ 𝓤 H A W x w p. LL.lawful G.the-type G′.the-laws 𝓤 H A W .typed x (w ∷ []) p .0;
 }

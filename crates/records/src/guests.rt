@@ -17,7 +17,7 @@ ghost use lib.ListN.{length, getD, set, take, drop};
 ghost use Rattle.lists.specs.Stores.{stores};
 ghost use Rattle.lists.specs.Lines.{lineAt};
 ghost use Rattle.lists.specs.Rows.{rowsOf, overRows};
-ghost use Rattle.table.specs.Columns.{GUEST_WIDE, guestWide};
+ghost use Rattle.table.specs.Columns.{guestWide};
 ghost use Rattle.table.specs.View.{guestForm};
 ghost use Rattle.records.specs.Records.{blank, inUse};
 

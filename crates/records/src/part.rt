@@ -7,7 +7,7 @@ use table::columns::GUEST_WIDE;
 ghost use mathlib.Core.Path.{_≡_};
 ghost use Prim.Native.Nat.{_*_, _≤_};
 ghost use lib.ListN.{length};
-ghost use Rattle.table.specs.Columns.{GUEST_WIDE, guestWide};
+ghost use Rattle.table.specs.Columns.{guestWide};
 ghost use Rattle.gate.specs.Promise.{seen, called, opened};
 ghost use Rattle.records.specs.Records.{inPart};
 

@@ -28,7 +28,7 @@ abbrev pub NoneHolds : List Case → Type 0
 NoneHolds [] = Unit {0}
 NoneHolds (c ∷ cs) = (c .condition → ⊥) × NoneHolds cs
 
--- "Given when": `gives n` is that a call gives number n, `accepts` that it gives none. A number may stand twice; one that does not stand in the
+-- when each number is given: `gives n` is that a call gives number n, `accepts` that it gives none. A number may stand twice; one that does not stand in the
 -- list is never given
 pub record RefusedExactly (cases : List Case) (gives : ℕ → Type 0) (accepts : Type 0) : Type 0 where
   pub number : (n : ℕ) → gives n ↔ FirstOf n cases

@@ -143,7 +143,7 @@ module _ {M : Type 1} (𝓤 : URA M) (H : Heap 𝓤) (A : Atoms 𝓤) (W : Given
         move t (0 ∷ 6 ∷ 5 ∷ 4 ∷ 3 ∷ 2 ∷ 1 ∷ []) $
         z r w (ws .1 .1 .1 .1 .0) (ws .1 .1 .1 .1 .1 .1 .0) (ws .1 .1 .1 .1 .1 .1 .1 .0) e (len-rows ∙ length-all wanted gs) len-waiting len-flight is))))))))))
 
-  module _ (C : Calls 𝓤 H) (Λ : Loops 𝓤 H) (fm : FmC 𝓤 H (W .laws) C) (known-used : Triple 𝓤 (C #records·guests·used) (Used 𝓤 H A mem run)) (known-unpack : Triple 𝓤 (C #records·guests·unpack) (Unpack 𝓤 H A mem run))
+  module _ (C : Calls 𝓤 H) (Λ : Loops 𝓤 H) (fm : FmC 𝓤 H (W .laws) C) (known-used : Triple 𝓤 (C #records·guests·used) (Used 𝓤 H A)) (known-unpack : Triple 𝓤 (C #records·guests·unpack) (Unpack 𝓤 H A mem run))
       (known-part : Triple 𝓤 (C #records·part·open) (Part 𝓤 H A mem run)) (known-pack : Triple 𝓤 (C #records·guests·pack) (Pack 𝓤 H A mem run)) where
     -- the walk; before a statement stands what is at hand, _i being the place of local i
     walk : ent 𝓤 (onEntry 𝓤 H A f.signature (κ0, (κ1, (κ2, (κ3, tt)))) (q0, (q1, (q2, (q3, tt)))) a at-vals) (WpFn 𝓤 H C Λ code.function (vint w64 depth ∷ vint w64 known ∷ vint w64 capacity ∷ sv settings ∷ sv guests ∷ sv waiting ∷ sv flight ∷ []) Post)
@@ -167,7 +167,7 @@ module _ {M : Type 1} (𝓤 : URA M) (H : Heap 𝓤) (A : Atoms 𝓤) (W : Given
         move ! (19 ∷ []) $ makes-rows ! refl $
         -- let count = used(known, guests.len());
         assigns ! (of-opd ! (load ! (from ! (fld ! refl (stop !))) (look-in ! 22 (sub ! 1 refl (whole !))))) (from ! (stop !)) (init ! 17 refl (tt, record { fits = guests-ok .0 })) $
-        calls-used 𝓤 H A W mem run wanted (length gs) wanted-ok (guests-ok .0) ! fm known-used (λ i. (and-then ! (load ! (from ! (stop !)) (look ! 26 refl)) (and-then ! (load ! (from ! (stop !)) (look ! 18 refl)) (no-more !)))) $
+        calls-used 𝓤 H A W wanted (length gs) wanted-ok (guests-ok .0) ! fm known-used (λ i. (and-then ! (load ! (from ! (stop !)) (look ! 26 refl)) (and-then ! (load ! (from ! (stop !)) (look ! 18 refl)) (no-more !)))) $
         land ! (from ! (stop !)) (init ! 19 refl (tt, record { fits = k-ok })) $
         -- unpack(guests, count, &mut rows);
         -- [rows; deaths; _26 .. _9; _7 .. _0; guests; κ1; settings; waiting; flight; κ0; κ2; κ3; kept settings]
@@ -197,7 +197,7 @@ module _ {M : Type 1} (𝓤 : URA M) (H : Heap 𝓤) (A : Atoms 𝓤) (W : Given
         by ! (exits r w zs waiting′ flight′ e len-waiting len-flight)))))))))))))))))))))))))))))
 
 module _ {M : Type 1} (𝓤 : URA M) (H : Heap 𝓤) (A : Atoms 𝓤) (W : Given 𝓤 H A) (mem : Memory → SProp 𝓤) (run : Routine → Fun 𝓤) where
-  walks : (C : Calls 𝓤 H) (Λ : Loops 𝓤 H) → FmC 𝓤 H (W .laws) C → Triple 𝓤 (C #records·guests·used) (Used 𝓤 H A mem run) → Triple 𝓤 (C #records·guests·unpack) (Unpack 𝓤 H A mem run) → Triple 𝓤 (C #records·part·open) (Part 𝓤 H A mem run) → Triple 𝓤 (C #records·guests·pack) (Pack 𝓤 H A mem run)
+  walks : (C : Calls 𝓤 H) (Λ : Loops 𝓤 H) → FmC 𝓤 H (W .laws) C → Triple 𝓤 (C #records·guests·used) (Used 𝓤 H A) → Triple 𝓤 (C #records·guests·unpack) (Unpack 𝓤 H A mem run) → Triple 𝓤 (C #records·part·open) (Part 𝓤 H A mem run) → Triple 𝓤 (C #records·guests·pack) (Pack 𝓤 H A mem run)
       → Walks 𝓤 H A f.ended stayed (WpFn 𝓤 H C Λ code.function) (f.clauses 𝓤 H A mem run)
   walks C Λ fm known-used known-unpack known-part known-pack = walked 𝓤 H A f.ended stayed (f.clauses 𝓤 H A mem run) (WpFn 𝓤 H C Λ code.function)
       (λ κs. (uint-vals w64, (uint-vals w64, (uint-vals w64, (slice-vals, (slice-vals, (slice-vals, (slice-vals, tt))))))))
@@ -206,7 +206,7 @@ module _ {M : Type 1} (𝓤 : URA M) (H : Heap 𝓤) (A : Atoms 𝓤) (W : Given
       (walk 𝓤 H A W mem run (κs .0) (κs .1 .0) (κs .1 .1 .0) (κs .1 .1 .1 .0) (qs .0) (qs .1 .0) (qs .1 .1 .0) (qs .1 .1 .1 .0) (a .0) (a .1 .0) (a .1 .1 .0) (a .1 .1 .1 .0) (a .1 .1 .1 .1 .0) (a .1 .1 .1 .1 .1 .0) (a .1 .1 .1 .1 .1 .1 .0) (are .0 .1) (are .1 .0 .1) (are .1 .1 .0 .1) (are .1 .1 .1 .0 .0 .1) (are .1 .1 .1 .1 .0 .0 .1) (are .1 .1 .1 .1 .1 .0 .0 .1) (are .1 .1 .1 .1 .1 .1 .0 .0 .1) C Λ fm known-used known-unpack known-part known-pack))
 
 meets : {M : Type 1} (𝓤 : URA M) (H : Heap 𝓤) (A : Atoms 𝓤) → Given 𝓤 H A → (mem : Memory → SProp 𝓤) (run : Routine → Fun 𝓤) (𝓣 : Tables 𝓤 H)
-    → Triple 𝓤 (𝓣 .C #records·guests·used) (Used 𝓤 H A mem run) → Triple 𝓤 (𝓣 .C #records·guests·unpack) (Unpack 𝓤 H A mem run) → Triple 𝓤 (𝓣 .C #records·part·open) (Part 𝓤 H A mem run) → Triple 𝓤 (𝓣 .C #records·guests·pack) (Pack 𝓤 H A mem run)
+    → Triple 𝓤 (𝓣 .C #records·guests·used) (Used 𝓤 H A) → Triple 𝓤 (𝓣 .C #records·guests·unpack) (Unpack 𝓤 H A mem run) → Triple 𝓤 (𝓣 .C #records·part·open) (Part 𝓤 H A mem run) → Triple 𝓤 (𝓣 .C #records·guests·pack) (Pack 𝓤 H A mem run)
     → Meets 𝓤 H A f.signature (WpFn 𝓤 H (𝓣 .C) (𝓣 .Λ) code.function) (f.spec 𝓤 H A mem run)
 meets 𝓤 H A W mem run 𝓣 known-used known-unpack known-part known-pack =
     walk-meets 𝓤 H A f.ended stayed W (goes-none 𝓤 H A W 4 (λ _. u64) yes (λ κs x f. refl), (goes-none 𝓤 H A W 4 (λ _. u64) yes (λ κs x f. refl), (goes-none 𝓤 H A W 4 (λ _. u64) yes (λ κs x f. refl), (goes-none-slice 𝓤 H A W 4 (0 ∷ []) tt (plain (λ _. u64)) yes, (goes-slice 𝓤 H A W 4 1 tt (plain (λ _. Rec)), (goes-gave-slice 𝓤 H A W 4 2 tt (plain (λ _. u64)), (goes-gave-slice 𝓤 H A W 4 3 tt (plain (λ _. u64)), tt)))))))
@@ -218,7 +218,7 @@ open-spec 𝓤 H 𝓜 𝓖 𝓡 =
     entered 𝓤 H (tripleOf 𝓤 H (𝓖 .A) f.signature (f.spec 𝓤 H (𝓖 .A) (𝓜 .mem) (𝓡 .run)))
     (tables 𝓤 H 𝓜 𝓡 code.env .C) (tables 𝓤 H 𝓜 𝓡 code.env .Λ) #records·open code.function (code.unfolded 𝓤 H 𝓜 𝓡)
     (meets 𝓤 H (𝓖 .A) (givenOf 𝓤 H 𝓜 𝓖) (𝓜 .mem) (𝓡 .run) (tablesOf 𝓤 H 𝓜 (tables 𝓤 H 𝓜 𝓡 code.env))
-    (cited 𝓤 H (Used 𝓤 H (𝓖 .A) (𝓜 .mem) (𝓡 .run)) 𝓜 𝓡 code.env #records·guests·used used-def.routine code.calls-records·guests·used (used-thm.met 𝓤 H 𝓜 𝓖 𝓡))
+    (cited 𝓤 H (Used 𝓤 H (𝓖 .A)) 𝓜 𝓡 code.env #records·guests·used used-def.routine code.calls-records·guests·used (used-thm.met 𝓤 H 𝓜 𝓖 𝓡))
     (cited 𝓤 H (Unpack 𝓤 H (𝓖 .A) (𝓜 .mem) (𝓡 .run)) 𝓜 𝓡 code.env #records·guests·unpack unpack-def.routine code.calls-records·guests·unpack (unpack-thm.met 𝓤 H 𝓜 𝓖 𝓡))
     (cited 𝓤 H (Part 𝓤 H (𝓖 .A) (𝓜 .mem) (𝓡 .run)) 𝓜 𝓡 code.env #records·part·open part-def.routine code.calls-records·part·open (part-thm.met 𝓤 H 𝓜 𝓖 𝓡))
     (cited 𝓤 H (Pack 𝓤 H (𝓖 .A) (𝓜 .mem) (𝓡 .run)) 𝓜 𝓡 code.env #records·guests·pack pack-def.routine code.calls-records·guests·pack (pack-thm.met 𝓤 H 𝓜 𝓖 𝓡)))
