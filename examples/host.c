@@ -100,14 +100,8 @@ static void stop(const char *what, sgq_answer answer)
 
 static void open_gate(struct host *host)
 {
-    host->lent.gate = &host->gate;
-    host->lent.guests = host->guests;
-    host->lent.guest_count = GUESTS;
-    host->lent.waiting = host->waiting;
-    host->lent.waiting_count = CAPACITY;
-    host->lent.flight = host->flight;
-    host->lent.flight_count = DEPTH;
-    sgq_answer answer = sgq_tables_open(&host->lent, DEPTH, GUESTS, CAPACITY, settings, GUESTS);
+    host->lent = (sgq_tables)SGQ_TABLES(host->gate, host->guests, host->waiting, host->flight);
+    sgq_answer answer = sgq_tables_open_all(&host->lent, settings, GUESTS);
     if (answer.kind == SGQ_REFUSED)
         stop("opening", answer);
 }
@@ -209,7 +203,7 @@ static uint64_t sooner(uint64_t a, uint64_t b)
 static uint64_t next_wake(const struct host *host)
 {
     uint64_t wake = NEVER;
-    if (host->gate.flight == host->gate.depth)
+    if (sgq_free_places(&host->gate) == 0)
         return NEVER;
     for (size_t place = 0; place < host->gate.waiting; place++) {
         const sgq_request *request = &host->waiting[place];

@@ -1,4 +1,4 @@
-/* sgq.h: the proved disc gate, for a host in C99 or C++.
+/* sgq.h: the proved disc gate, for a host in C99 or C++11.
  *
  * The gate holds the requests of 1 to 64 guests for one disc array and decides, after each event, whether one goes to
  * the array: at most one. Events are an arrival (guest, id, time), a completion (guest, id, time) and a tick (time).
@@ -10,17 +10,36 @@
  *
  * What the host owes, since C does not check it:
  * - A pointer is never NULL, points to 64-bit numbers, and the length beside it is true. A length is a count of numbers
- *   in the calls, and a count of records in the helpers below.
+ *   in the calls, and a count of records in the helpers below, where a table of no records may be NULL.
  * - The gate and the tables do not overlap, and nobody else reads or writes them during a call. Calls on different
  *   gates may run at the same time.
  *
- * Link with libhost.a, which is for x86-64 Linux: cc -Iinclude host.c target/staticlib/libhost.a
+ * The library is for x86-64 Linux. Link the archive where it is built, or what 'make install' installs:
+ *   cc -Iinclude host.c target/staticlib/libhost.a
+ *   cc host.c $(pkg-config --cflags --libs sgq)
  */
 #ifndef SGQ_H
 #define SGQ_H
 
 #include <stddef.h>
 #include <stdint.h>
+
+/* The version of this header and of the library that it belongs to. While the major number is 0, another minor number
+ * means other calls or other rows. SGQ_VERSION is the text "MAJOR.MINOR.PATCH". */
+#define SGQ_VERSION_MAJOR 0
+#define SGQ_VERSION_MINOR 1
+#define SGQ_VERSION_PATCH 0
+#define SGQ_VERSION \
+    SGQ_TEXT_OF(SGQ_VERSION_MAJOR) "." SGQ_TEXT_OF(SGQ_VERSION_MINOR) "." SGQ_TEXT_OF(SGQ_VERSION_PATCH)
+#define SGQ_TEXT_OF(macro) SGQ_TEXT(macro)
+#define SGQ_TEXT(words) #words
+
+/* An answer that is thrown away may be a request that never reaches the array, so compilers that can do warn of it. */
+#ifdef __GNUC__
+#define SGQ_MUST_USE __attribute__((warn_unused_result))
+#else
+#define SGQ_MUST_USE
+#endif
 
 #ifdef __cplusplus
 extern "C" {
@@ -147,37 +166,37 @@ enum sgq_refusal {
 /* Opens a gate: the answer is SGQ_NOTHING, or refused with 1 or 2. Settings are SGQ_SETTINGS_NUMBERS a guest. The gate
  * and the tables may hold anything before; after it, "a fresh table has time 0, nothing waiting or in flight, all next
  * numbers 0", and "every place past the count holds zeros". */
-sgq_answer sgq_open(uint64_t *gate, uint64_t depth, uint64_t guests, uint64_t capacity,
-                    const uint64_t *settings, size_t settings_length,
-                    uint64_t *guest_table, size_t guest_table_length,
-                    uint64_t *waiting, size_t waiting_length,
-                    uint64_t *flight, size_t flight_length);
+SGQ_MUST_USE sgq_answer sgq_open(uint64_t *gate, uint64_t depth, uint64_t guests, uint64_t capacity,
+                                 const uint64_t *settings, size_t settings_length,
+                                 uint64_t *guest_table, size_t guest_table_length,
+                                 uint64_t *waiting, size_t waiting_length,
+                                 uint64_t *flight, size_t flight_length);
 
 /* A request arrives: it gets its tags, "is placed last among the waiting, then the choice is made". What is sent need
  * not be what arrived. "An id may be used again after its completion." */
-sgq_answer sgq_arrive(uint64_t *gate,
-                      uint64_t *guest_table, size_t guest_table_length,
-                      uint64_t *waiting, size_t waiting_length,
-                      uint64_t *flight, size_t flight_length,
-                      uint64_t guest, uint32_t id, uint64_t time);
+SGQ_MUST_USE sgq_answer sgq_arrive(uint64_t *gate,
+                                   uint64_t *guest_table, size_t guest_table_length,
+                                   uint64_t *waiting, size_t waiting_length,
+                                   uint64_t *flight, size_t flight_length,
+                                   uint64_t guest, uint32_t id, uint64_t time);
 
 /* "A completion takes the named request out of flight, then the choice is made." */
-sgq_answer sgq_complete(uint64_t *gate,
-                        uint64_t *guest_table, size_t guest_table_length,
-                        uint64_t *waiting, size_t waiting_length,
-                        uint64_t *flight, size_t flight_length,
-                        uint64_t guest, uint32_t id, uint64_t time);
+SGQ_MUST_USE sgq_answer sgq_complete(uint64_t *gate,
+                                     uint64_t *guest_table, size_t guest_table_length,
+                                     uint64_t *waiting, size_t waiting_length,
+                                     uint64_t *flight, size_t flight_length,
+                                     uint64_t guest, uint32_t id, uint64_t time);
 
 /* "A tick only sets the time and makes the choice." With places free a host ticks again after each send, until nothing
  * is sent, and then when the next waiting reservation or limit tag is reached. */
-sgq_answer sgq_tick(uint64_t *gate,
-                    uint64_t *guest_table, size_t guest_table_length,
-                    uint64_t *waiting, size_t waiting_length,
-                    uint64_t *flight, size_t flight_length,
-                    uint64_t time);
+SGQ_MUST_USE sgq_answer sgq_tick(uint64_t *gate,
+                                 uint64_t *guest_table, size_t guest_table_length,
+                                 uint64_t *waiting, size_t waiting_length,
+                                 uint64_t *flight, size_t flight_length,
+                                 uint64_t time);
 
 /* What a host lends, in records: the helpers take this and turn counts of records into lengths. A count says how many
- * records the table has room for, not how many it holds. */
+ * records the table has room for, not how many it holds; a table of no records may be NULL. */
 typedef struct sgq_tables {
     sgq_gate *gate;
     sgq_guest *guests;
@@ -188,45 +207,125 @@ typedef struct sgq_tables {
     size_t flight_count;
 } sgq_tables;
 
-/* sgq_open over records. */
-static inline sgq_answer sgq_tables_open(const sgq_tables *lent, uint64_t depth, uint64_t guests, uint64_t capacity,
-                                         const sgq_settings *settings, size_t settings_count)
+/* How many records an array has. A pointer is no array, and does not compile where the compiler can tell. */
+#ifdef __cplusplus
+#define SGQ_COUNT(array) sgq_count_of(array)
+#elif defined __GNUC__
+#define SGQ_COUNT(array) \
+    (sizeof(array) / sizeof((array)[0]) \
+     + 0 * sizeof(char[1 - 2 * __builtin_types_compatible_p(__typeof__(array), __typeof__(&(array)[0]))]))
+#else
+#define SGQ_COUNT(array) (sizeof(array) / sizeof((array)[0]))
+#endif
+
+/* The tables of a gate and three arrays, with their counts:
+ *   sgq_tables lent = SGQ_TABLES(gate, guests, waiting, flight); */
+#define SGQ_TABLES(gate, guests, waiting, flight) \
+    {&(gate), (guests), SGQ_COUNT(guests), (waiting), SGQ_COUNT(waiting), (flight), SGQ_COUNT(flight)}
+
+/* Where the numbers of a table begin. One of no records is lent as a spare number and length 0, which the library
+ * neither reads nor changes. */
+static inline uint64_t *sgq_guest_numbers(const sgq_tables *lent, uint64_t *spare)
 {
+    return lent->guest_count == 0 ? spare : &lent->guests->reservation;
+}
+
+static inline uint64_t *sgq_waiting_numbers(const sgq_tables *lent, uint64_t *spare)
+{
+    return lent->waiting_count == 0 ? spare : &lent->waiting->guest;
+}
+
+static inline uint64_t *sgq_flight_numbers(const sgq_tables *lent, uint64_t *spare)
+{
+    return lent->flight_count == 0 ? spare : &lent->flight->guest;
+}
+
+/* sgq_open over records. */
+SGQ_MUST_USE static inline sgq_answer sgq_tables_open(const sgq_tables *lent, uint64_t depth, uint64_t guests,
+                                                      uint64_t capacity, const sgq_settings *settings,
+                                                      size_t settings_count)
+{
+    uint64_t spare = 0;
     return sgq_open(&lent->gate->depth, depth, guests, capacity,
-                    &settings->reservation, settings_count * SGQ_SETTINGS_NUMBERS,
-                    &lent->guests->reservation, lent->guest_count * SGQ_GUEST_NUMBERS,
-                    &lent->waiting->guest, lent->waiting_count * SGQ_REQUEST_NUMBERS,
-                    &lent->flight->guest, lent->flight_count * SGQ_FLIGHT_NUMBERS);
+                    settings_count == 0 ? &spare : &settings->reservation, settings_count * SGQ_SETTINGS_NUMBERS,
+                    sgq_guest_numbers(lent, &spare), lent->guest_count * SGQ_GUEST_NUMBERS,
+                    sgq_waiting_numbers(lent, &spare), lent->waiting_count * SGQ_REQUEST_NUMBERS,
+                    sgq_flight_numbers(lent, &spare), lent->flight_count * SGQ_FLIGHT_NUMBERS);
+}
+
+/* sgq_open over records with every place that is lent: the depth and the capacity are the counts of the tables, and
+ * there are as many guests as settings. */
+SGQ_MUST_USE static inline sgq_answer sgq_tables_open_all(const sgq_tables *lent, const sgq_settings *settings,
+                                                          size_t settings_count)
+{
+    return sgq_tables_open(lent, lent->flight_count, settings_count, lent->waiting_count, settings, settings_count);
 }
 
 /* sgq_arrive over records. */
-static inline sgq_answer sgq_tables_arrive(const sgq_tables *lent, uint64_t guest, uint32_t id, uint64_t time)
+SGQ_MUST_USE static inline sgq_answer sgq_tables_arrive(const sgq_tables *lent, uint64_t guest, uint32_t id,
+                                                        uint64_t time)
 {
+    uint64_t spare = 0;
     return sgq_arrive(&lent->gate->depth,
-                      &lent->guests->reservation, lent->guest_count * SGQ_GUEST_NUMBERS,
-                      &lent->waiting->guest, lent->waiting_count * SGQ_REQUEST_NUMBERS,
-                      &lent->flight->guest, lent->flight_count * SGQ_FLIGHT_NUMBERS,
+                      sgq_guest_numbers(lent, &spare), lent->guest_count * SGQ_GUEST_NUMBERS,
+                      sgq_waiting_numbers(lent, &spare), lent->waiting_count * SGQ_REQUEST_NUMBERS,
+                      sgq_flight_numbers(lent, &spare), lent->flight_count * SGQ_FLIGHT_NUMBERS,
                       guest, id, time);
 }
 
 /* sgq_complete over records. */
-static inline sgq_answer sgq_tables_complete(const sgq_tables *lent, uint64_t guest, uint32_t id, uint64_t time)
+SGQ_MUST_USE static inline sgq_answer sgq_tables_complete(const sgq_tables *lent, uint64_t guest, uint32_t id,
+                                                          uint64_t time)
 {
+    uint64_t spare = 0;
     return sgq_complete(&lent->gate->depth,
-                        &lent->guests->reservation, lent->guest_count * SGQ_GUEST_NUMBERS,
-                        &lent->waiting->guest, lent->waiting_count * SGQ_REQUEST_NUMBERS,
-                        &lent->flight->guest, lent->flight_count * SGQ_FLIGHT_NUMBERS,
+                        sgq_guest_numbers(lent, &spare), lent->guest_count * SGQ_GUEST_NUMBERS,
+                        sgq_waiting_numbers(lent, &spare), lent->waiting_count * SGQ_REQUEST_NUMBERS,
+                        sgq_flight_numbers(lent, &spare), lent->flight_count * SGQ_FLIGHT_NUMBERS,
                         guest, id, time);
 }
 
 /* sgq_tick over records. */
-static inline sgq_answer sgq_tables_tick(const sgq_tables *lent, uint64_t time)
+SGQ_MUST_USE static inline sgq_answer sgq_tables_tick(const sgq_tables *lent, uint64_t time)
 {
+    uint64_t spare = 0;
     return sgq_tick(&lent->gate->depth,
-                    &lent->guests->reservation, lent->guest_count * SGQ_GUEST_NUMBERS,
-                    &lent->waiting->guest, lent->waiting_count * SGQ_REQUEST_NUMBERS,
-                    &lent->flight->guest, lent->flight_count * SGQ_FLIGHT_NUMBERS,
+                    sgq_guest_numbers(lent, &spare), lent->guest_count * SGQ_GUEST_NUMBERS,
+                    sgq_waiting_numbers(lent, &spare), lent->waiting_count * SGQ_REQUEST_NUMBERS,
+                    sgq_flight_numbers(lent, &spare), lent->flight_count * SGQ_FLIGHT_NUMBERS,
                     time);
+}
+
+/* The next four read an open gate, and its tables, that no call has refused as not sound. */
+
+/* How many places at the array are free. Where none is, no call sends anything. */
+static inline uint64_t sgq_free_places(const sgq_gate *gate)
+{
+    return gate->depth - gate->flight;
+}
+
+/* How many waiting places are free. Where none is, an arrival is refused, SGQ_REFUSED_WAITING_FULL. */
+static inline uint64_t sgq_free_waiting(const sgq_gate *gate)
+{
+    return gate->capacity - gate->waiting;
+}
+
+/* How many requests of a guest wait, as for a quota of waiting places. */
+static inline uint64_t sgq_waiting_of(const sgq_tables *lent, uint64_t guest)
+{
+    uint64_t count = 0;
+    for (uint64_t place = 0; place < lent->gate->waiting; place++)
+        count += lent->waiting[place].guest == guest;
+    return count;
+}
+
+/* How many requests of a guest are in flight. */
+static inline uint64_t sgq_flight_of(const sgq_tables *lent, uint64_t guest)
+{
+    uint64_t count = 0;
+    for (uint64_t place = 0; place < lent->gate->flight; place++)
+        count += lent->flight[place].guest == guest;
+    return count;
 }
 
 /* Whether the answer names a request that now goes to the array. */
@@ -267,6 +366,11 @@ typedef char sgq_flight_is_its_row[sizeof(sgq_flight) == SGQ_FLIGHT_NUMBERS * si
 typedef char sgq_answer_is_its_row[sizeof(sgq_answer) == SGQ_ANSWER_NUMBERS * sizeof(uint64_t) ? 1 : -1];
 
 #ifdef __cplusplus
+}
+
+template <typename record, size_t count> constexpr size_t sgq_count_of(const record (&)[count])
+{
+    return count;
 }
 #endif
 

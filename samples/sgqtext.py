@@ -16,8 +16,13 @@ A text trace has the header lines first, then a line for each event; '#' begins 
     raw 02 00 ff                                  # these bytes as they are, for damaged traces
 
 A text that begins with a raw line has no header but what its raw lines give.
+
+A text becomes bytes as it comes, in little memory. Nothing is written before the first mebibyte of the trace, or the
+whole of a shorter one, is known to be without a mistake. Where a mistake stands later, what is written by then ends in a
+cut event, so that nobody takes it for the whole. Status 1: a mistake; 2: wrong words; 3: a failed read or write.
 """
 import re
+import signal
 import struct
 import sys
 
@@ -28,6 +33,9 @@ EVENT = struct.Struct("<BBIQ")  # kind, guest, id, time
 KINDS = ["arrival", "completion", "tick"]
 MOST_GUESTS = 64
 MOST_DIGITS = 40  # more than any number of a trace needs
+LONGEST = 1 << 20  # bytes of a line of text
+HELD = 1 << 20  # bytes of a trace that are held back until no mistake is found in them
+PART = 1 << 16  # bytes of a trace that are then written at a time
 
 # Words in capitals stand for numbers, the others for themselves.
 FORMS = [
@@ -39,7 +47,7 @@ FORMS = [
     "tick at TIME",
     "raw HEX",
 ]
-FORM = {form.split()[0]: form for form in FORMS}
+FORM = {form.split()[0]: form.split() for form in FORMS}
 # Settings as the gate takes them; an event's numbers as the bytes take them, for the gate refuses some of those.
 RANGES = {
     "DEPTH": (1, 64),
@@ -54,6 +62,7 @@ RANGES = {
 }
 UNITS = {"s": 10**9, "ms": 10**6, "us": 10**3, "ns": 1}
 TIME = re.compile(r"([0-9]+)(?:\.([0-9]+))?(s|ms|us|ns)?")
+WHOLE = re.compile("[0-9]+")
 
 
 class Bad(Exception):
@@ -65,22 +74,42 @@ class Bad(Exception):
 
 def to_bytes(text):
     """The bytes of a text trace."""
-    trace = Text()
-    lines = text.rstrip("\n").split("\n")
+    return b"".join(trace_parts(text.split("\n"), Text()))
+
+
+def trace_parts(lines, trace):
+    """The bytes of a text trace, some at a time; the first part is all that is held back."""
+    size, last = HELD, 1
     for number, line in enumerate(lines, 1):
-        words = line.partition("#")[0].split()
-        if words:
-            at_line(number, lambda: trace.take(words))
-    at_line(len(lines), trace.begin)
-    return bytes(trace.written)
-
-
-def at_line(number, work):
-    """Does the work; what is wrong there is said with the line's number."""
+        try:
+            words = line.partition("#")[0].split()
+            if words:
+                trace.take(words)
+        except Bad as why:
+            raise Bad(f"line {number}: {why}") from None
+        if line:
+            last = number
+        if len(trace.waiting) >= size:
+            size = PART
+            yield trace.part()
     try:
-        work()
+        trace.begin()
     except Bad as why:
-        raise Bad(f"line {number}: {why}") from None
+        raise Bad(f"line {last}: {why}") from None
+    yield trace.part()
+
+
+def lines_of(stream):
+    """The lines of a stream of bytes, without their ends, each as text."""
+    mark = "utf-8-sig"  # only at the beginning
+    for number, line in enumerate(iter(lambda: stream.readline(LONGEST + 1), b""), 1):
+        if len(line) > LONGEST:
+            raise Bad(f"line {number}: it has more than {LONGEST} bytes")
+        try:
+            yield line.decode(mark).rstrip("\n")
+        except UnicodeDecodeError as error:
+            raise Bad(f"line {number}: this is not text (byte {line[error.start]:02x} is no UTF-8)") from None
+        mark = "utf-8"
 
 
 class Text:
@@ -90,7 +119,9 @@ class Text:
         self.depth = self.capacity = None
         self.guests = []
         self.begun = False
-        self.written = bytearray()
+        self.waiting = bytearray()  # the bytes that are not handed on yet
+        self.handed = 0  # how many bytes are
+        self.header = 0  # how many of those are the header, however it was given
 
     def take(self, words):
         if words[0] == "raw":
@@ -98,7 +129,7 @@ class Text:
         values = numbers(words)
         if words[0] in KINDS:
             self.begin()
-            self.written += event_bytes(KINDS.index(words[0]), values)
+            self.waiting += event_bytes(KINDS.index(words[0]), values)
         elif self.begun:
             raise Bad(f"'{words[0]}' belongs to the header, before the first event or raw line")
         elif words[0] == "guest":
@@ -111,7 +142,7 @@ class Text:
         if self.depth is not None or self.capacity is not None or self.guests:
             self.begin()
         self.begun = True
-        self.written += hex_bytes("".join(words))
+        self.waiting += hex_bytes("".join(words))
 
     def take_count(self, name, value):
         if getattr(self, name) is not None:
@@ -133,21 +164,43 @@ class Text:
             return
         for name, value in (("depth", self.depth), ("capacity", self.capacity), ("guest", self.guests or None)):
             if value is None:
-                raise Bad(f"the header has no line '{FORM[name]}'")
+                raise Bad(f"the header has no line '{' '.join(FORM[name])}'")
         self.begun = True
-        self.written += START.pack(MARK, VERSION, self.depth, len(self.guests), self.capacity)
+        self.waiting += START.pack(MARK, VERSION, self.depth, len(self.guests), self.capacity)
         for settings in self.guests:
-            self.written += GUEST.pack(*settings)
+            self.waiting += GUEST.pack(*settings)
+
+    def part(self):
+        """The bytes that are not handed on yet, which then are."""
+        part = bytes(self.waiting)
+        self.waiting.clear()
+        if self.handed == 0 and len(part) >= START.size:
+            self.header = START.size + START.unpack_from(part)[3] * GUEST.size
+        self.handed += len(part)
+        return part
+
+    def cut(self):
+        """A byte behind what is handed on, unless an event is cut short there already."""
+        return b"" if (self.handed - self.header) % EVENT.size else bytes(1)
 
 
 def numbers(words):
     """The numbers of a line by name, the line being of its word's form."""
     if words[0] not in FORM:
         raise Bad(f"no line begins with {shown(words[0])}, but with {', '.join(FORM)}")
-    form = FORM[words[0]].split()
-    if len(form) != len(words) or any(name != word for name, word in zip(form, words) if name.islower()):
-        raise Bad(f"{shown(' '.join(words))} is not of the form '{' '.join(form)}'")
-    return {name: number(name, word) for name, word in zip(form, words) if name.isupper()}
+    form, values = FORM[words[0]], {}
+    if len(form) != len(words):
+        raise of_no_form(words)
+    for name, word in zip(form, words):
+        if name in RANGES:
+            values[name] = number(name, word)
+        elif name != word:
+            raise of_no_form(words)
+    return values
+
+
+def of_no_form(words):
+    return Bad(f"{shown(' '.join(words))} is not of the form '{' '.join(FORM[words[0]])}'")
 
 
 def shown(word):
@@ -167,7 +220,7 @@ def number(name, word):
 
 
 def whole(name, word):
-    if not re.fullmatch("[0-9]+", word):
+    if not WHOLE.fullmatch(word):
         raise Bad(f"{name.lower()} {shown(word)} is not a whole number")
     return int(word)
 
@@ -291,29 +344,43 @@ def raw_line(part):
 # The command.
 
 
-def decoded(data):
+def write_bytes(stream, out):
+    """Writes a text as bytes while it comes. A mistake past what is held back leaves a cut trace behind."""
+    trace = Text()
     try:
-        return data.decode("utf-8-sig")
-    except UnicodeDecodeError as error:
-        line = data.count(b"\n", 0, error.start) + 1
-        raise Bad(f"line {line}: this is not text (byte {data[error.start]:02x} is no UTF-8)") from None
+        for part in trace_parts(lines_of(stream), trace):
+            out.write(part)
+    except Bad as why:
+        if trace.handed == 0:
+            raise
+        out.write(trace.part() + trace.cut())
+        out.flush()
+        raise Bad(f"{why} (the events before it are written, and then a cut one)") from None
 
 
 def main(words):
     if words not in (["bytes"], ["text"], ["text", "--raw"]):
-        print("sgqtext.py: say 'bytes', 'text' or 'text --raw'; input and output are standard", file=sys.stderr)
-        return 2
-    data = sys.stdin.buffer.read()
+        return said("say 'bytes', 'text' or 'text --raw'; input and output are standard", 2)
+    signal.signal(signal.SIGPIPE, signal.SIG_DFL)  # where nobody reads on, a quiet end
     try:
+        given = open(0, "rb", closefd=False)
         if words[0] == "bytes":
-            result = to_bytes(decoded(data))
+            write_bytes(given, sys.stdout.buffer)
         else:
-            result = to_text(data, raw=len(words) == 2).encode()
+            sys.stdout.buffer.write(to_text(given.read(), raw=len(words) == 2).encode())
+        sys.stdout.buffer.flush()
     except Bad as why:
-        print(f"sgqtext.py: {why}", file=sys.stderr)
-        return 1
-    sys.stdout.buffer.write(result)
+        return said(why, 1)
+    except OSError as why:
+        return said(f"input or output failed: {why.strerror}", 3)
+    except KeyboardInterrupt:
+        return 130
     return 0
+
+
+def said(words, status):
+    print(f"sgqtext.py: {words}", file=sys.stderr)
+    return status
 
 
 if __name__ == "__main__":

@@ -1,22 +1,32 @@
-"""What the tests share: the second program and its random traces, the text tool, and the count of what passed."""
+"""What the tests share: the second program and its random traces, the library, the text tool, and the count of what passed."""
+import os
 import pathlib
 import shutil
 import subprocess
 import sys
 
-ROOT = pathlib.Path(__file__).resolve().parent.parent
+from machine import ROOT, Stop, need_linking
+
 FAILED = ROOT / "target" / "failed"
 BUILT = ROOT / "second" / "target"
 SECOND = BUILT / "release" / "second"
 TRACES = BUILT / "release" / "traces"
 CORES = 2
+# The library that a host links; SGQ_LIB may name another archive, as to try a test on a wrong one.
+LIBRARY = pathlib.Path(os.environ.get("SGQ_LIB") or ROOT / "target" / "staticlib" / "libhost.a").absolute()
+X86_64 = (62).to_bytes(2, "little")  # the machine in an object's header
 
 sys.path.insert(0, str(ROOT / "samples"))
 import sgqtext  # noqa: E402  (it stands in samples/)
 
 
-class Stop(Exception):
-    """Why no test can be run."""
+def need_library():
+    """The library is there, and this machine can link it."""
+    if not LIBRARY.is_file():
+        raise Stop(f"there is no {LIBRARY}: 'rt staticlib host' in the root writes target/staticlib/libhost.a")
+    if LIBRARY.read_bytes().partition(b"\x7fELF")[2][14:16] != X86_64:
+        raise Stop(f"{LIBRARY} is not for x86-64")
+    need_linking()
 
 
 def build_second():

@@ -1,26 +1,70 @@
 #!/usr/bin/env python3
-"""Tests the script sgq in a copy of its surroundings, where a stand-in for rt "builds" decide from the second program and
-counts how often it was called. Ends with 'N passed, M failed'."""
+"""Tests the script sgq in a copy of its surroundings, where a stand-in for rt "builds" decide from the second program,
+counts how often it was called, and leaves behind what rt leaves; at the end with rt itself, on two small crates. Ends
+with 'N passed, M failed'."""
+import contextlib
 import os
 import pathlib
+import resource
 import shutil
+import signal
 import subprocess
 import sys
 import tempfile
+import time
 
-from kit import ROOT, SECOND, build_second, run_tests, sgqtext
+from kit import ROOT, SECOND, Stop, build_second, run_tests, sgqtext
 
-# What sgq and the stand-in call.
-COMMANDS = "sh cat chmod dirname find head mkdir mktemp mv rm tail tee touch".split()
-RT = f"""#!/bin/sh
+# What sgq and the stand-ins call.
+COMMANDS = """sh cat chmod cp cut date dd dirname find flock grep head mkdir mv od readlink rm sed setsid sha256sum sleep
+sort touch tr""".split()
+CRATES = "lists:\nrules: lists io\nhost: rules\ndecide: rules libc\n"
+# As rt does: nothing is built where the stamp of decide is that of the sources; the verdict is read back from
+# target/log, so that an older one is taken where nothing can be written; what is being proved has a .say file there.
+RT = """#!/bin/sh
+case $1 in
+version) echo 'stand-in kit 7' && exit ;;
+doc) echo "$KIT/docs/START-HERE.md" && exit ;;
+esac
 echo called >>calls
+echo $$ >pid
 cat >/dev/null
-[ ! -e broken ] || {{ echo 'rt: rules NOT PROVED'; exit 1; }}
-mkdir -p target/bin
-printf '#!/bin/sh\\nexec "{SECOND}"\\n' >target/bin/decide
-chmod +x target/bin/decide
-echo 'rt: decide proved'
+mkdir -p target/bin target/log target/stamp
+for crate in lists rules decide; do echo failed >target/log/$crate.res; done
+echo proved >target/log/lists.res
+one() {
+    echo >target/log/rules.say
+    [ ! -e slow ] || until [ -e go ]; do sleep 0.05; done
+    [ ! -e meddle ] || echo changed >>crates/rules.rt
+    if [ -e broken ]; then echo 'rt: rules NOT PROVED (exit 1, 0 s)' && return; fi
+    echo proved >target/log/rules.res
+    echo kept >target/stamp/rules
+    sum=$(cat crates/* | sha256sum)
+    if [ "$(cat target/stamp/decide 2>/dev/null)" != "$sum" ]; then cp made target/bin/decide; fi
+    echo "$sum" >target/stamp/decide
+    echo proved >target/log/decide.res
+    echo 'rt: decide proved'
+}
+one >target/log/rules.out 2>&1
+cat target/log/rules.out
+[ "$(cat target/log/decide.res)" = proved ]
 """
+# What the program does where it cannot write, and writes to standard error in no other case.
+UNWRITTEN = "#!/bin/sh\necho 'event answer'\necho 'decide: standard output could not be written' >&2\n"
+HEAD = "depth 4\ncapacity 8\nguest 0 reservation 100 limit 250 shares 1\n"
+GOOD = sgqtext.to_bytes(HEAD)
+REFUSED = [
+    (1, GOOD[:5] + b"\x00" + GOOD[6:], "a setting in its header is out of range (1)"),
+    (11, b"X" + GOOD[1:], "it does not begin with the letters SGQ (11)"),
+    (12, GOOD[:3] + b"\x07" + GOOD[4:], "its version is not 1 (12)"),
+    (13, GOOD[:-1], "it ends within its header (13)"),
+    (13, b"SG", "it ends within its header (13)"),
+    (13, b"", "it ends within its header (13)"),
+]
+MOST_SECONDS = 60  # to wait for what a run will do at once, where it does it at all
+HANGS = 600  # seconds after which a run is taken to hang
+NOBODY = 65534
+LITTLE = 64 << 20  # bytes of memory for data
 
 
 class House:
@@ -28,15 +72,19 @@ class House:
 
     def __init__(self, root):
         self.root = pathlib.Path(root)
+        self.root.chmod(0o755)  # one test looks at it as another user
         shutil.copy(ROOT / "sgq", self.root)
         shutil.copytree(ROOT / "samples", self.root / "samples")
-        (self.root / "crates").mkdir()
-        self.write("crates.txt", "decide:\n")
+        shutil.copy(SECOND, self.root / "made")
+        self.write("crates/rules.rt", "good\n")
+        self.write("crates.txt", CRATES)
         self.write(".ci/run", "#!/bin/sh\necho tested\nexit 7\n", 0o755)
         for command in COMMANDS:
             self.link(command)
         for command in ("bash", "cargo"):
             self.write(f"bin/{command}", "#!/bin/sh\n", 0o755)
+        self.write("bin/uname", "#!/bin/sh\necho x86_64\n", 0o755)  # the stand-ins run on any machine
+        self.environment = dict(os.environ, PATH=str(self.root / "bin"), KIT=str(self.root / "kit"))
 
     def link(self, command, path=None):
         (self.root / "bin").mkdir(exist_ok=True)
@@ -44,17 +92,63 @@ class House:
 
     def write(self, name, text, mode=0o644):
         path = self.root / name
-        path.parent.mkdir(exist_ok=True)
-        path.write_text(text)
+        path.parent.mkdir(parents=True, exist_ok=True)
+        if isinstance(text, str):
+            text = text.encode()
+        path.write_bytes(text)
         path.chmod(mode)
+        return path
+
+    def remove(self, *names):
+        for name in names:
+            (self.root / name).unlink(missing_ok=True)
 
     def calls(self):
         path = self.root / "calls"
         return path.read_text().count("called") if path.exists() else 0
 
-    def sgq(self, *words, given=b""):
-        environment = dict(os.environ, PATH=str(self.root / "bin"))
-        return subprocess.run([self.root / "sgq", *words], input=given, capture_output=True, env=environment, cwd=self.root)
+    def sgq(self, *words, given=b"", script="sgq", **more):
+        """A run that has ended."""
+        settings = {"env": self.environment, "cwd": self.root, "capture_output": True, "input": given, **more}
+        if "stdin" in settings:
+            del settings["input"]
+        return subprocess.run([self.root / script, *words], timeout=HANGS, **settings)
+
+    @contextlib.contextmanager
+    def begun(self, *words):
+        """A run on its way, which is gone at the end; its attribute heard gives what it has said."""
+        said = self.root / f"said.{time.monotonic_ns()}"
+        with said.open("wb") as error:
+            run = subprocess.Popen(
+                [self.root / "sgq", *words],
+                env=self.environment,
+                cwd=self.root,
+                stdin=subprocess.DEVNULL,
+                stdout=subprocess.PIPE,
+                stderr=error,
+                start_new_session=True,
+                preexec_fn=lambda: signal.signal(signal.SIGINT, signal.SIG_DFL),
+            )
+        run.heard = said.read_text
+        try:
+            yield run
+        finally:
+            self.write("go", "")  # for a stand-in that is left over
+            with contextlib.suppress(subprocess.TimeoutExpired):
+                run.communicate(timeout=MOST_SECONDS)
+            run.kill()
+            run.wait()
+            self.remove("go", "slow")
+
+
+def in_time(good):
+    """Whether something becomes true."""
+    end = time.monotonic() + MOST_SECONDS
+    while not good():
+        if time.monotonic() > end:
+            return False
+        time.sleep(0.02)
+    return True
 
 
 def check(tally, name, ended, status, output=b"", said=None, lines=None):
@@ -62,7 +156,15 @@ def check(tally, name, ended, status, output=b"", said=None, lines=None):
     heard = ended.stderr.decode()
     good = (ended.returncode, ended.stdout) == (status, output)
     good = good and (said or "") in heard and lines in (None, heard.count("\n"))
-    tally.add(name, None if good else f"it ended with {ended}")
+    tally.add(name, None if good else shortened(f"it ended with {ended}"))
+
+
+def shortened(text):
+    return text if len(text) < 2000 else f"{text[:1000]} ... {text[-1000:]}"
+
+
+def hold(tally, name, good, why="it does not"):
+    tally.add(name, None if good else why)
 
 
 def expected(sample):
@@ -71,25 +173,44 @@ def expected(sample):
 
 def test_words(tally, house):
     check(tally, "no word", house.sgq(), 2, said="./sgq decide [TRACE]")
-    check(tally, "unknown word", house.sgq("dcide"), 2, said="there is no 'dcide': say decide, test or help", lines=1)
+    known = "there is no 'dcide': say decide, test, help or --version"
+    check(tally, "unknown word", house.sgq("dcide"), 2, said=known, lines=1)
     helped = house.sgq("help")
     check(tally, "help", helped, 0, helped.stdout, lines=0)
-    tally.add("help says test", None if b"./sgq test" in helped.stdout else "it does not")
+    hold(tally, "help says test", b"./sgq test" in helped.stdout)
+    for words in (["decide", "--help"], ["decide", "-h"], ["test", "--help"]):
+        more = house.sgq(*words)
+        check(tally, " ".join(words), more, 0, more.stdout, lines=0)
+        hold(tally, f"{' '.join(words)} says more", more.stdout.startswith(f"./sgq {words[0]} ".encode()))
     check(tally, "no such file", house.sgq("decide", "lost.sgq"), 2, said="there is no file 'lost.sgq': name", lines=1)
     check(tally, "a folder", house.sgq("decide", "samples"), 2, said="samples is a folder: name a file", lines=1)
     check(tally, "two traces", house.sgq("decide", "a", "b"), 2, said="one trace, not 2", lines=1)
+    check(tally, "unknown option", house.sgq("decide", "--all"), 2, said="decide has no '--all'", lines=1)
     check(tally, "test with more words", house.sgq("test", "all"), 2, said="no more words", lines=1)
 
 
 def test_missing(tally, house):
     """Without rt and python3; then they are put there."""
-    check(tally, "decide without rt", house.sgq("decide", "-"), 2, said="rt is missing: install", lines=1)
+    check(tally, "decide without rt", house.sgq("decide", "-"), 2, said="rt is missing: install", lines=None)
     check(tally, "test without rt", house.sgq("test"), 2, said="rt is missing: install", lines=1)
+    version = house.sgq("--version").stdout.decode()
+    hold(tally, "version without rt", "checker: rt is not on PATH\n" in version, version)
     house.write("bin/rt", RT, 0o755)
     text = house.sgq("decide", "samples/example.txt")
     check(tally, "text without python3", text, 2, said="python3 is missing: install", lines=1)
     house.link("python3", sys.executable)
-    tally.add("nothing proved so far", None if house.calls() == 0 else "rt was called")
+    bad = house.sgq("decide", str(house.write("bad.txt", "depth 4\ncapacity 0\n")))
+    check(tally, "a bad text before all proofs", bad, 2, said="bad.txt: line 2: capacity 0 is not from 1 to 1024", lines=1)
+    hold(tally, "nothing proved so far", house.calls() == 0, "rt was called")
+
+
+def test_version(tally, house):
+    for words in (["--version"], ["version"], ["decide", "--version"]):
+        ended = house.sgq(*words)
+        check(tally, " ".join(words), ended, 0, ended.stdout, lines=0)
+        shown = ended.stdout.decode()
+        hold(tally, f"{' '.join(words)} has the checker", "\nchecker: stand-in kit 7\n" in shown, shown)
+        hold(tally, f"{' '.join(words)} before all proofs", "\ndecide: not proved yet" in shown, shown)
 
 
 def test_decide(tally, house):
@@ -97,32 +218,375 @@ def test_decide(tally, house):
     again = house.sgq("decide", "samples/example.txt")
     check(tally, "a text", again, 0, expected("example"), lines=0)
     trace = sgqtext.to_bytes((ROOT / "samples" / "example.txt").read_text())
-    (house.root / "example.sgq").write_bytes(trace)
+    house.write("example.sgq", trace)
     check(tally, "a trace", house.sgq("decide", "example.sgq"), 0, expected("example"), lines=0)
     check(tally, "standard input", house.sgq("decide", "-", given=trace), 0, expected("example"), lines=0)
-    tally.add("proved once", None if house.calls() == 1 else f"rt was called {house.calls()} times")
-    house.write("bad.txt", "depth 4\ncapacity 0\n")
-    check(tally, "a bad text", house.sgq("decide", "bad.txt"), 2, said="line 2: capacity 0 is not from 1 to 1024")
+    for name in ("-x", "--help"):
+        house.write(name, trace)
+        check(tally, f"-- {name}", house.sgq("decide", "--", name), 0, expected("example"), lines=0)
+    check(tally, "-- -", house.sgq("decide", "--", "-", given=trace), 0, expected("example"), lines=0)
+    with (house.root / "example.sgq").open("rb") as file:
+        check(tally, "a file as standard input", house.sgq("decide", "-", stdin=file), 0, expected("example"), lines=0)
+    with house.write("behind", b"gone" + trace).open("rb", buffering=0) as file:
+        file.read(4)
+        check(tally, "a file that was read from", house.sgq("decide", "-", stdin=file), 0, expected("example"), lines=0)
+    os.mkfifo(house.root / "pipe")
+    with subprocess.Popen(["sh", "-c", "cat example.sgq >pipe"], cwd=house.root):
+        check(tally, "a named pipe", house.sgq("decide", "pipe"), 0, expected("example"), lines=0)
+    long = GOOD + sgqtext.to_bytes(HEAD + "tick at 5\n")[len(GOOD) :] * 9000  # more than a pipe holds
+    answers = b"event answer\n" + b"".join(b"%d -\n" % event for event in range(1, 9001))
+    check(tally, "much on standard input", house.sgq("decide", "-", given=long), 0, answers, lines=0)
+    hold(tally, "proved once", house.calls() == 1, f"rt was called {house.calls()} times")
+    proved = house.sgq("--version").stdout.decode()
+    hold(tally, "version after it", "\ndecide: proved from these sources by stand-in kit 7\n" in proved, proved)
+
+
+def test_texts(tally, house):
+    """A text is told by its first bytes, wherever it comes from, and a trace too."""
+    text = (ROOT / "samples" / "example.txt").read_bytes()
+    house.write("example", text)
+    check(tally, "a text under another name", house.sgq("decide", "example"), 0, expected("example"), lines=0)
+    check(tally, "a text on standard input", house.sgq("decide", "-", given=text), 0, expected("example"), lines=0)
+    with (house.root / "example").open("rb") as file:
+        check(tally, "a file of text there", house.sgq("decide", "-", stdin=file), 0, expected("example"), lines=0)
+    for begin in (b"\xef\xbb\xbf", b"\r\n \t\n", b"#*\n"):
+        given = begin + b"\n" + HEAD.encode()
+        check(tally, f"a text after {begin}", house.sgq("decide", "-", given=given), 0, b"event answer\n", lines=0)
+    house.write("trace.txt", (house.root / "example.sgq").read_bytes())
+    check(tally, "a trace that ends in .txt", house.sgq("decide", "trace.txt"), 0, expected("example"), lines=0)
+    no_room = dict(house.environment, TMPDIR=str(house.root / "lost"))
+    check(tally, "no temporary folder", house.sgq("decide", "example", env=no_room), 0, expected("example"), lines=0)
+    many = HEAD + ("# " + "x" * 1000 + "\n") * 64_000 + "tick at 0\n"
+    limit = {"preexec_fn": lambda: resource.setrlimit(resource.RLIMIT_DATA, (LITTLE, LITTLE))}
+    little = house.sgq("decide", "-", given=many.encode(), **limit)
+    check(tally, "64 MB of text in little memory", little, 0, b"event answer\n1 -\n", lines=0)
+
+
+def test_bad_texts(tally, house):
+    check(tally, "a bad text", house.sgq("decide", "bad.txt"), 2, said="line 2: capacity 0 is not from 1", lines=1)
+    early = HEAD + "tick at 5\n" * 60_000 + "tick at once\n"
+    said = "standard input: line 60004: time 'once' is not a number"
+    check(tally, "a mistake in a short text", house.sgq("decide", "-", given=early.encode()), 2, said=said, lines=1)
+    late = HEAD + "tick at 5\n" * 90_000 + "tick at once\n" + "tick at 5\n" * 9
+    # What stands before the mistake is answered, and a cut event says that there was more.
+    answers = b"event answer\n" + b"".join(b"%d -\n" % event for event in range(1, 90_001)) + b"90001 X 15\n"
+    for name, given in (("late.txt", b""), ("-", late.encode())):
+        house.write("late.txt", late)
+        said = "line 90004: time 'once' is not a number"
+        check(tally, f"a mistake late in {name}", house.sgq("decide", name, given=given), 2, answers, said, lines=1)
+    house.write("samples/sgqtext.py", f"import os\nos.write(1, {GOOD})\nos.kill(os.getpid(), 9)\n")
+    killed = house.sgq("decide", "bad.txt")
+    check(tally, "a converter that is killed", killed, 1, b"event answer\n", "it was ended by signal 9", lines=1)
+    shutil.copy(ROOT / "samples" / "sgqtext.py", house.root / "samples")
+
+
+def test_refusals(tally, house):
+    """What the number means is said, the program's line stays, and the status is 1."""
+    for number, trace, said in REFUSED:
+        output = b"trace refused %d\n" % number
+        house.write("refused.sgq", trace)
+        name = f"refusal {number} of {len(trace)} bytes"
+        check(tally, name, house.sgq("decide", "refused.sgq"), 1, output, f"refused.sgq is refused: {said}", lines=1)
+        given = house.sgq("decide", "-", given=trace)
+        check(tally, f"{name} on standard input", given, 1, output, f"standard input is refused: {said}", lines=1)
+        text = sgqtext.to_text(trace, raw=True).encode()
+        given = house.sgq("decide", "-", given=text)
+        check(tally, f"{name} as text", given, 1, output, f"standard input is refused: {said}", lines=1)
+    given = house.sgq("decide", "-", given=b"hello, is this a trace?\n")
+    check(tally, "neither trace nor text", given, 1, b"trace refused 11\n", "standard input is refused: it does", lines=1)
+    long = GOOD[:3] + b"\x07" + GOOD[4:] + bytes(1_000_000)
+    given = house.sgq("decide", "-", given=long)
+    check(tally, "a long refused trace", given, 1, b"trace refused 12\n", "its version is not 1 (12)", lines=1)
+
+
+def test_failures(tally, house):
+    """The program says what it could not read or write; a reader that has enough is no failure to speak of."""
+    folder = os.open(house.root, os.O_RDONLY)
+    check(tally, "a read that fails", house.sgq("decide", "-", stdin=folder), 1, said="standard input could", lines=1)
+    os.close(folder)
+    closed = house.sgq("decide", "example.sgq", preexec_fn=lambda: os.close(1))
+    check(tally, "standard output closed", closed, 1, said="standard output is closed", lines=1)
+    given = (house.root / "example.sgq").read_bytes()
+    closed = house.sgq("decide", "-", given=given, preexec_fn=lambda: os.close(2))
+    check(tally, "standard error closed", closed, 0, expected("example"), lines=0)
+    for name in ("example.sgq", "-", "example"):
+        with standing_in(house, UNWRITTEN):
+            trace = (house.root / "example.sgq").read_bytes()
+            ended = house.sgq("decide", name, given=trace)
+            said = "sgq: decide: standard output could not be written\n"
+            check(tally, f"a write that fails, {name}", ended, 1, b"event answer\n", said, lines=1)
+    with standing_in(house, "#!/bin/sh\nkill -KILL $$\n"):
+        check(tally, "a program that is killed", house.sgq("decide", "example.sgq"), 1, said="status 137", lines=1)
+    house.write("long.sgq", GOOD + bytes(1 << 20))
+    house.write("long.txt", HEAD + "tick at 5\n" * 100_000)
+    with standing_in(house, "#!/bin/sh\necho 'event answer'\nexec cat\n"):
+        for trace in ("long.sgq", "-", "long.txt"):
+            words = ["sh", "-c", '{ cat long.sgq | ./sgq decide "$1"; echo $? >ended; } | head -n 1', "sh", trace]
+            ended = subprocess.run(words, env=house.environment, cwd=house.root, capture_output=True)
+            check(tally, f"a closed pipe, {trace}", ended, 0, b"event answer\n", lines=0)
+            status = (house.root / "ended").read_text()
+            hold(tally, f"its status, {trace}", status == "141\n", f"the status was {status}")
+
+
+@contextlib.contextmanager
+def standing_in(house, program):
+    """Another program in the place of decide, proved as far as sgq can tell; then the old one again."""
+    kept = (house.root / "made").read_bytes()
+    house.write("made", program, 0o755)
+    house.write("crates/rules.rt", f"for {program}")
+    house.sgq("decide", "example.sgq")
+    yield
+    house.write("made", kept, 0o755)
+    house.write("crates/rules.rt", "good\n")
+    house.sgq("decide", "example.sgq")
 
 
 def test_changes(tally, house):
+    calls = house.calls()
     house.write("crates/rules.rt", "changed\n")
     house.write("broken", "")
-    check(tally, "a change that is not proved", house.sgq("decide"), 2, said="decide is not proved, so it is not run")
-    (house.root / "broken").unlink()
+    unproved = "rules is not proved (rt ended with status 1), so decide is not run"
+    check(tally, "a change that is not proved", house.sgq("decide", "-"), 2, said=unproved, lines=2)
+    house.remove("broken")
     # The stand-in reads all that it is handed, and must not be handed the trace.
     changed = house.sgq("decide", "-", given=(house.root / "example.sgq").read_bytes())
-    check(tally, "a change that is proved", changed, 0, expected("example"), "decide proved")
-    tally.add("proved for each change", None if house.calls() == 3 else f"rt was called {house.calls()} times")
+    check(tally, "a change that is proved", changed, 0, expected("example"), "all 3 crates are proved")
+    hold(tally, "proved for each change", house.calls() == calls + 2, f"rt was called {house.calls() - calls} times")
     check(tally, "no change", house.sgq("decide", "example.sgq"), 0, expected("example"), lines=0)
+    os.utime(house.write("crates/rules.rt", "restored\n"), (0, 0))
+    check(tally, "a change of an old date", house.sgq("decide", "example.sgq"), 0, expected("example"))
+    hold(tally, "it is proved", house.calls() == calls + 3, f"rt was called {house.calls() - calls} times")
+    house.write("crates/rules.rt", "again\n")
+    house.write("meddle", "")
+    check(tally, "a change meanwhile", house.sgq("decide", "-"), 2, said="changed while they were being proved", lines=2)
+    house.remove("meddle")
+    check(tally, "and none", house.sgq("decide", "example.sgq"), 0, expected("example"))
     check(tally, "test", house.sgq("test"), 7, b"tested\n", "from nothing", lines=1)
+
+
+def test_gone(tally, house):
+    """A program that is gone, or was changed, is put back; where that cannot be, rt builds it, and nothing else."""
+    calls, program = house.calls(), house.root / "target" / "bin" / "decide"
+    program.unlink()
+    ended = house.sgq("decide", "example.sgq")
+    check(tally, "a program that is gone", ended, 0, expected("example"), "it is put back", lines=1)
+    hold(tally, "it is there", program.exists())
+    program.write_text("#!/bin/sh\necho wrong\n")
+    ended = house.sgq("decide", "example.sgq")
+    check(tally, "a program that was changed", ended, 0, expected("example"), "it is put back", lines=1)
+    hold(tally, "nothing was proved", house.calls() == calls, "rt was called")
+    house.remove("target/bin/decide", "target/sgq/decide", "target/sgq/decide.proved")
+    check(tally, "a program that is gone for good", house.sgq("decide", "example.sgq"), 0, expected("example"))
+    kept = (house.root / "target" / "stamp" / "rules").exists()
+    hold(tally, "it is built by rt", kept and house.calls() == calls + 1, f"rt was called {house.calls() - calls} times")
+
+
+@contextlib.contextmanager
+def unwritable(house):
+    """What a run needs so that target/ cannot be written: to be another user where we are root."""
+    house.write("calls", "called\n" * house.calls(), 0o666)
+    if os.geteuid() == 0:
+        yield {"user": NOBODY, "group": NOBODY, "extra_groups": []}
+        return
+    folders = [house.root / "target", *(path for path in (house.root / "target").rglob("*") if path.is_dir())]
+    files = [path for path in (house.root / "target").rglob("*") if path.is_file()]
+    for path in files + folders:
+        path.chmod(path.stat().st_mode & ~0o222)
+    yield {}
+    for path in folders + files:
+        path.chmod(path.stat().st_mode | 0o200)
+
+
+def test_room(tally, house):
+    """Where target/ cannot be written a proved program runs, and a change stops sgq before anything is proved."""
+    calls = house.calls()
+    with unwritable(house) as other:
+        ended = house.sgq("decide", "example.sgq", **other)
+        check(tally, "proved, in a folder of another", ended, 0, expected("example"), lines=0)
+        house.write("crates/rules.rt", "broken\n")
+        house.write("broken", "")
+        ended = house.sgq("decide", "example.sgq", **other)
+        check(tally, "not proved, in a folder of another", ended, 2, said="cannot be written, so nothing was", lines=1)
+        hold(tally, "nothing is proved there", house.calls() == calls, "rt was called")
+    house.remove("broken")
+    for name in ("log", "bin"):  # a part of it suffices
+        (house.root / "target").rename(house.root / "put-aside")
+        house.write(f"target/{name}", "in the way")
+        ended = house.sgq("decide", "example.sgq")
+        check(tally, f"a file for target/{name}", ended, 2, said="cannot be written, so nothing was", lines=1)
+        shutil.rmtree(house.root / "target")
+        (house.root / "put-aside").rename(house.root / "target")
+    (house.root / "target").rename(house.root / "put-aside")
+    house.write("target", "in the way")
+    ended = house.sgq("decide", "example.sgq")
+    check(tally, "a file for target", ended, 2, said="cannot be written, so nothing was", lines=1)
+    hold(tally, "nothing is proved then", house.calls() == calls, "rt was called")
+    house.remove("target")
+    (house.root / "put-aside").rename(house.root / "target")
+    house.write("crates/rules.rt", "good\n")
+    check(tally, "room again", house.sgq("decide", "example.sgq"), 0, expected("example"))
+
+
+def test_link(tally, house):
+    (house.root / "far").mkdir()
+    (house.root / "far" / "near").symlink_to("../sgq")
+    (house.root / "far" / "gate").symlink_to(house.root / "far" / "near")
+    linked = house.sgq("decide", "../example.sgq", script="far/gate", cwd=house.root / "far")
+    check(tally, "a symbolic link to sgq", linked, 0, expected("example"), lines=0)
+
+
+def test_two(tally, house):
+    """Two runs at once prove once, and the second says what it waits for."""
+    calls = house.calls()
+    house.write("crates/rules.rt", "for two\n")
+    house.write("slow", "")
+    with house.begun("decide", "example.sgq") as one:
+        hold(tally, "the first run proves", in_time(lambda: house.calls() == calls + 1))
+        with house.begun("decide", "example.sgq") as two:
+            in_time(lambda: two.heard().count("\n"))
+            waits = f"sgq: another run of sgq is proving here (process {one.pid}, since "
+            hold(tally, "the second run waits", two.heard().startswith(waits), two.heard())
+            house.write("go", "")
+            for name, run in (("first", one), ("second", two)):
+                ended = (run.communicate(timeout=MOST_SECONDS)[0], run.returncode)
+                hold(tally, f"the {name} of two runs", ended == (expected("example"), 0), f"it ended with {ended}")
+            hold(tally, "the second says no more", two.heard().count("\n") == 1, two.heard())
+    hold(tally, "two runs prove once", house.calls() == calls + 1, f"rt was called {house.calls() - calls} times")
+
+
+def test_progress(tally, house):
+    """Which crate is being proved, how many of how many, how long; nothing of those that are unchanged."""
+    house.write("crates/rules.rt", "slowly\n")
+    house.write("slow", "")
+    with house.begun("decide", "example.sgq") as run:
+        hold(tally, "what is being proved", in_time(lambda: "sgq: proving rules, 1 of 3 are done, " in run.heard()))
+        said = run.heard()
+        hold(tally, "how long so far", said.endswith(" s so far\n") and said.count("\n") == 2, said)
+        house.write("go", "")
+        ended = (run.communicate(timeout=MOST_SECONDS)[0], run.returncode)
+        hold(tally, "proved slowly", ended == (expected("example"), 0), f"it ended with {ended}")
+        hold(tally, "the unchanged are not named", "lists" not in run.heard(), run.heard())
+
+
+def test_terminal(tally, house):
+    """On a terminal the time goes on in the same line."""
+    house.write("crates/rules.rt", "slowly, at a terminal\n")
+    house.write("slow", "")
+    ours, theirs = os.openpty()
+    words = [house.root / "sgq", "decide", "example.sgq"]
+    run = subprocess.Popen(words, env=house.environment, cwd=house.root, stdout=subprocess.PIPE, stderr=theirs)
+    os.close(theirs)
+    os.set_blocking(ours, False)
+    seen = bytearray()
+
+    def ticks():
+        with contextlib.suppress(OSError):  # nothing to read
+            seen.extend(os.read(ours, 4096))
+        return seen.count(b"\rsgq: proving rules, 1 of 3 are done, ") > 1
+
+    hold(tally, "the time on a terminal", in_time(ticks), bytes(seen))
+    house.write("go", "")
+    run.communicate(timeout=MOST_SECONDS)
+    house.remove("go", "slow")
+    os.close(ours)
+    hold(tally, "what it says there", seen.count(b"\n") == 1, bytes(seen))
+
+
+def test_stopped(tally, house):
+    """After Ctrl-C nothing goes on behind the person's back, and what to expect is said."""
+    for number, text in ((signal.SIGINT, "Ctrl-C\n"), (signal.SIGTERM, "ended\n")):
+        house.write("crates/rules.rt", text)
+        house.write("slow", "")
+        house.remove("pid")
+        with house.begun("decide", "example.sgq") as run:
+            in_time(lambda: (house.root / "pid").exists() and (house.root / "pid").read_text().endswith("\n"))
+            os.killpg(run.pid, number)
+            with contextlib.suppress(subprocess.TimeoutExpired):
+                run.communicate(timeout=MOST_SECONDS)
+            name = signal.Signals(number).name
+            hold(tally, f"the status after {name}", run.returncode == 128 + number, f"it was {run.returncode}")
+            heard = run.heard().splitlines()
+            said = "sgq: stopped; what is proved so far is kept, and the next run goes on from here"
+            hold(tally, f"what is said after {name}", len(heard) >= 2 and heard[-1] == said, run.heard())
+            hold(tally, f"nothing goes on after {name}", not lives(int((house.root / "pid").read_text())))
+        check(tally, f"the run after {name}", house.sgq("decide", "example.sgq"), 0, expected("example"))
+
+
+def lives(process):
+    try:
+        os.kill(process, 0)
+    except ProcessLookupError:
+        return False
+    return True
+
+
+def test_machine(tally, house):
+    """On a machine other than x86-64 the toolchain's emulator runs the program, or a line says that there is none."""
+    house.write("bin/uname", "#!/bin/sh\necho other\n", 0o755)
+    ended = house.sgq("decide", "example.sgq")
+    check(tally, "no emulator", ended, 2, said="decide is for x86-64, this machine is other, and the", lines=1)
+    tools = house.root / "kit" / "on" / "other" / "toolchain"
+    emulator = f'#!/bin/sh\n[ "$1 $2 $3" = "{tools}/lib/ld-linux-x86-64.so.2 --library-path {tools}/lib" ] && exec "$4"\n'
+    house.write("kit/on/other/toolchain/bin/qemu-x86_64", emulator, 0o755)
+    check(tally, "an emulator", house.sgq("decide", "example.sgq"), 0, expected("example"), lines=0)
+    house.write("bin/uname", "#!/bin/sh\necho x86_64\n", 0o755)
+
+
+# With rt itself.
+
+FIRST = "ghost use mathlib.Core.Path.{_≡_};\n\npub fn seven() -> usize\n    ensures { λ r. ⌜ r ≡ 7 ⌝ }\n{\n    7\n}\n"
+
+
+def test_rt(tally, house):
+    """What is assumed of rt: its verdict, its logs, its stamps, and where the programs are that it builds."""
+    house.environment = dict(os.environ)
+    shutil.rmtree(house.root / "crates")
+    shutil.rmtree(house.root / "target")
+    house.write("crates.txt", "first:\ndecide: first\n")
+    house.write("crates/first/src/lib.rt", FIRST)
+    house.write("crates/decide/src/main.rt", "fn main() {}\n")
+    check(tally, "rt proves", house.sgq("decide", "example.sgq"), 0, said="all 2 crates are proved")
+    log = house.root / "target" / "sgq" / "log"
+    hold(tally, "rt's words", "rt: first proved" in log.read_text() and "rt: ok, 2 crates" in log.read_text())
+    house.remove("target/bin/decide", "target/sgq/decide")
+    check(tally, "rt builds again", house.sgq("decide", "example.sgq"), 0, said="all 2 crates are proved")
+    hold(tally, "rt proves no other", "rt: first proved (unchanged" in log.read_text(), log.read_text())
+    left = [(house.root / "target" / "log" / f"{name}.say").exists() for name in ("first", "decide")]
+    hold(tally, "rt's logs", left == [False, True], f"a .say file: {left}")
+    house.write("crates/first/src/lib.rt", FIRST.replace("    7\n", "    8\n"))
+    with unwritable(house) as other:
+        ended = house.sgq("decide", "example.sgq", **other)
+        check(tally, "rt cannot write", ended, 2, said="cannot be written, so nothing was proved", lines=1)
+    unproved = "first is not proved (rt ended with status 1), so decide is not run"
+    check(tally, "rt refuses", house.sgq("decide", "example.sgq"), 2, said=unproved)
 
 
 def tests(tally):
     build_second()
-    with tempfile.TemporaryDirectory() as folder:
+    if not shutil.which("rt"):
+        raise Stop("rt is missing: install the Rattle toolchain")
+    with tempfile.TemporaryDirectory(prefix="a house, ") as folder:
         house = House(folder)
-        for test in (test_words, test_missing, test_decide, test_changes):
+        for test in (
+            test_words,
+            test_missing,
+            test_version,
+            test_decide,
+            test_texts,
+            test_bad_texts,
+            test_refusals,
+            test_failures,
+            test_changes,
+            test_room,
+            test_gone,
+            test_link,
+            test_two,
+            test_progress,
+            test_terminal,
+            test_stopped,
+            test_machine,
+            test_rt,
+        ):
             test(tally, house)
 
 

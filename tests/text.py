@@ -1,8 +1,11 @@
 #!/usr/bin/env python3
-"""Tests samples/sgqtext.py: from bytes to text and back over random traces, refusals with the line's number, times, and
-the command itself. Ends with 'N passed, M failed'."""
+"""Tests samples/sgqtext.py: from bytes to text and back over random traces, refusals with the line's number, times, the
+command itself, and that a text of any length goes through it in little memory. Ends with 'N passed, M failed'."""
 import concurrent.futures
+import os
 import re
+import resource
+import select
 import subprocess
 import sys
 
@@ -12,6 +15,10 @@ KINDS = ["small", "ceiling", "jumps", "header", "cut", "garbage"]
 SEEDS = 60
 HEAD = "depth 4\ncapacity 8\nguest 0 reservation 1 limit 2 shares 3\n"
 HEAD_BYTES = bytes.fromhex("53475101000401080001000000 0200000003000000")
+TOOL = [sys.executable, ROOT / "samples" / "sgqtext.py"]
+TICK = bytes.fromhex("02 00 00000000 0500000000000000")
+MOST_SECONDS = 60  # to wait for what comes at once, where it comes at all
+LITTLE = 64 << 20  # bytes of memory for data
 
 # A bad text, the line that is wrong, and words of what is said.
 REFUSED = [
@@ -89,6 +96,8 @@ COMMANDS = [
     (["bytes"], b"raw 01 02\nraw\nraw a0FF\n", 0, b"\x01\x02\xa0\xff", ""),
     (["bytes"], HEAD.encode() + b"tick at now\n", 1, b"", "line 4: time 'now'"),
     (["bytes"], b"depth 4\n\xff\n", 1, b"", "line 2: this is not text"),
+    (["bytes"], b"depth 4\n#" + b"x" * (1 << 20) + b"\n", 1, b"", "line 2: it has more than 1048576 bytes"),
+    (["bytes"], HEAD.encode() + b"tick at 5", 0, HEAD_BYTES + TICK, ""),
     (["text"], HEAD_BYTES, 0, HEAD.encode(), ""),
     (["text"], HEAD_BYTES[:8], 1, b"", "the header is cut short: 8 bytes of 9 (13)"),
     (["text"], HEAD_BYTES + b"\x02", 1, b"", "event 1: cut short, 1 bytes of 14 (15)"),
@@ -163,16 +172,93 @@ def test_times(tally):
 
 def test_commands(tally):
     for words, given, status, output, said in COMMANDS:
-        tool = [sys.executable, ROOT / "samples" / "sgqtext.py", *words]
-        ended = subprocess.run(tool, input=given, capture_output=True)
+        ended = subprocess.run([*TOOL, *words], input=given, capture_output=True)
         heard = ended.stderr.decode()
         good = (ended.returncode, ended.stdout) == (status, output) and said in heard
         good = good and heard.count("\n") == (1 if status else 0)
         tally.add(f"command {' '.join(words)} {given[-20:]!r}", None if good else f"it ended with {ended}")
 
 
+# A text is converted as it comes.
+
+
+def test_stream(tally):
+    """Bytes come before the text ends, and a reader that has enough is no failure."""
+    with subprocess.Popen([*TOOL, "bytes"], stdin=subprocess.PIPE, stdout=subprocess.PIPE) as tool:
+        tool.stdin.write(HEAD.encode() + b"tick at 5\n" * 76_000)  # a little more than is held back
+        tool.stdin.flush()
+        came = select.select([tool.stdout], [], [], MOST_SECONDS)[0] and os.read(tool.stdout.fileno(), len(HEAD_BYTES))
+        tally.add("bytes before the text ends", None if came == HEAD_BYTES else f"there came {came}")
+        tool.communicate()
+    tool = subprocess.Popen([*TOOL, "bytes"], stdin=subprocess.PIPE, stdout=subprocess.PIPE, stderr=subprocess.PIPE)
+    tool.stdout.close()
+    try:
+        tool.stdin.write(HEAD.encode() + b"tick at 5\n" * 200_000)
+        tool.stdin.close()
+    except BrokenPipeError:
+        pass  # it has ended
+    said = tool.stderr.read()
+    good = tool.wait() == -13 and said == b""
+    tally.add("nobody reads", None if good else f"it ended with {tool.returncode} and said {said}")
+
+
+def test_memory(tally):
+    text = HEAD.encode() + (b"# " + b"x" * 1000 + b"\n") * 64_000 + b"tick at 5\n"
+    limit = lambda: resource.setrlimit(resource.RLIMIT_DATA, (LITTLE, LITTLE))
+    ended = subprocess.run([*TOOL, "bytes"], input=text, capture_output=True, preexec_fn=limit)
+    good = (ended.returncode, ended.stdout, ended.stderr) == (0, HEAD_BYTES + TICK, b"")
+    tally.add("64 MB of text in little memory", None if good else f"it ended with {ended}")
+
+
+def test_mistakes(tally):
+    """A mistake among the first events leaves nothing behind; a later one a trace that ends in a cut event."""
+    early = HEAD.encode() + b"tick at 5\n" * 74_000 + b"tock\n"
+    late = HEAD.encode() + b"tick at 5\n" * 76_000
+    for name, text, output, said in (
+        ("early", early, b"", "line 74004: no line begins with 'tock'"),
+        ("late", late + b"tock\n", HEAD_BYTES + TICK * 76_000 + b"\0", "line 76004: no line begins with 'tock'"),
+        ("late, behind a cut", late + b"raw 02\ntock\n", HEAD_BYTES + TICK * 76_000 + b"\2", "line 76005: no line"),
+        ("late, of raw lines", b"\n".join(raw_lines(76_000)) + b"\ntock\n", HEAD_BYTES + TICK * 76_000 + b"\0", "no line"),
+    ):
+        ended = subprocess.run([*TOOL, "bytes"], input=text, capture_output=True)
+        good = (ended.returncode, ended.stdout) == (1, output) and said in ended.stderr.decode()
+        good = good and ended.stderr.count(b"\n") == 1
+        why = f"it ended with {ended.returncode}, {len(ended.stdout)} bytes and {ended.stderr}"
+        tally.add(f"a mistake: {name}", None if good else why)
+
+
+def raw_lines(ticks):
+    return [b"raw " + HEAD_BYTES.hex().encode()] + [b"raw " + TICK.hex().encode()] * ticks
+
+
+def test_failures(tally):
+    """What cannot be read or written is said in a line."""
+    for name, words, more in (
+        ("nothing to read", "exec 0<&-", "Bad file descriptor"),
+        ("nowhere to write", "exec >/dev/full", "No space left on device"),
+    ):
+        script = ["sh", "-c", f'{words}; exec "$@"', "sh", *TOOL, "bytes"]
+        ended = subprocess.run(script, input=HEAD.encode(), capture_output=True)
+        good = ended.returncode == 3 and ended.stderr.decode() == f"sgqtext.py: input or output failed: {more}\n"
+        tally.add(name, None if good else f"it ended with {ended}")
+
+
+def test_page(tally):
+    """The bytes that samples/README.md shows are those of the example."""
+    page = (ROOT / "samples" / "README.md").read_text()
+    shown = re.findall(r"^    ((?:[0-9a-f]{2} )+) +[a-z]", page, re.MULTILINE)
+    trace = sgqtext.to_bytes((ROOT / "samples" / "example.txt").read_text())
+    good = len(shown) == 3 and trace.startswith(bytes.fromhex("".join(shown)))
+    tally.add("the bytes on the page", None if good else f"the page has {shown}")
+
+
 def tests(tally):
     build_second()
+    test_page(tally)
+    test_stream(tally)
+    test_memory(tally)
+    test_mistakes(tally)
+    test_failures(tally)
     test_round_trips(tally)
     test_files(tally)
     test_refusals(tally)

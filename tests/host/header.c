@@ -69,7 +69,7 @@ int main(void)
     sgq_guest guests[1];
     sgq_request waiting[8];
     sgq_flight flight[4];
-    sgq_tables lent = {&gate, guests, 1, waiting, 8, flight, 4};
+    sgq_tables lent = SGQ_TABLES(gate, guests, waiting, flight);
     sgq_answer answer = sgq_tables_open(&lent, 4, 1, 8, settings, 1);
     if (answer.kind != SGQ_NOTHING) {
         printf("opening was refused: %s\n", sgq_refusal_text(answer.refusal));

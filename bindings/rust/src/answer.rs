@@ -3,7 +3,24 @@
 use crate::raw;
 use std::fmt;
 
-/// What an accepted event led to.
+/// What an accepted event led to. The compiler warns where it is thrown away:
+///
+/// ```compile_fail
+/// #![deny(unused_must_use)]
+/// fn lost(gate: &mut sgq::Gate) -> Result<(), sgq::Refusal> {
+///     gate.tick(0)?;
+///     Ok(())
+/// }
+/// ```
+///
+/// ```
+/// #![deny(unused_must_use)]
+/// fn kept(gate: &mut sgq::Gate) -> Result<(), sgq::Refusal> {
+///     println!("{}", gate.tick(0)?);
+///     Ok(())
+/// }
+/// ```
+#[must_use = "an answer may name a request that now goes to the array"]
 #[derive(Clone, Copy, Debug, PartialEq, Eq, Hash)]
 pub enum Answer {
     /// Nothing goes to the array now.
@@ -30,35 +47,39 @@ pub enum Phase {
     Weight,
 }
 
-/// Why a call was refused: document 01's numbers 1 to 10. "Every refusal changes no lent number and not the time."
+/// Why a call was refused, with the number of document 01. "Every refusal changes no lent number and not the time."
+///
+/// The numbers of those that the calls give need not follow each other, and more may come.
 #[derive(Clone, Copy, Debug, PartialEq, Eq, Hash)]
+#[non_exhaustive]
+#[repr(u64)]
 pub enum Refusal {
-    /// 1: "a setting is out of range, when opening".
+    /// "a setting is out of range, when opening".
     Setting = 1,
-    /// 2: "a lent table, or at opening the lent list of guest settings, is shorter than the settings need". A
+    /// "a lent table, or at opening the lent list of guest settings, is shorter than the settings need". A
     /// [`crate::Gate`] lends tables of the right length, so it never gives this.
     ShortTable = 2,
-    /// 3: "the table is not sound". A [`crate::Gate`] keeps its tables to itself, so it never gives this.
+    /// "the table is not sound". A [`crate::Gate`] keeps its tables to itself, so it never gives this.
     NotSound = 3,
-    /// 4: "unknown guest".
+    /// "unknown guest".
     UnknownGuest = 4,
-    /// 5: "time above the ceiling".
+    /// "time above the ceiling".
     TimeAboveCeiling = 5,
-    /// 6: "time before the last accepted time".
+    /// "time before the last accepted time".
     TimeBeforeLast = 6,
-    /// 7: "arrival: guest has this id waiting or in flight".
+    /// "arrival: guest has this id waiting or in flight".
     IdInUse = 7,
-    /// 8: "arrival: waiting count equals capacity".
+    /// "arrival: waiting count equals capacity".
     WaitingFull = 8,
-    /// 9: "arrival: a tag given, or a share tag moved, would pass the ceiling".
+    /// "arrival: a tag given, or a share tag moved, would pass the ceiling".
     TagAboveCeiling = 9,
-    /// 10: "completion: guest has no such id in flight".
+    /// "completion: guest has no such id in flight".
     NotInFlight = 10,
 }
 
 impl Refusal {
-    /// All of them.
-    pub const ALL: [Refusal; 10] = [
+    /// All that the calls give.
+    pub const ALL: &'static [Refusal] = &[
         Refusal::Setting,
         Refusal::ShortTable,
         Refusal::NotSound,
@@ -72,18 +93,20 @@ impl Refusal {
     ];
 
     /// The refusal of this number, if the calls give it.
+    #[must_use]
     pub fn of(number: u64) -> Option<Refusal> {
-        Refusal::ALL
-            .into_iter()
-            .find(|refusal| refusal.number() == number)
+        let all = Refusal::ALL.iter().copied();
+        all.into_iter().find(|refusal| refusal.number() == number)
     }
 
     /// Document 01's number.
+    #[must_use]
     pub fn number(self) -> u64 {
         self as u64
     }
 
     /// Document 01's words.
+    #[must_use]
     pub fn words(self) -> &'static str {
         match self {
             Refusal::Setting => "a setting is out of range",
@@ -108,13 +131,33 @@ impl fmt::Display for Refusal {
 
 impl std::error::Error for Refusal {}
 
+impl fmt::Display for Phase {
+    fn fmt(&self, f: &mut fmt::Formatter<'_>) -> fmt::Result {
+        f.write_str(match self {
+            Phase::Reservation => "reservation",
+            Phase::Weight => "weight",
+        })
+    }
+}
+
+impl fmt::Display for Answer {
+    fn fmt(&self, f: &mut fmt::Formatter<'_>) -> fmt::Result {
+        match self {
+            Answer::Nothing => f.write_str("nothing sent"),
+            Answer::Sent { phase, guest, id } => {
+                write!(f, "guest {guest}, id {id} sent by {phase}")
+            }
+        }
+    }
+}
+
 /// The library's answer by name.
 pub(crate) fn named(answer: raw::Answer) -> Result<Answer, Refusal> {
     match answer.kind {
-        0 => Ok(Answer::Nothing),
-        1 => Ok(sent(Phase::Reservation, answer)),
-        2 => Ok(sent(Phase::Weight, answer)),
-        _ => Err(Refusal::of(answer.refusal).expect("the calls give no other answer")),
+        raw::NOTHING => Ok(Answer::Nothing),
+        raw::SENT_BY_RESERVATION => Ok(sent(Phase::Reservation, answer)),
+        raw::SENT_BY_WEIGHT => Ok(sent(Phase::Weight, answer)),
+        _ => Err(Refusal::of(answer.refusal).expect("library and wrapper are of one version")),
     }
 }
 

@@ -27,8 +27,7 @@ impl Gate {
             waiting: vec![Request::default(); places(capacity, MOST_CAPACITY)],
             flight: vec![Flight::default(); places(depth, MOST_DEPTH)],
         };
-        gate.call_open(depth, capacity, guests)?;
-        Ok(gate)
+        gate.call_open(depth, capacity, guests).map(|_| gate)
     }
 
     fn call_open(
@@ -133,33 +132,65 @@ impl Gate {
     }
 
     /// Places at the array.
+    #[must_use]
     pub fn depth(&self) -> u64 {
         self.numbers.depth
     }
 
     /// Waiting places.
+    #[must_use]
     pub fn capacity(&self) -> u64 {
         self.numbers.capacity
     }
 
     /// The time of the last accepted event.
+    #[must_use]
     pub fn time(&self) -> u64 {
         self.numbers.time
     }
 
     /// The guests with their next numbers.
+    #[must_use]
     pub fn guests(&self) -> &[Guest] {
         &self.guests
     }
 
     /// The waiting requests, in order of acceptance.
+    #[must_use]
     pub fn waiting(&self) -> &[Request] {
-        &self.waiting[..self.numbers.waiting as usize]
+        first(&self.waiting, self.numbers.waiting)
     }
 
     /// The requests in flight, in order of sending.
+    #[must_use]
     pub fn flight(&self) -> &[Flight] {
-        &self.flight[..self.numbers.flight as usize]
+        first(&self.flight, self.numbers.flight)
+    }
+
+    /// How many places at the array are free. Where none is, no call sends anything.
+    #[must_use]
+    pub fn free_places(&self) -> u64 {
+        self.numbers.depth - self.numbers.flight
+    }
+
+    /// How many waiting places are free. Where none is, an arrival is refused, [`Refusal::WaitingFull`].
+    #[must_use]
+    pub fn free_waiting(&self) -> u64 {
+        self.numbers.capacity - self.numbers.waiting
+    }
+
+    /// How many requests of a guest wait, as for a quota of waiting places.
+    #[must_use]
+    pub fn waiting_of(&self, guest: u64) -> usize {
+        let own = |request: &&Request| request.guest == guest;
+        self.waiting().iter().filter(own).count()
+    }
+
+    /// How many requests of a guest are in flight.
+    #[must_use]
+    pub fn flight_of(&self, guest: u64) -> usize {
+        let own = |request: &&Flight| request.guest == guest;
+        self.flight().iter().filter(own).count()
     }
 
     /// The tables as the library takes them. Each is its own memory, as long as is said, and no one else has it while
@@ -194,5 +225,11 @@ fn numbers_in<T>(records: &[T]) -> usize {
 }
 
 fn places(wanted: u64, most: u64) -> usize {
-    wanted.min(most) as usize
+    usize::try_from(wanted.min(most)).expect("the most fits")
+}
+
+/// As many records as the library counts; its tables have the room.
+fn first<T>(records: &[T], count: u64) -> &[T] {
+    let count = usize::try_from(count).expect("at most the records");
+    &records[..count]
 }

@@ -24,8 +24,9 @@
 //!
 //! # Linking
 //!
-//! The build script links target/staticlib/libhost.a of this repository, which `rt staticlib host` writes; the
-//! environment variable `SGQ_LIB` may name another archive. The library is for x86-64 Linux.
+//! The build script links the archive that the environment variable `SGQ_LIB` names, or else target/staticlib/libhost.a
+//! of the repository around this package, which `rt staticlib host` writes, or else the one that `make install` has
+//! installed and pkg-config knows. The library is for x86-64 Linux.
 //!
 //! # What is proved
 //!

@@ -64,8 +64,12 @@ pub struct Settings {
 #[repr(C)]
 #[derive(Clone, Copy, Debug, Default, PartialEq, Eq)]
 pub struct Guest {
-    /// The settings it was opened with.
-    pub settings: Settings,
+    /// Requests per second, "0 meaning none".
+    pub reservation: u64,
+    /// Requests per second, "0 meaning unlimited".
+    pub limit: u64,
+    /// Of what is left when the reservations are served.
+    pub shares: u64,
     /// The next reservation number; 0 and without meaning where there is no reservation.
     pub rnext: u64,
     /// The next limit number; 0 and without meaning where there is no limit.
@@ -100,11 +104,21 @@ pub struct Flight {
     pub id: u64,
 }
 
+/// The kind of an answer: accepted (at opening: opened), and nothing is sent.
+pub const NOTHING: u64 = 0;
+/// The kind of an answer: accepted, and a request is sent by reservation.
+pub const SENT_BY_RESERVATION: u64 = 1;
+/// The kind of an answer: accepted, and a request is sent by weight.
+pub const SENT_BY_WEIGHT: u64 = 2;
+/// The kind of an answer: refused, and nothing has changed.
+pub const REFUSED: u64 = 3;
+
 /// What a call answers; [`crate::Answer`] and [`crate::Refusal`] have names for it.
+#[must_use = "an answer may name a request that now goes to the array"]
 #[repr(C)]
 #[derive(Clone, Copy, Debug, Default, PartialEq, Eq)]
 pub struct Answer {
-    /// 0 nothing, 1 sent by reservation, 2 by weight, 3 refused.
+    /// [`NOTHING`], [`SENT_BY_RESERVATION`], [`SENT_BY_WEIGHT`] or [`REFUSED`].
     pub kind: u64,
     /// The guest of the request sent, or 0.
     pub guest: u64,

@@ -1,17 +1,16 @@
 //! The names beside the numbers of the library, and the calls on tables that a `Gate` never lends.
 
 use sgq::raw::{self, FLIGHT_NUMBERS, GUEST_NUMBERS, REQUEST_NUMBERS};
-use sgq::{Gate, Refusal, CEILING};
+use sgq::{Answer, Flight, Gate, Guest, Phase, Refusal, Request, CEILING};
 
 #[test]
 fn refusals_by_number() {
-    for number in 1..=10 {
-        let refusal = Refusal::of(number).expect("the calls give it");
-        assert_eq!(refusal.number(), number);
+    for &refusal in Refusal::ALL {
+        assert_eq!(Refusal::of(refusal.number()), Some(refusal));
     }
-    for number in [0, 11, 15, u64::MAX] {
-        assert_eq!(Refusal::of(number), None);
-    }
+    let given = (0..100).filter(|&number| Refusal::of(number).is_some());
+    assert!(given.eq(Refusal::ALL.iter().map(|refusal| refusal.number())));
+    assert_eq!(Refusal::of(u64::MAX), None);
 }
 
 #[test]
@@ -19,6 +18,22 @@ fn refusals_are_errors() {
     let error: Box<dyn std::error::Error> = Box::new(Refusal::IdInUse);
     let said = "refused 7: guest has this id waiting or in flight";
     assert_eq!(error.to_string(), said);
+}
+
+#[test]
+fn answers_in_words() {
+    let sent = |phase| Answer::Sent {
+        phase,
+        guest: 3,
+        id: 17,
+    };
+    let said = |phase| sent(phase).to_string();
+    assert_eq!(
+        said(Phase::Reservation),
+        "guest 3, id 17 sent by reservation"
+    );
+    assert_eq!(said(Phase::Weight), "guest 3, id 17 sent by weight");
+    assert_eq!(Answer::Nothing.to_string(), "nothing sent");
 }
 
 #[test]
@@ -30,15 +45,12 @@ fn a_gate_goes_to_another_thread() {
 /// What a tick answers on this gate, with the tables of one guest, depth 1 and capacity 1 lent to these lengths.
 fn tick(gate: raw::Numbers, guests: usize, waiting: usize, flight: usize) -> raw::Answer {
     let mut gate = gate;
-    let mut guest_table = [raw::Guest {
-        settings: raw::Settings {
-            shares: 1,
-            ..Default::default()
-        },
-        ..Default::default()
+    let mut guest_table = [Guest {
+        shares: 1,
+        ..Guest::default()
     }];
-    let mut waiting_table = [raw::Request::default()];
-    let mut flight_table = [raw::Flight::default()];
+    let mut waiting_table = [Request::default()];
+    let mut flight_table = [Flight::default()];
     assert!(guests <= GUEST_NUMBERS && waiting <= REQUEST_NUMBERS && flight <= FLIGHT_NUMBERS);
     // SAFETY: four tables of their own, of which at most as much is lent as there is.
     unsafe {
@@ -55,10 +67,10 @@ fn tick(gate: raw::Numbers, guests: usize, waiting: usize, flight: usize) -> raw
     }
 }
 
-fn refusal(number: u64) -> raw::Answer {
+fn refused(refusal: Refusal) -> raw::Answer {
     raw::Answer {
-        kind: 3,
-        refusal: number,
+        kind: raw::REFUSED,
+        refusal: refusal.number(),
         ..raw::Answer::default()
     }
 }
@@ -78,7 +90,7 @@ fn short_tables() {
     assert_eq!(tick(SOUND, g, w, f), raw::Answer::default());
     for (guests, waiting, flight) in [(g - 1, w, f), (g, w - 1, f), (g, w, f - 1), (0, 0, 0)] {
         let answer = tick(SOUND, guests, waiting, flight);
-        assert_eq!(answer, refusal(Refusal::ShortTable.number()));
+        assert_eq!(answer, refused(Refusal::ShortTable));
     }
 }
 
@@ -95,6 +107,6 @@ fn unsound_tables() {
     };
     for unsound in [no_depth, late, too_many] {
         let answer = tick(unsound, GUEST_NUMBERS, REQUEST_NUMBERS, FLIGHT_NUMBERS);
-        assert_eq!(answer, refusal(Refusal::NotSound.number()));
+        assert_eq!(answer, refused(Refusal::NotSound));
     }
 }

@@ -1,6 +1,8 @@
 //! Document 01's example and edge readings, and each refusal, through the wrapper.
 
-use sgq::{Answer, Flight, Gate, Phase, Refusal, Settings};
+#![allow(clippy::unnecessary_wraps)] // what a call must give is compared as it is given
+
+use sgq::{Answer, Flight, Gate, Guest, Phase, Refusal, Settings};
 use sgq::{CEILING, MOST_CAPACITY, MOST_DEPTH, MOST_GUESTS, MOST_RATE};
 
 const MS: u64 = 1_000_000;
@@ -92,11 +94,15 @@ fn spacings() {
     let mut gate = open(1, 8, &[settings(3, 3, 300)]);
     assert_eq!(gate.arrive(0, 1, 0), by_reservation(0, 1));
     let guest = gate.guests()[0];
-    assert_eq!(guest.settings, settings(3, 3, 300));
-    assert_eq!(
-        (guest.rnext, guest.lnext, guest.snext),
-        (333_333_333, 333_333_334, 3_333_333)
-    );
+    let expected = Guest {
+        reservation: 3,
+        limit: 3,
+        shares: 300,
+        rnext: 333_333_333,
+        lnext: 333_333_334,
+        snext: 3_333_333,
+    };
+    assert_eq!(guest, expected);
 }
 
 #[test]
@@ -150,8 +156,9 @@ fn an_id_in_use() {
 fn bad_settings() {
     let good = settings(5, 5, 1);
     let opened = |depth, capacity, guests: &[Settings]| Gate::open(depth, capacity, guests).err();
-    let most = vec![good; MOST_GUESTS as usize];
-    assert_eq!(opened(MOST_DEPTH, MOST_CAPACITY, &most), None);
+    let most = usize::try_from(MOST_GUESTS).expect("it fits");
+    let guests = vec![good; most + 1];
+    assert_eq!(opened(MOST_DEPTH, MOST_CAPACITY, &guests[..most]), None);
     for depth in [0, MOST_DEPTH + 1, u64::MAX] {
         assert_eq!(opened(depth, 1, &[good]), Some(Refusal::Setting));
     }
@@ -159,8 +166,7 @@ fn bad_settings() {
         assert_eq!(opened(1, capacity, &[good]), Some(Refusal::Setting));
     }
     assert_eq!(opened(1, 1, &[]), Some(Refusal::Setting));
-    let too_many = vec![good; MOST_GUESTS as usize + 1];
-    assert_eq!(opened(1, 1, &too_many), Some(Refusal::Setting));
+    assert_eq!(opened(1, 1, &guests), Some(Refusal::Setting));
     for bad in [
         settings(6, 5, 1),
         settings(0, 0, 0),
@@ -175,8 +181,12 @@ fn what_a_gate_shows() {
     let mut gate = open(2, 3, &[settings(0, 1, 1)]);
     assert_eq!((gate.depth(), gate.capacity(), gate.time()), (2, 3, 0));
     assert_eq!((gate.waiting(), gate.flight()), (&[][..], &[][..]));
+    assert_eq!((gate.free_places(), gate.free_waiting()), (2, 3));
     assert_eq!(gate.arrive(0, 7, 5), by_weight(0, 7));
     assert_eq!(gate.arrive(0, 8, 6), NOTHING);
+    assert_eq!((gate.free_places(), gate.free_waiting()), (1, 2));
+    assert_eq!((gate.flight_of(0), gate.waiting_of(0)), (1, 1));
+    assert_eq!((gate.flight_of(1), gate.waiting_of(1)), (0, 0));
     assert_eq!(gate.flight(), [Flight { guest: 0, id: 7 }]);
     assert_eq!((gate.waiting().len(), gate.waiting()[0].id), (1, 8));
     assert_eq!((gate.time(), gate.guests().len()), (6, 1));

@@ -126,12 +126,12 @@ fn of_second(call: &Call, tables: &mut Owned) -> raw::Answer {
 /// The second program's answer as the C interface gives it.
 fn in_numbers(answer: Answer) -> raw::Answer {
     let (kind, guest, id, refusal) = match answer {
-        Answer::Nothing => (0, 0, 0, 0),
+        Answer::Nothing => (raw::NOTHING, 0, 0, 0),
         Answer::Sent { phase, guest, id } => match phase {
-            Phase::Reservation => (1, guest, id, 0),
-            Phase::Weight => (2, guest, id, 0),
+            Phase::Reservation => (raw::SENT_BY_RESERVATION, guest, id, 0),
+            Phase::Weight => (raw::SENT_BY_WEIGHT, guest, id, 0),
         },
-        Answer::Refused(number) => (3, 0, 0, number as u64),
+        Answer::Refused(number) => (raw::REFUSED, 0, 0, number as u64),
     };
     raw::Answer {
         kind,

@@ -1,8 +1,8 @@
 //! What passed, what failed, and which answers were seen.
 
-use sgq::raw::Answer;
-
-const REFUSALS: usize = 10;
+use sgq::raw::{Answer, REFUSED};
+use sgq::Refusal;
+use std::collections::BTreeMap;
 
 /// Where nearly all fail, a few lines tell as much as thousands.
 const MOST_SHOWN: u64 = 20;
@@ -27,38 +27,45 @@ impl Tally {
     }
 }
 
-/// How often each answer was given.
+/// How often each answer was given, by kind, and each refusal, by number.
 #[derive(Default)]
 pub struct Seen {
     pub calls: u64,
-    kinds: [u64; 3],
-    refusals: [u64; REFUSALS + 1],
+    kinds: [u64; REFUSED as usize],
+    refusals: BTreeMap<u64, u64>,
 }
 
 impl Seen {
     pub fn note(&mut self, answer: Answer) {
         self.calls += 1;
-        match answer.kind as usize {
-            kind @ 0..=2 => self.kinds[kind] += 1,
-            _ => self.refusals[answer.refusal as usize] += 1,
+        match self.kinds.get_mut(answer.kind as usize) {
+            Some(times) => *times += 1,
+            None => *self.refusals.entry(answer.refusal).or_default() += 1,
         }
+    }
+
+    fn times(&self, refusal: Refusal) -> u64 {
+        self.refusals.get(&refusal.number()).copied().unwrap_or(0)
     }
 
     pub fn print(&self) {
         let [nothing, reservation, weight] = self.kinds;
         println!("  nothing {nothing}, sent by reservation {reservation}, by weight {weight}");
-        let refusal = |number: usize| format!("{number}: {}", self.refusals[number]);
-        let refusals: Vec<_> = (1..=REFUSALS).map(refusal).collect();
-        println!("  refused {}", refusals.join(", "));
+        let line = |&refusal: &Refusal| format!("{}: {}", refusal.number(), self.times(refusal));
+        let lines: Vec<_> = Refusal::ALL.iter().map(line).collect();
+        println!("  refused {}", lines.join(", "));
     }
 
-    /// Whether an answer of each kind and each refusal number was seen.
+    /// Whether an answer of each kind and each refusal was seen.
     pub fn all_seen(&self) -> Result<(), String> {
         if let Some(kind) = self.kinds.iter().position(|&times| times == 0) {
             return Err(format!("no answer was of kind {kind}"));
         }
-        match (1..=REFUSALS).find(|&number| self.refusals[number] == 0) {
-            Some(number) => Err(format!("refusal {number} was never given")),
+        match Refusal::ALL
+            .iter()
+            .find(|&&refusal| self.times(refusal) == 0)
+        {
+            Some(never) => Err(format!("{} was never given", never.number())),
             None => Ok(()),
         }
     }

@@ -1,0 +1,70 @@
+/* house.h: a simulated house around the gate, for the figures of docs/HOSTS.md: an array, guests that ask, a host that
+ * hands events to the gate and keeps a quota. Time is simulated and all is whole numbers, so that the figures are the
+ * same on every machine. */
+#ifndef HOUSE_H
+#define HOUSE_H
+
+#include "sgq.h"
+
+#define MS UINT64_C(1000000) /* nanoseconds */
+#define SECOND (1000 * MS)
+#define NEVER UINT64_MAX
+#define GUESTS 8   /* at most */
+#define ASKED 1024 /* requests under way, at most */
+
+/* How a guest asks, from one time until another: it keeps so many requests under way, or asks once in each period. */
+struct load {
+    uint64_t under_way, period, from, until;
+    uint64_t quota; /* of waiting places, before the gate; 0: none */
+};
+
+/* What became of a guest's requests: the longest wait from asking to sending, and from asking to the end. */
+struct tally {
+    uint64_t refused, sent, by_reservation, longest, longest_whole;
+};
+
+/* A request: when it was asked for and, at the array, when it will be done. */
+struct job {
+    uint64_t guest, id, asked, done;
+};
+
+struct jobs {
+    struct job job[ASKED];
+    size_t count;
+};
+
+struct house {
+    sgq_gate gate;
+    sgq_guest guests[GUESTS];
+    sgq_request waiting[SGQ_MOST_CAPACITY];
+    sgq_flight flight[SGQ_MOST_DEPTH];
+    sgq_tables lent;
+
+    uint64_t servers, service; /* the array works on so many requests at once, each so long, in order of sending */
+    uint64_t server_free[SGQ_MOST_DEPTH];
+    struct load load[GUESTS];
+    struct tally tally[GUESTS];
+    uint64_t next_ask[GUESTS];
+    uint32_t next_id[GUESTS];
+    struct jobs door, inside, busy; /* asked for; accepted and not yet sent; at the array */
+    uint64_t events, ticks, idle_ticks; /* arrivals and completions; ticks, and those of them that sent nothing */
+    uint64_t now;
+};
+
+/* Opens the gate, with an array that works on `servers` requests at once for `service` ns each. */
+void house_open(struct house *house, uint64_t depth, uint64_t capacity, const sgq_settings *settings, size_t guests,
+                uint64_t servers, uint64_t service);
+
+/* Lets a guest ask from now on. */
+void house_load(struct house *house, uint64_t guest, struct load load);
+
+/* Plays until a time; what happens at that time is left for the next call. */
+void house_play(struct house *house, uint64_t until);
+
+/* Forgets what was counted so far. */
+void house_count_anew(struct house *house);
+
+/* Ends the program: a call was refused that should not be. */
+void stop_at(const char *what, sgq_answer answer);
+
+#endif

@@ -1,0 +1,82 @@
+#!/usr/bin/env python3
+"""Holds docs/HOSTS.md to examples/: its figures to what examples/figures prints, its C to the sources there.
+
+    python3 tests/figures.py [--mend]     --mend writes the figures that are printed into the page
+
+Figures stand in a block below a line 'Figures `NAME`:', each part that is printed once. The library is
+target/staticlib/libhost.a, which 'rt staticlib host' writes; the environment variable SGQ_LIB may name another archive.
+Ends with 'N passed, M failed'.
+"""
+import concurrent.futures
+import pathlib
+import re
+import subprocess
+import sys
+import tempfile
+
+from kit import CORES, LIBRARY, ROOT, Stop, need_library, run_tests
+from machine import before_linked, compiler, is_installed, say_how
+
+EXAMPLES = ROOT / "examples"
+PAGE = ROOT / "docs" / "HOSTS.md"
+WARNINGS = ["-Wall", "-Wextra", "-Wpedantic", "-Werror", "-Wshadow", "-Wconversion", "-Wcast-qual"]
+QUOTED = re.compile(r"^(Figures `(\w+)`:\n\n```\n)(.*?)^```$", re.MULTILINE | re.DOTALL)
+CODE = re.compile(r"^```c\n(.*?)^```$", re.MULTILINE | re.DOTALL)
+
+
+def printed(name):
+    """What the figures' program prints, by part, where that compiler builds it."""
+    with tempfile.TemporaryDirectory() as folder:
+        program = pathlib.Path(folder) / "figures"
+        sources = sorted((EXAMPLES / "figures").glob("*.c"))
+        words = [*compiler(name), "-std=c99", "-O2", *WARNINGS, f"-I{ROOT / 'include'}", *sources, LIBRARY, "-o", program]
+        for step in (words, [*before_linked(), program]):
+            ended = subprocess.run(step, capture_output=True, text=True)
+            if ended.returncode != 0:
+                raise Stop(f"{step[0]} ended with status {ended.returncode}\n{ended.stdout}{ended.stderr}")
+    return dict(re.findall(r"^== (\w+)\n(.*?)(?=^== |\Z)", ended.stdout, re.MULTILINE | re.DOTALL))
+
+
+def mend(figures):
+    text = PAGE.read_text()
+    PAGE.write_text(QUOTED.sub(lambda block: f"{block.group(1)}{figures.get(block.group(2), '')}```", text))
+
+
+def test_figures(tally, figures):
+    """Each part stands in the page once, as it is printed."""
+    quoted = [(name, text) for _, name, text in QUOTED.findall(PAGE.read_text())]
+    for name, text in figures.items():
+        found = [other for other_name, other in quoted if other_name == name]
+        why = None if found == [text] else f"docs/HOSTS.md has {len(found)} of it, or it prints (--mend):\n{text}"
+        tally.add(f"figures {name}", why)
+    for name, _ in quoted:
+        tally.add(f"figures {name} in docs/HOSTS.md", None if name in figures else "nothing prints them")
+
+
+def test_code(tally):
+    sources = [path.read_text() for path in sorted(EXAMPLES.rglob("*.c"))]
+    for code in CODE.findall(PAGE.read_text()):
+        there = any(f"\n{code}" in source for source in sources)
+        tally.add(f"'{code.splitlines()[0]}'", None if there else "it does not stand so in examples/")
+
+
+def tests(tally):
+    words = sys.argv[1:]
+    if words not in ([], ["--mend"]):
+        raise Stop("tests/figures.py takes no word but --mend")
+    need_library()
+    found = [name for name in ("gcc", "clang") if is_installed(name)]
+    if not found:
+        raise Stop("there is no compiler for C: install gcc or clang")
+    say_how(linked=True)
+    with concurrent.futures.ThreadPoolExecutor(CORES) as pool:
+        figures, *others = pool.map(printed, found)
+    if words:
+        mend(figures)
+    for name, other in zip(found[1:], others):
+        tally.add(f"figures, {name}", None if other == figures else "they are not the same")
+    test_figures(tally, figures)
+    test_code(tally)
+
+
+sys.exit(run_tests(tests))

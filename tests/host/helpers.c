@@ -1,0 +1,80 @@
+/* The helpers of sgq.h where header.c does not come: tables of no records, counts taken from arrays, free places and
+ * waiting counts. C99 and C++ alike; prints a line for each thing that is not as it should be. */
+#include "sgq.h"
+
+#include <inttypes.h>
+#include <stdio.h>
+#include <string.h>
+
+#define DEPTH 2
+#define CAPACITY 3
+#define GUESTS 2
+
+static int wrong = 0;
+
+static void same(const char *what, uint64_t found, uint64_t expected)
+{
+    if (found == expected)
+        return;
+    wrong = 1;
+    printf("%s: %" PRIu64 ", not %" PRIu64 "\n", what, found, expected);
+}
+
+static void refused(const char *what, sgq_answer answer, uint64_t expected)
+{
+    same(what, answer.kind, SGQ_REFUSED);
+    same(what, answer.refusal, expected);
+}
+
+/* Tables of no records, and no settings: NULL is as good as any pointer. */
+static void no_records(void)
+{
+    static const sgq_settings settings[GUESTS] = {{0, 0, 1}, {0, 0, 1}};
+    sgq_gate gate = {DEPTH, GUESTS, CAPACITY, 0, 0, 0};
+    sgq_tables lent = {&gate, NULL, 0, NULL, 0, NULL, 0};
+    refused("no guests", sgq_tables_open_all(&lent, NULL, 0), SGQ_REFUSED_SETTING);
+    refused("no settings", sgq_tables_open(&lent, DEPTH, GUESTS, CAPACITY, NULL, 0), SGQ_REFUSED_SHORT_TABLE);
+    refused("no tables", sgq_tables_open(&lent, DEPTH, GUESTS, CAPACITY, settings, GUESTS), SGQ_REFUSED_SHORT_TABLE);
+    refused("arrival", sgq_tables_arrive(&lent, 0, 1, 0), SGQ_REFUSED_SHORT_TABLE);
+    refused("completion", sgq_tables_complete(&lent, 0, 1, 0), SGQ_REFUSED_SHORT_TABLE);
+    refused("tick", sgq_tables_tick(&lent, 0), SGQ_REFUSED_SHORT_TABLE);
+}
+
+/* Two guests, five arrivals: two are sent, the others wait; the sixth finds no place. */
+static void counts(void)
+{
+    static const sgq_settings settings[] = {{0, 0, 1}, {0, 0, 1}};
+    static sgq_gate gate;
+    static sgq_guest guests[GUESTS];
+    static sgq_request waiting[CAPACITY];
+    static sgq_flight flight[DEPTH];
+    static const sgq_tables lent = SGQ_TABLES(gate, guests, waiting, flight);
+    static const uint64_t from[] = {0, 1, 1, 0, 1};
+
+    same("open", sgq_tables_open_all(&lent, settings, SGQ_COUNT(settings)).kind, SGQ_NOTHING);
+    same("depth", gate.depth, DEPTH);
+    same("guests", gate.guests, GUESTS);
+    same("capacity", gate.capacity, CAPACITY);
+    same("free places", sgq_free_places(&gate), DEPTH);
+    same("free waiting places", sgq_free_waiting(&gate), CAPACITY);
+    for (uint32_t id = 0; id < SGQ_COUNT(from); id++)
+        same("sent", (uint64_t)sgq_sent(sgq_tables_arrive(&lent, from[id], id, 0)), id < DEPTH);
+    same("no free place", sgq_free_places(&gate), 0);
+    same("no free waiting place", sgq_free_waiting(&gate), 0);
+    same("waiting of 0", sgq_waiting_of(&lent, 0), 1);
+    same("waiting of 1", sgq_waiting_of(&lent, 1), 2);
+    same("waiting of nobody", sgq_waiting_of(&lent, 2), 0);
+    same("flight of 0", sgq_flight_of(&lent, 0), 1);
+    same("flight of 1", sgq_flight_of(&lent, 1), 1);
+    refused("a sixth", sgq_tables_arrive(&lent, 0, 6, 0), SGQ_REFUSED_WAITING_FULL);
+}
+
+int main(void)
+{
+    char version[32];
+    snprintf(version, sizeof version, "%d.%d.%d", SGQ_VERSION_MAJOR, SGQ_VERSION_MINOR, SGQ_VERSION_PATCH);
+    same("version", (uint64_t)strcmp(version, SGQ_VERSION), 0);
+    no_records();
+    counts();
+    return wrong;
+}
