@@ -1,3 +1,6 @@
 pub mod Begins
 pub mod Opening
+pub mod Stands
+pub mod Heading
+pub mod Pumping
 pub mod Whole

@@ -1,2 +1,2 @@
 pub mod Begin
-pub mod Whole
+pub mod Standing

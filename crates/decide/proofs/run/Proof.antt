@@ -1,45 +1,31 @@
-use native.Mathlib.Omega.{arith}
-use mathlib.Core.Path.{sym, _∙_}
-use Rattle.trace.proofs.Shown.{header-shown-once}
+use mathlib.Core.Path.{_∙_}
+use Rattle.decide.proofs.Heading.{filled-first, unfilled}
 use borrow.Author.Needs.{needs}
 use Rattle.decide.proofs.run.Statement.{statement}
 use Rattle.decide.proofs.run.Tie as tie
 
-read-full-requires : tie.Need-read-full-requires
-read-full-requires c κs = search needs
+fill-requires : tie.Need-fill-requires
+fill-requires c κs = search needs
 
-slice-reshare-prefix-read-header : tie.Need-slice-reshare-prefix-read-header
-slice-reshare-prefix-read-header c = search needs
+enum-known-filled : tie.Need-enum-known-filled
+enum-known-filled c = search needs
 
-slice-aggregate-read-header : tie.Need-slice-aggregate-read-header
-slice-aggregate-read-header c = search needs
-
-read-header-requires : tie.Need-read-header-requires
-read-header-requires c κs = search needs
-
-enum-known-header : tie.Need-enum-known-header
-enum-known-header c = search needs
-
-refuse-requires : tie.Need-refuse-requires
-refuse-requires c κs = search needs
-
-enum-known-header-2 : tie.Need-enum-known-header-2
-enum-known-header-2 c = search needs
-
-follow-requires : tie.Need-follow-requires
-follow-requires c κs =
-    let f = c .before .before .before .before .before .before .before .before .before .before .before .before .before .read-full in
+judge-requires : tie.Need-judge-requires
+judge-requires c κs =
+    let a = c .before .before .before .before .before .before .before .before .before .before .before .before .before .before .before .before .before .before .before .before .before .args in
     let p = c .before .before .before .before .before .before .before .before .before .before .before .before .before .before .before .before .before .before .before .before .before .pre in
-    ((f .kept .1 .0 ∙ p .0 .0, omega (arith, f .ensures, f .kept .1 .0, p .0 .0), p .0 .1), (sym (header-shown-once (c .before .before .before .before .before .before .before .before .before .read-header .result) _ (c .before .before .before .before .before .before .before .before .before .read-header .ensures)) ∙ c .before .before .before .before .before .before .before .header2 .given .1, p .1))
+    let f = c .before .before .before .before .before .before .before .before .before .before .before .before .fill in
+    let x = filled-first (a .log .now) (f .last .1 .0) (f .last .0) (f .result) (f .ensures) (p .1 .1) _ (c .before .before .before .before .before .before .before .before .filled .given .1) (f .kept .0 ∙ p .0 .0) in
+    ((f .kept .0 ∙ p .0 .0, x .0, p .0 .1), (p .1 .0, x .1))
+
+enum-told : tie.Need-enum-told
+enum-told c = search needs
 
 same-length : tie.Need-same-length
 same-length c = search needs
 
 same-length-2 : tie.Need-same-length-2
 same-length-2 c = search needs
-
-returns : tie.Need-returns
-returns c = search needs
 
 same-length-3 : tie.Need-same-length-3
 same-length-3 c = search needs
@@ -53,34 +39,31 @@ same-length-5 c = search needs
 same-length-6 : tie.Need-same-length-6
 same-length-6 c = search needs
 
+returns : tie.Need-returns
+returns c = search needs
+
 same-length-7 : tie.Need-same-length-7
 same-length-7 c = search needs
 
-same-length-8 : tie.Need-same-length-8
-same-length-8 c = search needs
-
 returns-2 : tie.Need-returns-2
-returns-2 c = search needs
+returns-2 c =
+    let f = c .before .before .before .before .fill in
+    unfilled (c .before .before .before .before .before .before .before .before .before .before .before .before .before .args .log .now) (f .last .1 .0) (f .last .0) (f .result) (f .ensures) (c .before .before .before .before .before .before .before .before .before .before .before .before .before .pre .1 .1) (c .enum-told .given .1)
 
 pub run-spec : {M : Type 1} → statement M
 run-spec =
     tie.close
     (tie.spec
-    read-full-requires
-    slice-reshare-prefix-read-header
-    slice-aggregate-read-header
-    read-header-requires
-    enum-known-header
-    refuse-requires
-    enum-known-header-2
-    follow-requires
+    fill-requires
+    enum-known-filled
+    judge-requires
+    enum-told
     same-length
     same-length-2
-    returns
     same-length-3
     same-length-4
     same-length-5
     same-length-6
+    returns
     same-length-7
-    same-length-8
     returns-2)
