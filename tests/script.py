@@ -1,5 +1,5 @@
 #!/usr/bin/env python3
-"""Tests the script sgq in a copy of its surroundings, where a stand-in for rt "builds" decide from the second program,
+"""Tests the script sgq in a copy of its surroundings, where a stand-in for rt "builds" the programs from the second one,
 counts how often it was called, and leaves behind what rt leaves; at the end with rt itself, on two small crates. Ends
 with 'N passed, M failed'."""
 import contextlib
@@ -18,8 +18,8 @@ from kit import ROOT, SECOND, Stop, build_second, run_tests, sgqtext
 # What sgq and the stand-ins call.
 COMMANDS = """sh cat chmod cp cut date dd dirname find flock grep head mkdir mv od readlink rm sed setsid sha256sum sleep
 sort touch tr""".split()
-CRATES = "lists:\nrules: lists io\nhost: rules\ndecide: rules libc\n"
-# As rt does: nothing is built where the stamp of decide is that of the sources; the verdict is read back from
+CRATES = "lists:\nrules: lists io\nhost: rules\ndecide: rules libc\nsheet: rules libc\n"
+# As rt does: nothing is built where the stamp of the program is that of the sources; the verdict is read back from
 # target/log, so that an older one is taken where nothing can be written; what is being proved has a .say file there.
 RT = """#!/bin/sh
 case $1 in
@@ -30,7 +30,8 @@ echo called >>calls
 echo $$ >pid
 cat >/dev/null
 mkdir -p target/bin target/log target/stamp
-for crate in lists rules decide; do echo failed >target/log/$crate.res; done
+name=$2
+for crate in lists rules $name; do echo failed >target/log/$crate.res; done
 echo proved >target/log/lists.res
 one() {
     echo >target/log/rules.say
@@ -40,14 +41,14 @@ one() {
     echo proved >target/log/rules.res
     echo kept >target/stamp/rules
     sum=$(cat crates/* | sha256sum)
-    if [ "$(cat target/stamp/decide 2>/dev/null)" != "$sum" ]; then cp made target/bin/decide; fi
-    echo "$sum" >target/stamp/decide
-    echo proved >target/log/decide.res
-    echo 'rt: decide proved'
+    if [ "$(cat target/stamp/$name 2>/dev/null)" != "$sum" ]; then cp made.$name target/bin/$name; fi
+    echo "$sum" >target/stamp/$name
+    echo proved >target/log/$name.res
+    echo "rt: $name proved"
 }
 one >target/log/rules.out 2>&1
 cat target/log/rules.out
-[ "$(cat target/log/decide.res)" = proved ]
+[ "$(cat target/log/$name.res)" = proved ]
 """
 # What the program does where it cannot write, and writes to standard error in no other case.
 UNWRITTEN = "#!/bin/sh\necho 'event answer'\necho 'decide: standard output could not be written' >&2\n"
@@ -75,7 +76,10 @@ class House:
         self.root.chmod(0o755)  # one test looks at it as another user
         shutil.copy(ROOT / "sgq", self.root)
         shutil.copytree(ROOT / "samples", self.root / "samples")
-        shutil.copy(SECOND, self.root / "made")
+        (self.root / "tools").mkdir()
+        shutil.copy(ROOT / "tools" / "sheettable.py", self.root / "tools")
+        shutil.copy(SECOND, self.root / "made.decide")
+        self.write("made.sheet", f"#!/bin/sh\nexec '{self.root}/made.decide' sheet\n", 0o755)
         self.write("crates/rules.rt", "good\n")
         self.write("crates.txt", CRATES)
         self.write(".ci/run", "#!/bin/sh\necho tested\nexit 7\n", 0o755)
@@ -167,18 +171,18 @@ def hold(tally, name, good, why="it does not"):
     tally.add(name, None if good else why)
 
 
-def expected(sample):
-    return (ROOT / "samples" / f"{sample}.out").read_bytes()
+def expected(sample, end="out"):
+    return (ROOT / "samples" / f"{sample}.{end}").read_bytes()
 
 
 def test_words(tally, house):
     check(tally, "no word", house.sgq(), 2, said="./sgq decide [TRACE]")
-    known = "there is no 'dcide': say decide, test, help or --version"
+    known = "there is no 'dcide': say decide, sheet, test, help or --version"
     check(tally, "unknown word", house.sgq("dcide"), 2, said=known, lines=1)
     helped = house.sgq("help")
     check(tally, "help", helped, 0, helped.stdout, lines=0)
     hold(tally, "help says test", b"./sgq test" in helped.stdout)
-    for words in (["decide", "--help"], ["decide", "-h"], ["test", "--help"]):
+    for words in (["decide", "--help"], ["decide", "-h"], ["sheet", "--help"], ["test", "--help"]):
         more = house.sgq(*words)
         check(tally, " ".join(words), more, 0, more.stdout, lines=0)
         hold(tally, f"{' '.join(words)} says more", more.stdout.startswith(f"./sgq {words[0]} ".encode()))
@@ -186,6 +190,7 @@ def test_words(tally, house):
     check(tally, "a folder", house.sgq("decide", "samples"), 2, said="samples is a folder: name a file", lines=1)
     check(tally, "two traces", house.sgq("decide", "a", "b"), 2, said="one trace, not 2", lines=1)
     check(tally, "unknown option", house.sgq("decide", "--all"), 2, said="decide has no '--all'", lines=1)
+    check(tally, "unknown option of sheet", house.sgq("sheet", "--all"), 2, said="sheet has no '--all'", lines=1)
     check(tally, "test with more words", house.sgq("test", "all"), 2, said="no more words", lines=1)
 
 
@@ -239,6 +244,30 @@ def test_decide(tally, house):
     hold(tally, "proved once", house.calls() == 1, f"rt was called {house.calls()} times")
     proved = house.sgq("--version").stdout.decode()
     hold(tally, "version after it", "\ndecide: proved from these sources by stand-in kit 7\n" in proved, proved)
+    hold(tally, "version of the other", "\nsheet: not proved yet" in proved, proved)
+
+
+def test_sheet(tally, house):
+    """Sheet as the program prints it, and as a table, which has the same figures, one row for each guest."""
+    proving = "proving sheet and the crates it stands on"
+    check(tally, "sheet of lot 214 at first", house.sgq("sheet"), 0, expected("lot214", "sheet"), proving)
+    check(tally, "sheet of a text", house.sgq("sheet", "samples/example.txt"), 0, expected("example", "sheet"), lines=0)
+    trace = (house.root / "example.sgq").read_bytes()
+    check(tally, "sheet of standard input", house.sgq("sheet", "-", given=trace), 0, expected("example", "sheet"), lines=0)
+    table = house.sgq("sheet", "--table", "samples/lot214.txt")
+    heading, *rows = table.stdout.decode().splitlines()
+    check(tally, "sheet --table", table, 0, table.stdout, lines=0)
+    hold(tally, "its heading", heading.split()[:3] == ["guest", "arrivals", "completed"], heading)
+    hold(tally, "its columns", len({len(row) for row in [heading, *rows]}) == 1, table.stdout.decode())
+    first = [line.split()[:6] for line in expected("lot214", "sheet").decode().splitlines()]
+    hold(tally, "its figures", [row.split()[:6] for row in rows] == first, table.stdout.decode())
+    for number, refused, said in REFUSED:
+        output = b"trace refused %d\n" % number
+        for words in (["sheet", "-"], ["sheet", "--table", "-"]):
+            name = f"{' '.join(words)}, refusal {number} of {len(refused)} bytes"
+            check(tally, name, house.sgq(*words, given=refused), 1, output, f"standard input is refused: {said}", lines=1)
+    closed = house.sgq("sheet", "--table", "example.sgq", preexec_fn=lambda: os.close(1))
+    check(tally, "sheet --table, standard output closed", closed, 1, said="standard output is closed", lines=1)
 
 
 def test_texts(tally, house):
@@ -331,12 +360,12 @@ def test_failures(tally, house):
 @contextlib.contextmanager
 def standing_in(house, program):
     """Another program in the place of decide, proved as far as sgq can tell; then the old one again."""
-    kept = (house.root / "made").read_bytes()
-    house.write("made", program, 0o755)
+    kept = (house.root / "made.decide").read_bytes()
+    house.write("made.decide", program, 0o755)
     house.write("crates/rules.rt", f"for {program}")
     house.sgq("decide", "example.sgq")
     yield
-    house.write("made", kept, 0o755)
+    house.write("made.decide", kept, 0o755)
     house.write("crates/rules.rt", "good\n")
     house.sgq("decide", "example.sgq")
 
@@ -572,6 +601,7 @@ def tests(tally):
             test_missing,
             test_version,
             test_decide,
+            test_sheet,
             test_texts,
             test_bad_texts,
             test_refusals,

@@ -5,15 +5,11 @@
 use crate::numbers::{Settings, CEILING, MOST_RATE, SECOND};
 use crate::rules::{Answer, State};
 use crate::sample::{any_settings, Prng};
-use crate::trace::{header_bytes, play, Event, EVENT_BYTES};
-
-const ARRIVAL: u8 = 0;
-const COMPLETION: u8 = 1;
-const TICK: u8 = 2;
+use crate::trace::{header_bytes, play, Event, ARRIVAL, COMPLETION, EVENT_BYTES, TICK};
 
 /// The names of the kinds; `mixed` is one of the others by seed.
-pub const KINDS: [&str; 8] = [
-    "small", "ceiling", "jumps", "header", "cut", "garbage", "large", "mixed",
+pub const KINDS: [&str; 9] = [
+    "small", "ceiling", "jumps", "waits", "header", "cut", "garbage", "large", "mixed",
 ];
 
 /// A random trace of a kind, or none where there is no such kind.
@@ -24,6 +20,7 @@ pub fn trace(kind: &str, seed: u64) -> Option<Vec<u8>> {
         "small" => small(rng),
         "ceiling" => ceiling(rng),
         "jumps" => jumps(rng),
+        "waits" => waits(rng),
         "header" => header(rng),
         "cut" => cut(rng),
         "garbage" => garbage(rng),
@@ -37,7 +34,8 @@ fn mixed(rng: &mut Prng) -> Vec<u8> {
     match rng.below(100) {
         0..=44 => small(rng),
         45..=59 => ceiling(rng),
-        60..=74 => jumps(rng),
+        60..=69 => jumps(rng),
+        70..=74 => waits(rng),
         75..=83 => header(rng),
         84..=91 => cut(rng),
         92..=98 => garbage(rng),
@@ -337,6 +335,98 @@ fn jumps(rng: &mut Prng) -> Vec<u8> {
         _ => rng.sized(64),
     });
     maker.bytes
+}
+
+/// Waits of every length, and reservation sends ahead of their limit tags:
+/// what the sheet has figures for. Days on which the table fills, then a
+/// pause or none, then the array works off what waits.
+fn waits(rng: &mut Prng) -> Vec<u8> {
+    let scale = rng.pick(&[3, 7, 100, 1_000, 30_000]);
+    let beat = SECOND / scale;
+    let guests = rng.between(1, 3);
+    let settings: Vec<_> = (0..guests).map(|_| waits_settings(rng, scale)).collect();
+    let (depth, capacity) = (rng.between(1, 4), rng.between(4, 40));
+    let mut maker = Maker::new(depth, capacity, &settings);
+    for _ in 0..rng.between(1, 4) {
+        for _ in 0..rng.between(5, 2 * capacity) {
+            let step = rng.below(beat);
+            let time = maker.state.time + rng.pick(&[0, 0, 1, step]);
+            waits_event(rng, &mut maker, Mood::Fill, time);
+        }
+        if rng.chance(60) {
+            let morning = waits_morning(rng, &maker.state);
+            maker.tick(morning);
+        }
+        for _ in 0..rng.between(10, 5 * capacity) {
+            let time = waits_time(rng, &maker.state, beat);
+            let mood = rng.pick(&[Mood::Drain, Mood::Drain, Mood::Wait, Mood::Even]);
+            waits_event(rng, &mut maker, mood, time);
+        }
+    }
+    if rng.chance(30) {
+        let gone = rng.between(1, EVENT_BYTES as u64 - 1) as usize;
+        maker.bytes.truncate(maker.bytes.len() - gone);
+    }
+    maker.bytes
+}
+
+/// The time after a pause, which may be so long that a few waits together
+/// pass 2^64.
+fn waits_morning(rng: &mut Prng, state: &State) -> u64 {
+    // A day that begins no later ends before tags pass the ceiling.
+    let last = CEILING - (1 << 40);
+    let paused = state.time + rng.sized(61);
+    rng.pick(&[paused, paused, paused, last])
+        .clamp(state.time, last.max(state.time))
+}
+
+/// Most often with both controls. A limit above the reservation lets
+/// weight sends pull the reservation tags before the limit tags; where the
+/// two are equal, rounding alone does so.
+fn waits_settings(rng: &mut Prng, scale: u64) -> Settings {
+    if rng.chance(25) {
+        return beat_settings(rng, scale);
+    }
+    let reservation = scale.div_ceil(rng.between(1, 3));
+    let halves = rng.pick(&[2, 3, 4, 5, 8]);
+    Settings {
+        reservation,
+        limit: reservation * halves / 2,
+        shares: rng.between(1, scale),
+    }
+}
+
+/// The usual events with more ids, so that more can wait, and now and
+/// then an event that means nothing.
+fn waits_event(rng: &mut Prng, maker: &mut Maker, mood: Mood, time: u64) {
+    if rng.chance(4) {
+        let event = garbage_event(rng, time);
+        maker.push(event);
+    } else if matches!(mood, Mood::Fill) && rng.chance(70) {
+        let guest = rng.below(maker.guests());
+        maker.arrival(guest, rng.below(60) as u32, time);
+    } else {
+        any_event(rng, maker, mood, time);
+    }
+}
+
+/// Most often now or when the next request becomes due, so that each
+/// goes as early as it may.
+fn waits_time(rng: &mut Prng, state: &State, beat: u64) -> u64 {
+    match rng.below(20) {
+        0..=8 => state.time,
+        9..=16 => next_due(state),
+        17 => due_time(rng, state),
+        18 => state.time.saturating_sub(rng.below(beat)),
+        _ => state.time + rng.below(beat),
+    }
+}
+
+/// The first reservation or limit tag after the time, or the time.
+fn next_due(state: &State) -> u64 {
+    let tags = state.waiting.iter().flat_map(|w| [w.rtag, w.ltag]);
+    let later = tags.filter(|tag| *tag > state.time);
+    later.min().unwrap_or(state.time)
 }
 
 /// Headers with one fault or several, some good ones at the edges of the

@@ -6,6 +6,7 @@
 //! - `rules`:   the events, the adjustment, the stamping, the choice, the drop
 //! - `calls`:   the library calls on lent tables
 //! - `trace`:   the trace and the program that prints it
+//! - `sheet`:   the sale-day sheet of a trace
 //! - `sample`:  random numbers and random tables, for tests
 //! - `kinds`:   random traces, for tests and benchmarks
 
@@ -14,6 +15,7 @@ pub mod kinds;
 pub mod numbers;
 pub mod rules;
 pub mod sample;
+pub mod sheet;
 pub mod sound;
 pub mod tables;
 pub mod trace;

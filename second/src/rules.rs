@@ -54,44 +54,68 @@ impl State {
     }
 
     pub fn arrive(&mut self, guest: u64, id: u32, t: u64) -> Answer {
+        match self.take_arrival(guest, id, t) {
+            Ok(()) => self.choose(),
+            Err(number) => Answer::Refused(number),
+        }
+    }
+
+    pub fn complete(&mut self, guest: u64, id: u32, t: u64) -> Answer {
+        match self.take_completion(guest, id, t) {
+            Ok(()) => self.choose(),
+            Err(number) => Answer::Refused(number),
+        }
+    }
+
+    pub fn tick(&mut self, t: u64) -> Answer {
+        match self.take_tick(t) {
+            Ok(()) => self.choose(),
+            Err(number) => Answer::Refused(number),
+        }
+    }
+
+    /// An arrival up to the choice, or its refusal.
+    pub fn take_arrival(&mut self, guest: u64, id: u32, t: u64) -> Result<(), u8> {
         let id = id as u64;
         if let Some(number) = self.arrival_refusal(guest, id, t) {
-            return Answer::Refused(number);
+            return Err(number);
         }
         // Judged before anything is changed: 9 is the last refusal.
         let from = self.adjusted_from(guest);
         let tags = stamp(&self.guests[guest as usize], t);
         if self.would_pass(from, tags, t) {
-            return Answer::Refused(9);
+            return Err(9);
         }
         if let Some(m) = from {
             self.adjust(m, t);
         }
         self.accept(guest, id, tags);
         self.time = t;
-        self.choose()
+        Ok(())
     }
 
-    pub fn complete(&mut self, guest: u64, id: u32, t: u64) -> Answer {
+    /// A completion up to the choice, or its refusal.
+    pub fn take_completion(&mut self, guest: u64, id: u32, t: u64) -> Result<(), u8> {
         if let Some(number) = self.named_refusal(guest, t) {
-            return Answer::Refused(number);
+            return Err(number);
         }
         let id = id as u64;
         let named = Flight { guest, id };
         let Some(place) = self.flight.iter().position(|f| *f == named) else {
-            return Answer::Refused(10);
+            return Err(10);
         };
         self.flight.remove(place);
         self.time = t;
-        self.choose()
+        Ok(())
     }
 
-    pub fn tick(&mut self, t: u64) -> Answer {
+    /// A tick up to the choice, or its refusal.
+    pub fn take_tick(&mut self, t: u64) -> Result<(), u8> {
         if let Some(number) = self.time_refusal(t) {
-            return Answer::Refused(number);
+            return Err(number);
         }
         self.time = t;
-        self.choose()
+        Ok(())
     }
 
     /// 5, 6.
@@ -192,7 +216,7 @@ impl State {
     }
 
     /// The choice at the gate's time.
-    fn choose(&mut self) -> Answer {
+    pub fn choose(&mut self) -> Answer {
         if self.flight.len() == self.depth {
             return Answer::Nothing;
         }

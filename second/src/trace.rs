@@ -12,8 +12,12 @@ pub const EVENT_BYTES: usize = 14;
 
 const BUFFER_BYTES: usize = 4_096;
 
-/// One event as it stands in the trace; kind 0 arrival, 1 completion,
-/// 2 tick.
+/// The kinds of events.
+pub const ARRIVAL: u8 = 0;
+pub const COMPLETION: u8 = 1;
+pub const TICK: u8 = 2;
+
+/// One event as it stands in the trace.
 #[derive(Clone, Copy, Debug, PartialEq, Eq)]
 pub struct Event {
     pub kind: u8,
@@ -42,8 +46,9 @@ impl Event {
     }
 }
 
-/// Plays one event; 14 is judged before all other refusals.
-pub fn play(state: &mut State, event: Event) -> Answer {
+/// Plays one event up to the choice; 14 is judged before all other
+/// refusals.
+pub fn take(state: &mut State, event: Event) -> Result<(), u8> {
     let Event {
         kind,
         guest,
@@ -51,10 +56,18 @@ pub fn play(state: &mut State, event: Event) -> Answer {
         time,
     } = event;
     match kind {
-        0 => state.arrive(guest as u64, id, time),
-        1 => state.complete(guest as u64, id, time),
-        2 if guest == 0 && id == 0 => state.tick(time),
-        _ => Answer::Refused(14),
+        ARRIVAL => state.take_arrival(guest as u64, id, time),
+        COMPLETION => state.take_completion(guest as u64, id, time),
+        TICK if guest == 0 && id == 0 => state.take_tick(time),
+        _ => Err(14),
+    }
+}
+
+/// Plays one event.
+pub fn play(state: &mut State, event: Event) -> Answer {
+    match take(state, event) {
+        Ok(()) => state.choose(),
+        Err(number) => Answer::Refused(number),
     }
 }
 
@@ -80,12 +93,17 @@ pub fn run(input: impl Read, output: &mut impl Write) -> io::Result<()> {
             writeln!(output, "event answer")?;
             print_events(&mut input, state, output)
         }
-        Err(number) => writeln!(output, "trace refused {number}"),
+        Err(number) => print_refused(output, number),
     }
 }
 
+/// The one line of a bad header.
+pub(crate) fn print_refused(output: &mut impl Write, number: u8) -> io::Result<()> {
+    writeln!(output, "trace refused {number}")
+}
+
 /// A fresh state, or the number of the header's refusal.
-fn read_header<R: Read>(input: &mut Input<R>) -> io::Result<Result<State, u8>> {
+pub(crate) fn read_header<R: Read>(input: &mut Input<R>) -> io::Result<Result<State, u8>> {
     let mut b = [0; START_BYTES];
     if input.fill(&mut b)? < START_BYTES {
         return Ok(Err(13));
@@ -132,18 +150,31 @@ fn print_events<R: Read>(
 ) -> io::Result<()> {
     let mut number = 0u64;
     loop {
-        let mut b = [0; EVENT_BYTES];
-        let got = input.fill(&mut b)?;
-        if got == 0 {
-            return Ok(());
-        }
         number += 1;
-        if got < EVENT_BYTES {
-            return print_line(output, number, Answer::Refused(15));
-        }
-        let answer = play(&mut state, Event::from_bytes(b));
+        let answer = match next_event(input)? {
+            Next::Event(event) => play(&mut state, event),
+            Next::Cut => Answer::Refused(15),
+            Next::End => return Ok(()),
+        };
         print_line(output, number, answer)?;
     }
+}
+
+/// What stands next in the input, after the header.
+pub(crate) enum Next {
+    Event(Event),
+    /// Some bytes of a last event.
+    Cut,
+    End,
+}
+
+pub(crate) fn next_event<R: Read>(input: &mut Input<R>) -> io::Result<Next> {
+    let mut b = [0; EVENT_BYTES];
+    Ok(match input.fill(&mut b)? {
+        0 => Next::End,
+        EVENT_BYTES => Next::Event(Event::from_bytes(b)),
+        _ => Next::Cut,
+    })
 }
 
 fn print_line(output: &mut impl Write, number: u64, answer: Answer) -> io::Result<()> {
@@ -169,7 +200,7 @@ fn u32_at(b: &[u8], at: usize) -> u32 {
 }
 
 /// Input read through one buffer, which is refilled.
-struct Input<R> {
+pub(crate) struct Input<R> {
     source: R,
     buffer: [u8; BUFFER_BYTES],
     at: usize,
@@ -177,7 +208,7 @@ struct Input<R> {
 }
 
 impl<R: Read> Input<R> {
-    fn new(source: R) -> Input<R> {
+    pub(crate) fn new(source: R) -> Input<R> {
         Input {
             source,
             buffer: [0; BUFFER_BYTES],

@@ -1,48 +1,19 @@
--- The first bytes, and the header in them: how the program goes on from there. Assumes nothing.
-use Prim.Native.Nat.{ℕ, _≤_}
-use mathlib.Core.Path.{_≡_, refl, sym, ap, _∙_, subst}
+-- The header in the first bytes: how the program goes on from there. Assumes nothing.
+use Prim.Native.Nat.{ℕ}
+use mathlib.Core.Path.{_≡_, sym, _∙_, subst}
 use mathlib.Core.Bool.{Bool, true}
-use mathlib.Core.List.{List, _++_}
-use native.Mathlib.Omega.{arith}
+use mathlib.Core.List.{List}
 use lib.Dec.{ltb}
-use lib.ListN.{length, take}
-use lib.Seq.{length-take-le}
+use lib.ListN.{length}
 use Rattle.rules.specs.declared.Refusal.{Refusal}
 use Rattle.lines.specs.Line.{refusalLine, titleLine}
-use Rattle.port.specs.Tape.{blank, Holds}
-use Rattle.stream.specs.Runs.{filled, Fills, written, Emits}
-use Rattle.stream.specs.Outcome.{Next, Last}
-use Rattle.stream.specs.declared.Filled.{Filled}
-use Rattle.stream.specs.declared.Filled.the-variants.{Upto, Failed}
-use Rattle.stream.specs.declared.End.the-variants.{Unread}
+use Rattle.stream.specs.Runs.{written, Emits}
+use Rattle.stream.specs.Outcome.{Next, Last, First}
 use Rattle.trace.specs.Header.{headerOf}
 use Rattle.trace.specs.Printed.{Place, begun, printed}
 use Rattle.trace.specs.declared.Header.the-variants.{Opened, Refused as Unopened}
-use Rattle.decide.specs.Standing.{Decided, Standing, First}
+use Rattle.decide.specs.Standing.{Standing}
 use Rattle.decide.proofs.Stands.{refused-lacks, opened-stands, stands-right}
-
--- THE FIRST READS, into a buffer of 4,096 bytes
-module _ (n m : ℕ) (bs : List ℕ) (w : Filled) (fills : Fills w bs n m) (fresh : Holds n blank) where
-  -- the first bytes are there
-  pub filled-first : (k : ℕ) → w ≡ Upto k → length bs ≡ 4096 → (k ≤ 4096) × First m (take k bs)
-  filled-first k e room =
-      let f = subst (λ (x : Filled). Fills x bs n m) e fills in
-      let as-many : length (take k bs) ≡ k = length-take-le k bs (f .0) in (
-        omega (arith, f .0, room),
-        record {
-          tape = filled k bs blank;
-          held = f .1 blank fresh refl;
-          read = refl;
-          wrote = refl;
-          mark = ap (ltb k) room ∙ ap (λ (j : ℕ). ltb j 4096) (sym as-many);
-        },
-      )
-
-  -- a read failed
-  pub unfilled : w ≡ Failed → Decided Unread m
-  unfilled e =
-      let f = subst (λ (x : Filled). Fills x bs n m) e fills blank fresh refl in
-      record { tape = f .0; held = f .1; right = λ later may. (printed (f .0 .read ++ later), ap (λ (l : List ℕ). l ++ printed (f .0 .read ++ later)) (sym (f .2))); ends = f .3 }
 
 -- A BAD HEADER: its line is the last
 pub refused-last : (n : ℕ) (bs : List ℕ) (why : Refusal) → First n bs → headerOf bs ≡ Unopened why → Last printed n (refusalLine why)

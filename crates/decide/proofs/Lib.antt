@@ -1,5 +1,3 @@
-pub mod Begins
-pub mod Opening
 pub mod Stands
 pub mod Heading
 pub mod Pumping

@@ -11,13 +11,13 @@ use Rattle.port.specs.Moves.{Goes, brought}
 use Rattle.port.specs.declared.Moved.{Moved}
 use Rattle.port.specs.declared.Moved.the-variants.{Bytes, Nothing, Failed}
 use Rattle.stream.specs.Runs.{written, Emits}
-use Rattle.stream.specs.Outcome.{Next, Last}
+use Rattle.stream.specs.Outcome.{MOST, Next, Last}
 use Rattle.stream.specs.declared.End.{End}
 use Rattle.stream.specs.declared.End.the-variants.{Unread, Unended}
 use Rattle.trace.specs.Event.{whole}
 use Rattle.trace.specs.Printed.{Place, lines, left, cut, printed}
 use Rattle.trace.specs.Reads.{more}
-use Rattle.decide.specs.Standing.{MOST, Decided, Stands, Standing, Went, Follows}
+use Rattle.decide.specs.Standing.{Decided, Stands, Standing, Went, Follows}
 use Rattle.decide.specs.declared.events.After.{After}
 use Rattle.decide.specs.declared.events.After.the-variants.{More, Over}
 use Rattle.decide.proofs.Stands.{stands-right, stands-lines, stands-more, stands-none, stands-last}

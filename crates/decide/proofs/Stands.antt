@@ -3,21 +3,19 @@ use Prim.Native.Nat.{ℕ, _+_, _*_, _≤_, _<_}
 use mathlib.Core.Path.{_≡_, refl, sym, ap, _∙_}
 use mathlib.Core.Bool.{Bool, true, false}
 use mathlib.Core.List.{List, [], _∷_, _++_, append-assoc, append-nil}
-use mathlib.Core.Logic.{_⊎_, inl, inr}
+use mathlib.Core.Logic.{_⊎_, inl, inr, ⊎-elim}
 use native.Mathlib.Omega.{arith}
 use native.Mathlib.Nat.{add-zero}
-use lib.Dec.{ltb}
 use lib.ListN.{length, take, drop}
-use lib.Seq.{sets-eq, take-append-seam}
-use borrow.Author.Tests.{le-leb, ltb-false}
+use borrow.Author.Tests.{le-leb}
 use Rattle.rules.specs.declared.Refusal.{Refusal}
 use Rattle.lines.specs.Line.{refusalLine, titleLine}
-use Rattle.lines.specs.Put.{Put}
 use Rattle.port.specs.Tape.{Tape}
 use Rattle.port.specs.Moves.{brought}
 use Rattle.port.specs.declared.Moved.the-variants.{Bytes, Nothing}
 use Rattle.stream.specs.Runs.{written}
-use Rattle.stream.specs.Outcome.{May, Right, Lacks}
+use Rattle.stream.specs.Outcome.{May, Right, Lacks, First}
+use Rattle.stream.proofs.Firsts.{full-or-all}
 use Rattle.trace.specs.Header.{headerOf}
 use Rattle.trace.specs.Event.{eventsOf, whole}
 use Rattle.trace.specs.Printed.{Place, answersTo, linesFrom, lines, left, cut, finished, begun, printed}
@@ -27,13 +25,7 @@ use Rattle.trace.specs.declared.Header.the-variants.{Opened, Refused as Unopene
 use Rattle.trace.proofs.FirstRead.{longest}
 use Rattle.trace.proofs.Split.{reads-joined}
 use Rattle.trace.proofs.AnySplit.{any-split}
-use Rattle.decide.specs.Standing.{Stands, First}
-
--- what was put at the front of a buffer is read there again
-pub put-front : {xs ys zs : List ℕ} {r : ℕ} → Put 0 xs ys r zs → r ≤ length ys → take r zs ≡ xs
-put-front {xs} {ys} {zs} {r} p room =
-    let e : r ≡ length xs = omega (arith, p .next) in
-    ap (λ (k : ℕ). take k zs) e ∙ ap (take (length xs)) (p .bytes ∙ sets-eq xs ys 0 (omega (arith, e))) ∙ take-append-seam xs _
+use Rattle.decide.specs.Standing.{Stands}
 
 -- THE HEADER
 
@@ -52,11 +44,7 @@ first-more bs later (inr none) = ([], first-read bs [] (inr refl) ∙ ap (λ (l 
 
 -- the first bytes hold any header, or are all there is
 whole-or-all : (n : ℕ) (bs later : List ℕ) (f : First n bs) → May (f .tape) later → (longest ≤ length bs) ⊎ (later ≡ [])
-whole-or-all n bs later f may = go (ltb (length bs) 4096) refl
-  where
-    go : (b : Bool) → ltb (length bs) 4096 ≡ b → (longest ≤ length bs) ⊎ (later ≡ [])
-    go true e = inr (may (f .mark ∙ e))
-    go false e = inl (omega (arith, ltb-false (length bs) 4096 e))
+whole-or-all n bs later f may = ⊎-elim (λ full. inl (omega arith)) inr (full-or-all n bs later f may)
 
 -- a bad header: its line is all that is printed
 pub refused-lacks : (n : ℕ) (bs : List ℕ) (f : First n bs) (why : Refusal) → headerOf bs ≡ Unopened why → Lacks printed (refusalLine why) (f .tape)

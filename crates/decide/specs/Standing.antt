@@ -1,25 +1,20 @@
 -- Where the program stands in its trace, by what it has read and written so far, and how it ends.
-use Prim.Native.Nat.{ℕ, _^_, _≤_, _<_}
+use Prim.Native.Nat.{ℕ, _≤_, _<_}
 use mathlib.Core.Path.{_≡_}
 use mathlib.Core.Bool.{Bool, false}
-use mathlib.Core.List.{List, [], _++_}
-use lib.Dec.{ltb}
+use mathlib.Core.List.{List, _++_}
 use lib.ListN.{length}
 use Rattle.rules.specs.Tables.{Table}
 use Rattle.port.specs.Tape.{Tape, Holds}
 use Rattle.port.specs.Moves.{Goes, brought}
 use Rattle.port.specs.declared.Moved.the-variants.{Bytes}
 use Rattle.stream.specs.Runs.{Emits}
-use Rattle.stream.specs.Outcome.{May, Ran}
+use Rattle.stream.specs.Outcome.{MOST, May, Ran}
 use Rattle.stream.specs.declared.End.{End}
 use Rattle.trace.specs.Printed.{Place, lines, left, finished, printed}
 use Rattle.trace.specs.Reads.{more}
 use Rattle.decide.specs.declared.events.After.{After}
 use Rattle.decide.specs.declared.events.After.the-variants.{More, Over}
-
--- how many turns the program makes at the most: nothing says that an input ends
-abbrev pub MOST : ℕ
-MOST = 2 ^ 48
 
 -- THE PROGRAM: what was written is right, and all of it where the program ends well
 abbrev pub Decided : End → ℕ → Type 0
@@ -35,14 +30,6 @@ pub record Standing (ended : Bool) (n : ℕ) (p : Place) : Type 0 where
   pub held : Holds n tape
   pub mark : tape .ended ≡ ended
   pub stands : Stands tape p
-
--- nothing is written yet, and the bytes bs are read: they fill the buffer of 4,096 bytes, or there are no more
-pub record First (n : ℕ) (bs : List ℕ) : Type 0 where
-  pub tape : Tape
-  pub held : Holds n tape
-  pub read : tape .read ≡ bs
-  pub wrote : tape .wrote ≡ []
-  pub mark : tape .ended ≡ ltb (length bs) 4096
 
 -- a turn from the place p to the place q: all whole events are judged, and their lines written, or a write failed
 pub record Went (written : Bool) (p q : Place) (n n′ : ℕ) : Type 0 where

@@ -17,11 +17,10 @@ ghost use Rattle.port.specs.Tape.{Holds, blank};
 ghost use Rattle.trace.specs.Header.{headerOf};
 ghost use Rattle.trace.specs.Printed.{printed};
 ghost use Rattle.trace.specs.declared.Header.the-variants.{Opened};
-ghost use Rattle.stream.specs.Outcome.{Last};
-ghost use Rattle.decide.specs.Begin.{Largest};
-ghost use Rattle.decide.specs.Standing.{Decided, First};
+ghost use Rattle.stream.specs.Outcome.{Last, First};
+ghost use Rattle.begin.specs.Begin.{Largest};
+ghost use Rattle.decide.specs.Standing.{Decided};
 
-mod begin; // the tables are opened, and the bytes of the events stand at the front
 mod events; // the events are judged, a buffer at a turn
 mod output; // lines are handed on to be written
 
@@ -157,11 +156,10 @@ fn follow(
         guests,
         waiting,
         flight,
-        out,
     );
     let rest = begun.rest;
     let gate = begun.gate;
-    if !output::emit(out, begun.bytes, log) {
+    if !output::title(out, log) {
         return End::Unwritten;
     }
     if have < 4096 {

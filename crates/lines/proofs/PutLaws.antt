@@ -1,10 +1,10 @@
 -- Bytes put into a buffer one run behind the other. Assumes nothing.
-use Prim.Native.Nat.{ℕ, _+_}
+use Prim.Native.Nat.{ℕ, _+_, _≤_}
 use mathlib.Core.Path.{_≡_, sym, ap, _∙_}
 use mathlib.Core.List.{List, _++_}
 use native.Mathlib.Omega.{arith}
-use lib.ListN.{length, length-append}
-use lib.Seq.{sets}
+use lib.ListN.{length, take, length-append}
+use lib.Seq.{sets, sets-eq, take-append-seam}
 use Rattle.lists.specs.Sets.{sets-append}
 use Rattle.lines.specs.Put.{Put}
 
@@ -20,3 +20,9 @@ puts {at} {r} {s} {xs} {ws} {ys} {zs} {vs} p q =
 pub put-as : {at r : ℕ} {xs ws ys zs : List ℕ} → ws ≡ xs → Put at xs ys r zs → Put at ws ys r zs
 put-as {at} {r} {xs} {ws} {ys} {zs} e p =
     record { next = p .next ∙ ap (λ (l : List ℕ). at + length l) (sym e); bytes = p .bytes ∙ ap (sets ys at) (sym e) }
+
+-- what was put at the front of a buffer is read there again
+pub put-front : {xs ys zs : List ℕ} {r : ℕ} → Put 0 xs ys r zs → r ≤ length ys → take r zs ≡ xs
+put-front {xs} {ys} {zs} {r} p room =
+    let e : r ≡ length xs = omega (arith, p .next) in
+    ap (λ (k : ℕ). take k zs) e ∙ ap (take (length xs)) (p .bytes ∙ sets-eq xs ys 0 (omega (arith, e))) ∙ take-append-seam xs _

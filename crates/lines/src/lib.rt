@@ -36,7 +36,7 @@ fn put_all(out: &mut [u8], at: usize, src: &[u8]) -> usize
 }
 
 // Puts one byte.
-fn put(out: &mut [u8], at: usize, b: u8) -> usize
+pub fn put(out: &mut [u8], at: usize, b: u8) -> usize
     requires { ⌜ at < length (now out) ⌝ }
     ensures { λ r. ⌜ Put at (b ∷ []) (now (out .entry)) r (now (out .exit)) ⌝ }
 {
@@ -45,7 +45,7 @@ fn put(out: &mut [u8], at: usize, b: u8) -> usize
 }
 
 // Puts a number, decimal, without leading zeros.
-fn put_number(out: &mut [u8], at: usize, n: u64) -> usize
+pub fn put_number(out: &mut [u8], at: usize, n: u64) -> usize
     requires { ⌜ at + 20 ≤ length (now out) ⌝ }
     ensures { λ r. ⌜ Put at (decimalOf n) (now (out .entry)) r (now (out .exit)) ⌝ }
     ensures { λ r. ⌜ r ≤ at + 20 ⌝ }
@@ -56,7 +56,7 @@ fn put_number(out: &mut [u8], at: usize, n: u64) -> usize
 }
 
 // Puts a space and a number.
-fn put_value(out: &mut [u8], at: usize, n: u64) -> usize
+pub fn put_value(out: &mut [u8], at: usize, n: u64) -> usize
     requires { ⌜ at + 21 ≤ length (now out) ⌝ }
     ensures { λ r. ⌜ Put at (spaced (n ∷ [])) (now (out .entry)) r (now (out .exit)) ⌝ }
     ensures { λ r. ⌜ r ≤ at + 21 ⌝ }

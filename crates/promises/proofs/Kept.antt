@@ -22,7 +22,11 @@ use Rattle.trace.proofs.HeaderExactly.{header-exactly}
 use Rattle.trace.proofs.LineExactly.{line-exactly, line-numbers, table-sound}
 use Rattle.trace.proofs.Order.{trace-in-order}
 use Rattle.trace.proofs.Demand3.{trace-demand-3-places}
-use Rattle.promises.proofs.Promises.{OnTheRules, OverLent, ThroughC, OfATrace, Promises}
+use Rattle.book.proofs.Balance.{balance, fresh-arrivals, fresh-covered}
+use Rattle.book.proofs.Waits.{fresh-book, sent-waited}
+use Rattle.book.proofs.Sizes.{summed-fits}
+use Rattle.book.proofs.Sums.{first-waits}
+use Rattle.promises.proofs.Promises.{OnTheRules, OverLent, ThroughC, OfATrace, OfTheSheet, Promises}
 
 rules-kept : OnTheRules
 rules-kept =
@@ -80,6 +84,18 @@ trace-kept =
       demand-3 = trace-demand-3-places;
     }
 
+sheet-kept : OfTheSheet
+sheet-kept =
+    record {
+      balance = balance;
+      arrivals = fresh-arrivals;
+      left = fresh-covered;
+      book = fresh-book;
+      wait = sent-waited;
+      waits = first-waits;
+      fits = summed-fits;
+    }
+
 -- What the product promises is kept.
 pub promises : Promises
 promises =
@@ -89,4 +105,5 @@ promises =
       over-records = lent-kept records records-lawful;
       through-c = c-kept;
       of-a-trace = trace-kept;
+      of-the-sheet = sheet-kept;
     }

@@ -1,6 +1,6 @@
 -- WHAT THE PRODUCT PROMISES, on one page: the demands over every public face, in one record. The functions themselves promise the equations
 -- `called` and `opened` (crates/gate/specs/Promise.antt); what these say is here. Kept.antt has its one inhabitant.
-use Prim.Native.Nat.{ℕ, _*_, _≤_, _<_}
+use Prim.Native.Nat.{ℕ, _+_, _*_, _^_, _≤_, _<_}
 use mathlib.Core.Path.{_≡_}
 use mathlib.Core.Bool.{true, false, not}
 use mathlib.Core.List.{List, _++_, map}
@@ -10,19 +10,22 @@ use Rattle.rules.specs.Tables.{Table}
 use Rattle.rules.specs.Sound.{sound}
 use Rattle.rules.specs.Answers.{shown, taken}
 use Rattle.rules.specs.Choice.{Result}
+use Rattle.rules.specs.Events.{moment, enter}
 use Rattle.rules.specs.Chosen.{Chosen}
 use Rattle.rules.specs.Arrived.{Entered}
 use Rattle.rules.specs.Refusals.{accepted}
 use Rattle.rules.specs.Refused.{RefusedExactly, NoneHolds, callCases, openCases}
 use Rattle.rules.specs.Order.{waits, left}
-use Rattle.rules.specs.Run.{fresh, step}
+use Rattle.rules.specs.Run.{fresh, step, after}
 use Rattle.rules.specs.Turn.{findsRoom, atFree}
 use Rattle.rules.specs.TurnAt.{DueAt, InTurnAt}
+use Rattle.rules.specs.declared.Settings.{Settings}
 use Rattle.rules.specs.declared.Event.{Event}
+use Rattle.rules.specs.declared.Phase.{Phase}
 use Rattle.rules.specs.declared.Gate.{Gate}
 use Rattle.rules.specs.declared.Refusal.{Refusal}
 use Rattle.rules.specs.declared.Answer.{Answer}
-use Rattle.rules.specs.declared.Answer.the-variants.{Nothing, Refused}
+use Rattle.rules.specs.declared.Answer.the-variants.{Nothing, Sent, Refused}
 use Rattle.rules.proofs.Readings.{Readings}
 use Rattle.rules.proofs.Trials.{X}
 use Rattle.table.specs.Columns.{settingsWide}
@@ -43,6 +46,14 @@ use Rattle.trace.specs.Printed.{linesFrom, printed}
 use Rattle.trace.specs.Event.{whole}
 use Rattle.trace.specs.Answers.{eventBytes, bytesAt, tableAt, readsOf, answersOf, answerAt, acceptedIds, freeFrom}
 use Rattle.trace.specs.Cases.{headerCases, lineCases}
+use Rattle.book.specs.Book.{noted}
+use Rattle.book.specs.Figures.{figuresAt}
+use Rattle.book.specs.Page.{Page, named, waited, turnedBy, firstPage}
+use Rattle.book.specs.Balance.{Balanced, waitsOf, fliesOf}
+use Rattle.book.specs.Waits.{waitsBy}
+use Rattle.book.proofs.Balance.{Covered, figuresFor}
+use Rattle.book.proofs.Waits.{Follows, Past, Stood}
+use Rattle.book.proofs.Sums.{WaitsAre}
 
 -- ON THE RULES
 
@@ -118,6 +129,21 @@ pub record OfATrace : Type 0 where
   pub in-order : (g : ℕ) (bs : List ℕ) → acceptedIds g (readsOf (eventBytes bs)) (answersOf bs) ≡ left g (answersOf bs) ++ waits g (tableAt bs (whole (eventBytes bs)))
   pub demand-3 : (bs : List ℕ) → NoneHolds (headerCases bs) → (k : ℕ) → k ≤ whole (eventBytes bs) → (i : ℕ) → DueAt (tableAt bs k) i → InTurnAt (tableAt bs k) i (freeFrom bs k)
 
+-- OF THE SHEET
+
+pub record OfTheSheet : Type 0 where
+  -- for each guest, from any table: what it held and what came is what it holds and what left; from a fresh one: accepted arrivals are what waits, flies and was completed
+  pub balance : (t : Table) (es : List Event) → Balanced t (turnedBy (firstPage t) es)
+  pub arrivals : (d c : ℕ) (ss : List Settings) (es : List Event) (g : ℕ) → g < length ss
+      → figuresFor d c ss es g .arrivals ≡ waitsOf g (after (fresh d c ss) es) + fliesOf g (after (fresh d c ss) es) + figuresFor d c ss es g .completions
+  pub left : (d c : ℕ) (ss : List Settings) (es : List Event) (g : ℕ) → g < length ss → Covered (after (fresh d c ss) es) g (figuresFor d c ss es g)
+  -- the waits are from a request's own acceptance to its send, their sum and the longest are theirs, and the sum fits into two 64-bit numbers
+  pub book : (d c : ℕ) (ss : List Settings) (es : List Event) → Follows (turnedBy (firstPage (fresh d c ss)) es)
+  pub wait : (p : Page) → Follows p → Past p → (e : Event) → accepted (p .table) e ≡ true → (ph : Phase) (g i : ℕ) → step (p .table) e .answer ≡ Sent ph g i
+      → Stood (noted e (p .book)) (named g i) (moment e) (waited (enter (p .table) e) (named g i) (noted e (p .book)))
+  pub waits : (t : Table) (es : List Event) (g : ℕ) → g < length (t .guests) → WaitsAre (figuresAt (turnedBy (firstPage t) es .figures) g) (waitsBy g (firstPage t) es)
+  pub fits : (t : Table) (es : List Event) (g : ℕ) → g < length (turnedBy (firstPage t) es .figures) → length es < 2 ^ 64 → figuresAt (turnedBy (firstPage t) es .figures) g .summed < 2 ^ 128
+
 -- ALL OF IT
 
 pub record Promises : Type 0 where
@@ -126,3 +152,4 @@ pub record Promises : Type 0 where
   pub over-records : OverLent records records-lawful
   pub through-c : ThroughC
   pub of-a-trace : OfATrace
+  pub of-the-sheet : OfTheSheet

@@ -2,3 +2,4 @@ pub mod Behind
 pub mod Filling
 pub mod Emitting
 pub mod Outcomes
+pub mod Firsts

@@ -4,9 +4,10 @@ use mathlib.Core.Path.{_≡_, refl, sym, ap, _∙_, subst}
 use mathlib.Core.Bool.{Bool, true, false}
 use mathlib.Core.List.{List, [], _++_, append-assoc, append-nil}
 use lib.ListN.{take, drop, take-append-drop}
-use Rattle.port.specs.Tape.{Tape}
+use Rattle.port.specs.Tape.{Tape, Holds}
 use Rattle.stream.specs.Runs.{written, stopped, Emits}
-use Rattle.stream.specs.Outcome.{Right, Lacks, Next, Last, Ran}
+use Rattle.stream.specs.Outcome.{Begins, Right, Lacks, Next, Last, Ran}
+use Rattle.stream.specs.declared.End.{End}
 use Rattle.stream.specs.declared.End.the-variants.{Whole, Unwritten}
 
 module _ (P : List ℕ → List ℕ) (xs : List ℕ) (t : Tape) where
@@ -55,3 +56,18 @@ module _ (P : List ℕ → List ℕ) (most n m : ℕ) (xs : List ℕ) (b : Bool)
         right = right-stopped P xs (l .tape) (l .right) (k .0);
         ends = refl;
       }
+
+-- A RUN in short
+module _ (P : List ℕ → List ℕ) (most n : ℕ) where
+  -- where it ends well, and the input has ended, what was written is what is printed of all the bytes that were read
+  pub ran-whole : Ran P most Whole n → (t : Tape) × Holds n t × (t .ended ≡ true → t .wrote ≡ P (t .read))
+  ran-whole d =
+      let t = d .tape in
+      (t, d .held, λ e. sym (append-nil (t .wrote)) ∙ sym (d .ends [] (λ x. refl)) ∙ ap P (append-nil (t .read)))
+
+  -- and however it ends, what was written is a beginning of that
+  pub ran-beginning : (end : End) → Ran P most end n → (t : Tape) × Holds n t × Begins (t .wrote) (P (t .read))
+  ran-beginning end d =
+      let t = d .tape in
+      let z = d .right [] (λ x. refl) in
+      (t, d .held, (z .0, sym (ap P (append-nil (t .read))) ∙ z .1))

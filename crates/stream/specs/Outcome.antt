@@ -1,13 +1,18 @@
 -- What a program that prints P of its input has done, whatever P is: what it may hand on, and how it ends.
-use Prim.Native.Nat.{ℕ, _≤_}
+use Prim.Native.Nat.{ℕ, _^_, _≤_}
 use mathlib.Core.Path.{_≡_}
 use mathlib.Core.Bool.{true}
 use mathlib.Core.List.{List, [], _++_}
+use lib.Dec.{ltb}
 use lib.ListN.{length}
 use Rattle.port.specs.Tape.{Tape, Holds}
 use Rattle.stream.specs.Runs.{written}
 use Rattle.stream.specs.declared.End.{End}
 use Rattle.stream.specs.declared.End.the-variants.{Whole, Unread, Unwritten, Unended}
+
+-- how many turns a program makes at the most: nothing says that an input ends
+abbrev pub MOST : ℕ
+MOST = 2 ^ 48
 
 -- ys begins with xs
 abbrev pub Begins : (xs ys : List ℕ) → Type 0
@@ -50,3 +55,11 @@ pub record Ran (P : List ℕ → List ℕ) (most : ℕ) (end : End) (n : ℕ) : 
   pub held : Holds n tape
   pub right : Right P tape
   pub ends : Ends P most end tape
+
+-- nothing is written yet, and the bytes bs are read: they fill the buffer of 4,096 bytes, or there are no more
+pub record First (n : ℕ) (bs : List ℕ) : Type 0 where
+  pub tape : Tape
+  pub held : Holds n tape
+  pub read : tape .read ≡ bs
+  pub wrote : tape .wrote ≡ []
+  pub mark : tape .ended ≡ ltb (length bs) 4096

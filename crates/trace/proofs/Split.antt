@@ -14,13 +14,13 @@ use Rattle.trace.proofs.RunLaws.{lines-runs}
 
 -- BYTES xs, and more of them ys: all whole events of xs, and then those of what is left with ys behind it
 module _ (xs ys : List ℕ) where
-  abbrev rest : List ℕ
+  abbrev pub rest : List ℕ
   rest = drop (whole xs * 14) xs ++ ys
 
   fits : whole xs * 14 ≤ length xs
   fits = omega arith
 
-  count-split : whole (xs ++ ys) ≡ whole xs + whole rest
+  pub count-split : whole (xs ++ ys) ≡ whole xs + whole rest
   count-split =
       let a : length (xs ++ ys) ≡ length xs + length ys = length-append xs ys in
       let b : length rest ≡ length (drop (whole xs * 14) xs) + length ys = length-append (drop (whole xs * 14) xs) ys in
@@ -30,14 +30,14 @@ module _ (xs ys : List ℕ) where
   past : drop (whole xs * 14) (xs ++ ys) ≡ rest
   past = drop-append-le (whole xs * 14) xs ys fits
 
-  events-split : eventsOf (whole (xs ++ ys)) (xs ++ ys) ≡ eventsOf (whole xs) xs ++ eventsOf (whole rest) rest
+  pub events-split : eventsOf (whole (xs ++ ys)) (xs ++ ys) ≡ eventsOf (whole xs) xs ++ eventsOf (whole rest) rest
   events-split =
       ap (λ (k : ℕ). eventsOf k (xs ++ ys)) count-split
       ∙ events-add (whole xs) (whole rest) (xs ++ ys)
       ∙ ap (λ (l : List Read). l ++ eventsOf (whole rest) (drop (whole xs * 14) (xs ++ ys))) (events-append (whole xs) xs ys fits)
       ∙ ap (λ (l : List ℕ). eventsOf (whole xs) xs ++ eventsOf (whole rest) l) past
 
-  rest-split : drop (whole (xs ++ ys) * 14) (xs ++ ys) ≡ drop (whole rest * 14) rest
+  pub rest-split : drop (whole (xs ++ ys) * 14) (xs ++ ys) ≡ drop (whole rest * 14) rest
   rest-split =
       let k : whole (xs ++ ys) * 14 ≡ whole xs * 14 + whole rest * 14 = omega (arith, count-split) in
       ap (λ (i : ℕ). drop i (xs ++ ys)) k

@@ -6,7 +6,7 @@ use Prim.Native.Nat.{ℕ}
 use lib.ListN.{length}
 use Rattle.trace.specs.Printed.{printed}
 use Rattle.stream.specs.Outcome.{Last}
-use Rattle.decide.proofs.Stands.{put-front}
+use Rattle.lines.proofs.PutLaws.{put-front}
 use borrow.Author.Needs.{needs}
 use Rattle.decide.proofs.refuse.Statement.{statement}
 use Rattle.decide.proofs.refuse.Tie as tie

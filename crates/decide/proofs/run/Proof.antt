@@ -1,5 +1,7 @@
 use mathlib.Core.Path.{_∙_}
-use Rattle.decide.proofs.Heading.{filled-first, unfilled}
+use Rattle.trace.specs.Printed.{printed}
+use Rattle.stream.specs.Outcome.{MOST}
+use Rattle.stream.proofs.Firsts.{filled-first, unfilled}
 use borrow.Author.Needs.{needs}
 use Rattle.decide.proofs.run.Statement.{statement}
 use Rattle.decide.proofs.run.Tie as tie
@@ -48,7 +50,7 @@ same-length-7 c = search needs
 returns-2 : tie.Need-returns-2
 returns-2 c =
     let f = c .before .before .before .before .fill in
-    unfilled (c .before .before .before .before .before .before .before .before .before .before .before .before .before .args .log .now) (f .last .1 .0) (f .last .0) (f .result) (f .ensures) (c .before .before .before .before .before .before .before .before .before .before .before .before .before .pre .1 .1) (c .enum-told .given .1)
+    unfilled (c .before .before .before .before .before .before .before .before .before .before .before .before .before .args .log .now) (f .last .1 .0) (f .last .0) (f .result) (f .ensures) (c .before .before .before .before .before .before .before .before .before .before .before .before .before .pre .1 .1) printed MOST (c .enum-told .given .1)
 
 pub run-spec : {M : Type 1} → statement M
 run-spec =

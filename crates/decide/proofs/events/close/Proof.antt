@@ -4,7 +4,7 @@ use mathlib.Core.Bool.{true}
 use lib.Seq.{length-take-le}
 use Rattle.trace.specs.Printed.{printed}
 use Rattle.stream.proofs.Outcomes.{next-unwritten}
-use Rattle.decide.specs.Standing.{MOST}
+use Rattle.stream.specs.Outcome.{MOST}
 use Rattle.decide.proofs.Pumping.{standing-next, went-number, turned, standing-last}
 use borrow.Author.Needs.{needs}
 use Rattle.decide.proofs.events.close.Statement.{statement}

@@ -12,7 +12,7 @@ use Rattle.feed.specs.Promise.{placeOf}
 use Rattle.port.specs.Moves.{Goes, brought}
 use Rattle.port.specs.declared.Moved.the-variants.{Bytes}
 use Rattle.stream.proofs.Outcomes.{next-unwritten}
-use Rattle.decide.specs.Standing.{MOST}
+use Rattle.stream.specs.Outcome.{MOST}
 use Rattle.decide.proofs.Pumping.{standing-next, went-number, turned, follows, ends, Pumping, pumps, pumped-out}
 use borrow.Author.Needs.{needs}
 use Rattle.decide.proofs.events.pump.Statement.{statement}

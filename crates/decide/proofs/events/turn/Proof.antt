@@ -5,7 +5,7 @@ use mathlib.Core.List.{List}
 use Rattle.trace.specs.Printed.{printed}
 use Rattle.stream.specs.Runs.{Emits}
 use Rattle.stream.specs.Outcome.{Next}
-use Rattle.decide.proofs.Stands.{put-front}
+use Rattle.lines.proofs.PutLaws.{put-front}
 use borrow.Author.Needs.{needs}
 use Rattle.decide.proofs.events.turn.Statement.{statement}
 use Rattle.decide.proofs.events.turn.Tie as tie

@@ -1,7 +1,7 @@
 use lib.ListN.{take}
 use Rattle.trace.specs.Printed.{printed}
 use Rattle.stream.proofs.Outcomes.{last-next, last-whole, next-unwritten}
-use Rattle.decide.specs.Standing.{MOST}
+use Rattle.stream.specs.Outcome.{MOST}
 use Rattle.decide.proofs.output.last.Statement.{statement}
 use Rattle.decide.proofs.output.last.Tie as tie
 

@@ -1,0 +1,88 @@
+-- A header that opens is an opening that the gate accepts: with room for the largest settings the tables become the fresh one, and are known.
+-- Assumes nothing.
+use Prim.Native.Nat.{ℕ, _*_}
+use mathlib.Core.Path.{_≡_, refl, sym, ap, _∙_, subst}
+use mathlib.Core.Bool.{true, false}
+use mathlib.Core.List.{List}
+use native.Mathlib.Omega.{arith}
+use lib.ListN.{length}
+use lib.Seq.{sets, length-sets}
+use borrow.Author.Tests.{le-ltb}
+use Rattle.lists.specs.Words.{all}
+use Rattle.lists.specs.Tab.{tab}
+use Rattle.lists.specs.Rows.{rowsOf}
+use Rattle.rules.specs.declared.Settings.{Settings}
+use Rattle.rules.specs.Sound.{settled}
+use Rattle.rules.specs.Refusals.{Verdict, accept, openTests}
+use Rattle.rules.specs.Run.{fresh}
+use Rattle.rules.specs.declared.Outcome.{Outcome}
+use Rattle.rules.specs.declared.Answer.the-variants.{Nothing}
+use Rattle.table.specs.Columns.{guestWide, waitingWide, flightWide, settingsWide}
+use Rattle.table.specs.View.{settingsForm, tableOf, Handed, handed, Known}
+use Rattle.gate.specs.Promise.{numbers, handedIn, Seen, seen, openShortIn, openedByIn, openingIn, openedIn, opened}
+use Rattle.gate.specs.Calls.{taken}
+use Rattle.gate.proofs.Lending.{numbers-lawful}
+use Rattle.gate.proofs.Verdicts.{handed-numbers}
+use Rattle.gate.proofs.Opened.{opened-firm, opened-known}
+use Rattle.trace.specs.Header.{numberAt, settingsAt, settingsIn, headerOf}
+use Rattle.trace.specs.declared.Header.the-variants.{Opened}
+use Rattle.trace.proofs.HeaderLaws.{Opens, opened as header-opens}
+use Rattle.trace.proofs.SettingsRows.{settings-rows}
+use Rattle.feed.specs.Promise.{Became}
+use Rattle.begin.specs.Begin.{Largest}
+use Rattle.begin.proofs.Begins.{Sizes, sizes}
+
+module _ (bs old gs ws fs : List ℕ) (d n c : ℕ) (h : headerOf bs ≡ Opened d n c) (large : Largest old gs ws fs) where
+  -- the settings as they were read from the header
+  abbrev ss : List ℕ
+  ss = sets old 0 (tab (n * settingsWide) (numberAt bs))
+
+  o : Opens bs d n c
+  o = header-opens bs d n c h
+
+  z : Sizes bs d n c
+  z = sizes bs d n c h
+
+  rows : rowsOf settingsForm ss n ≡ settingsIn bs
+  rows = settings-rows bs old n (omega (arith, z .guests, large .settings)) ∙ ap (λ (k : ℕ). tab k (settingsAt bs)) (o .guestsIs)
+
+  long : openShortIn numbers d n c ss gs ws fs ≡ false
+  unfolding openShortIn
+  long =
+      rw (le-ltb (length ss) (n * settingsWide) (omega (arith, z .guests, large .settings, length-sets old 0 (tab (n * settingsWide) (numberAt bs)))), le-ltb (length gs) (n * guestWide) (omega (arith, z .guests, large .guests)), le-ltb (length ws) (c * waitingWide) (omega (arith, z .capacity, large .waiting)), le-ltb (length fs) (d * flightWide) (omega (arith, z .depth, large .flight)))
+      refl
+
+  accepts : openingIn numbers d n c ss gs ws fs ≡ accept
+  unfolding openingIn openTests
+  accepts = let s : all settled (rowsOf settingsForm ss n) ≡ true = ap (all settled) rows ∙ o .settings in simp (o .counts, long, s)
+
+  is-fresh : opened d n c ss gs ws fs ≡ handed gs ws fs (record { table = fresh d c (settingsIn bs); answer = Nothing })
+  unfolding openedIn
+  is-fresh =
+      ap (λ (v : Verdict). openedByIn numbers v d n c ss gs ws fs) accepts
+      ∙ ap (λ (l : List Settings). handedIn numbers gs ws fs (record { table = fresh d c l; answer = Nothing })) rows
+      ∙ handed-numbers gs ws fs (record { table = fresh d c (settingsIn bs); answer = Nothing })
+
+  is-taken : taken (opened d n c ss gs ws fs .0 .answer) ≡ true
+  unfolding handed
+  is-taken = ap (λ (x : Handed). taken (x .0 .answer)) is-fresh
+
+  is-known : Known (opened d n c ss gs ws fs .0 .gate) (opened d n c ss gs ws fs .1) (opened d n c ss gs ws fs .2) (opened d n c ss gs ws fs .3)
+  is-known = opened-known d n c ss gs ws fs is-taken
+
+  module _ (r : Outcome) (hs vs es : List ℕ) (p : seen (r, hs, vs, es) ≡ seen (opened d n c ss gs ws fs)) where
+    -- the tables became the fresh one
+    pub opening-became : Became (fresh d c (settingsIn bs)) gs ws fs (r .gate) hs vs es
+    unfolding handed
+    opening-became =
+        record {
+          tables = ap (λ (x : Seen). (x .0, x .2, x .3, x .4)) p ∙ ap (λ (x : Handed). (x .0 .gate, x .1, x .2, x .3)) is-fresh;
+          known = subst (λ (x : Seen). Known (x .0) (x .2) (x .3) (x .4)) (sym p) is-known;
+        }
+
+    -- and show it
+    pub opening-shows : tableOf (r .gate) hs vs es ≡ fresh d c (settingsIn bs)
+    opening-shows =
+        ap (λ (x : Seen). tableOf (x .0) (x .2) (x .3) (x .4)) p
+        ∙ opened-firm numbers numbers-lawful d n c ss gs ws fs is-taken .1
+        ∙ ap (fresh d c) rows

@@ -1,0 +1,87 @@
+-- The header in the first bytes: how the program goes on from there. Assumes nothing.
+use Prim.Native.Nat.{ℕ, _≤_}
+use mathlib.Core.Path.{_≡_, sym, ap, _∙_, subst}
+use mathlib.Core.Bool.{Bool}
+use mathlib.Core.List.{List, [], _++_, append-nil}
+use mathlib.Core.Logic.{_⊎_, inl, inr, ⊎-elim}
+use native.Mathlib.Omega.{arith}
+use lib.Dec.{ltb}
+use lib.ListN.{length, drop}
+use lib.Seq.{drop-append-le}
+use Rattle.rules.specs.Run.{fresh}
+use Rattle.rules.specs.declared.Refusal.{Refusal}
+use Rattle.rules.specs.declared.Settings.{Settings}
+use Rattle.rules.proofs.Conditions.{counted-means}
+use Rattle.table.specs.Columns.{mostGuests}
+use Rattle.lines.specs.Line.{refusalLine}
+use Rattle.trace.specs.Header.{guestsOf, body, settingsIn, headerOf}
+use Rattle.trace.specs.declared.Header.{Header}
+use Rattle.trace.specs.declared.Header.the-variants.{Opened, Refused as Unopened}
+use Rattle.trace.proofs.HeaderLaws.{Opens, opened}
+use Rattle.trace.proofs.FirstRead.{longest, settings-same, header-same}
+use Rattle.stream.specs.Outcome.{May, Last, First}
+use Rattle.stream.proofs.Firsts.{full-or-all}
+use Rattle.book.specs.Page.{firstPage}
+use Rattle.sheet.specs.Sheet.{Stand, closing, begunSheet, sheetBy, sheetOf}
+use Rattle.sheet.specs.Standing.{more, Standing}
+use Rattle.sheet.proofs.Fairness.{fair-first}
+
+-- FIRST BYTES bs that hold any header, or are all there is, and the bytes behind them
+module _ (bs later : List ℕ) where
+  -- the header is theirs
+  header-on : (longest ≤ length bs) ⊎ (later ≡ []) → headerOf (bs ++ later) ≡ headerOf bs
+  header-on (inl long) = header-same bs later long
+  header-on (inr none) = ap (λ (l : List ℕ). headerOf (bs ++ l)) none ∙ ap headerOf (append-nil bs)
+
+  -- the events begin in them
+  begun-on : (d n c : ℕ) → headerOf bs ≡ Opened d n c → (longest ≤ length bs) ⊎ (later ≡ []) → begunSheet d n c (bs ++ later) ≡ more (begunSheet d n c bs) later
+  begun-on d n c e (inl long) =
+      let o : Opens bs d n c = opened bs d n c e in
+      let few : guestsOf bs ≤ mostGuests = counted-means d (guestsOf bs) c .holds .0 (rw (o .guestsIs) at (o .counts)) .guest-count .1 in
+      ap (λ (ss : List Settings). record { bytes = drop (body n) (bs ++ later); page = firstPage (fresh d c ss) }) (settings-same bs later long few)
+      ∙ ap (λ (l : List ℕ). record { bytes = l; page = firstPage (fresh d c (settingsIn bs)) }) (drop-append-le (body n) bs later (o .whole))
+  begun-on d n c e (inr none) =
+      ap (λ (l : List ℕ). begunSheet d n c (bs ++ l)) none
+      ∙ ap (begunSheet d n c) (append-nil bs)
+      ∙ ap (λ (l : List ℕ). record { bytes = l; page = firstPage (fresh d c (settingsIn bs)) }) (sym (append-nil (drop (body n) bs)))
+      ∙ ap (more (begunSheet d n c bs)) (sym none)
+
+  -- what is printed of a bad header
+  sheet-refused : (why : Refusal) → headerOf bs ≡ Unopened why → (longest ≤ length bs) ⊎ (later ≡ []) → sheetOf (bs ++ later) ≡ refusalLine why
+  unfolding sheetOf
+  sheet-refused why e w = ap (λ (h : Header). sheetBy h (bs ++ later)) (header-on w ∙ e)
+
+  -- and of a good one
+  sheet-opened : (d n c : ℕ) → headerOf bs ≡ Opened d n c → (longest ≤ length bs) ⊎ (later ≡ []) → sheetOf (bs ++ later) ≡ closing (more (begunSheet d n c bs) later)
+  unfolding sheetOf
+  sheet-opened d n c e w = ap (λ (h : Header). sheetBy h (bs ++ later)) (header-on w ∙ e) ∙ ap closing (begun-on d n c e w)
+
+-- THE FIRST BYTES ARE READ
+module _ (n : ℕ) (bs : List ℕ) (f : First n bs) where
+  whole-or-all : (later : List ℕ) → May (f .tape) later → (longest ≤ length bs) ⊎ (later ≡ [])
+  whole-or-all later may = ⊎-elim (λ full. inl (omega arith)) inr (full-or-all n bs later f may)
+
+  -- a bad header: its line is the last
+  pub refused-last : (why : Refusal) → headerOf bs ≡ Unopened why → Last sheetOf n (refusalLine why)
+  refused-last why e =
+      record {
+        tape = f .tape;
+        held = f .held;
+        lacks = λ later may.
+            ap (λ (l : List ℕ). sheetOf (l ++ later)) (f .read)
+            ∙ sheet-refused bs later why e (whole-or-all later may)
+            ∙ ap (λ (l : List ℕ). l ++ refusalLine why) (sym (f .wrote));
+      }
+
+  -- a good one: the reading stands where the events begin
+  pub opened-standing : (d g c : ℕ) → headerOf bs ≡ Opened d g c → (ended : Bool) → ltb (length bs) 4096 ≡ ended → (s : Stand) → s ≡ begunSheet d g c bs → Standing ended n s
+  opened-standing d g c e ended mark s here =
+      subst (λ (x : Stand). Standing ended n x) (sym here)
+      (record {
+        tape = f .tape;
+        held = f .held;
+        mark = f .mark ∙ mark;
+        wrote = f .wrote;
+        stands = λ later may. ap (λ (l : List ℕ). sheetOf (l ++ later)) (f .read) ∙ sheet-opened bs later d g c e (whole-or-all later may);
+        fair = fair-first d c (settingsIn bs);
+      })

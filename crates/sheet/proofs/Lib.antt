@@ -1,0 +1,9 @@
+pub mod Printing
+pub mod Splitting
+pub mod Going
+pub mod Fairness
+pub mod Opening
+pub mod Heading
+pub mod Pumping
+pub mod Whole
+pub mod AfterRun

@@ -1,0 +1,209 @@
+// Reads a trace from standard input and prints its sheet: a line for each guest. `main` makes the arrays. Each function is told by the count `log`
+// what was read before it, and promises what was after it: specs/Standing.antt. It reads and writes by `stream` alone, and writes at the end.
+use rules::Refusal;
+use stream::End;
+use stream::Filled;
+use table::columns::FLIGHT_LONG;
+use table::columns::GUESTS_LONG;
+use table::columns::SETTINGS_LONG;
+use table::columns::WAITING_LONG;
+use tally::columns::BOOK_LONG;
+use tally::columns::FIGURES_LONG;
+use trace::Header;
+use trace::opening::read_header;
+ghost use mathlib.Core.Path.{_≡_};
+ghost use Prim.Native.Nat.{_≤_};
+ghost use lib.ListN.{length, take};
+ghost use Rattle.lines.specs.Line.{refusalLine};
+ghost use Rattle.port.specs.Tape.{Holds, blank};
+ghost use Rattle.trace.specs.Header.{headerOf};
+ghost use Rattle.trace.specs.declared.Header.the-variants.{Opened};
+ghost use Rattle.begin.specs.Begin.{Largest};
+ghost use Rattle.stream.specs.Outcome.{Last, First};
+ghost use Rattle.sheet.specs.Sheet.{sheetOf};
+ghost use Rattle.sheet.specs.Standing.{Roomy, Listed};
+
+mod events; // the events turn the page, a buffer at a turn
+mod figures; // the lines of the figures
+mod output; // what is printed is handed on to be written
+
+// Makes the arrays, each for the largest settings, runs the trace on them, and says on standard error where a read or a write failed.
+fn main() {
+    let mut buffer = [0u8; 4096];
+    let mut settings = [0u64; SETTINGS_LONG];
+    let mut guests = [0u64; GUESTS_LONG];
+    let mut waiting = [0u64; WAITING_LONG];
+    let mut flight = [0u64; FLIGHT_LONG];
+    let mut book = [0u64; BOOK_LONG];
+    let mut figures = [0u64; FIGURES_LONG];
+    let mut log = port::start();
+    let end = run(
+        &mut buffer,
+        &mut settings,
+        &mut guests,
+        &mut waiting,
+        &mut flight,
+        &mut book,
+        &mut figures,
+        &mut log,
+    );
+    report(end);
+}
+
+// One line where a read or a write failed, and none else.
+fn report(end: End) {
+    match end {
+        End::Unread => port::complain(b"sheet: cannot read standard input"),
+        End::Unwritten => port::complain(b"sheet: cannot write standard output"),
+        End::Whole => {}
+        End::Unended => {}
+    }
+}
+
+// Reads the first bytes, which hold the whole header or all of a shorter input, and goes on with them.
+fn run(
+    buffer: &mut [u8],
+    settings: &mut [u64],
+    guests: &mut [u64],
+    waiting: &mut [u64],
+    flight: &mut [u64],
+    book: &mut [u64],
+    figures: &mut [u64],
+    log: &mut u64,
+) -> End
+    requires { ⌜ length (now buffer) ≡ 4096 ⌝ }
+    requires { ⌜ Largest (now settings) (now guests) (now waiting) (now flight) ⌝ }
+    requires { ⌜ Roomy (now book) (now figures) ⌝ }
+    requires { ⌜ Holds (now log) blank ⌝ }
+    ensures { λ r. ⌜ Listed r (now (log .exit)) ⌝ }
+{
+    let filled = stream::fill(buffer, log);
+    match filled {
+        Filled::Upto(have) => judge(
+            buffer,
+            have,
+            settings,
+            guests,
+            waiting,
+            flight,
+            book,
+            figures,
+            log,
+        ),
+        Filled::Failed => End::Unread,
+    }
+}
+
+// Goes on by what the header is.
+fn judge(
+    buffer: &mut [u8],
+    have: usize,
+    settings: &mut [u64],
+    guests: &mut [u64],
+    waiting: &mut [u64],
+    flight: &mut [u64],
+    book: &mut [u64],
+    figures: &mut [u64],
+    log: &mut u64,
+) -> End
+    requires { ⌜ (length (now buffer) ≡ 4096) × (have ≤ 4096) ⌝ }
+    requires { ⌜ Largest (now settings) (now guests) (now waiting) (now flight) ⌝ }
+    requires { ⌜ Roomy (now book) (now figures) ⌝ }
+    requires { ⌜ First (now log) (take have (now buffer)) ⌝ }
+    ensures { λ r. ⌜ Listed r (now (log .exit)) ⌝ }
+{
+    let header = read_header(&buffer[..have]);
+    match header {
+        Header::Refused(refusal) => refuse(refusal, log),
+        Header::Opened {
+            depth,
+            guests: known,
+            capacity,
+        } => follow(
+            buffer,
+            have,
+            depth,
+            known,
+            capacity,
+            settings,
+            guests,
+            waiting,
+            flight,
+            book,
+            figures,
+            log,
+        ),
+    }
+}
+
+// Writes the one line of a bad header.
+fn refuse(refusal: Refusal, log: &mut u64) -> End
+    requires { ⌜ Last sheetOf (now log) (refusalLine refusal) ⌝ }
+    ensures { λ r. ⌜ Listed r (now (log .exit)) ⌝ }
+{
+    let mut out = [0u8; 65];
+    let n = lines::put_refusal(&mut out, 0, refusal);
+    output::last(&out, n, log)
+}
+
+// A good header: opens the tables, clears the figures, and goes on with the events. A buffer that is not full holds all of the input.
+fn follow(
+    buffer: &mut [u8],
+    have: usize,
+    depth: u64,
+    known: u64,
+    capacity: u64,
+    settings: &mut [u64],
+    guests: &mut [u64],
+    waiting: &mut [u64],
+    flight: &mut [u64],
+    book: &mut [u64],
+    figures: &mut [u64],
+    log: &mut u64,
+) -> End
+    requires { ⌜ (length (now buffer) ≡ 4096) × (have ≤ 4096) ⌝ }
+    requires { ⌜ headerOf (take have (now buffer)) ≡ Opened depth known capacity ⌝ }
+    requires { ⌜ Largest (now settings) (now guests) (now waiting) (now flight) ⌝ }
+    requires { ⌜ Roomy (now book) (now figures) ⌝ }
+    requires { ⌜ First (now log) (take have (now buffer)) ⌝ }
+    ensures { λ r. ⌜ Listed r (now (log .exit)) ⌝ }
+{
+    let begun = begin::begin(
+        buffer,
+        have,
+        depth,
+        known,
+        capacity,
+        settings,
+        guests,
+        waiting,
+        flight,
+    );
+    let rest = begun.rest;
+    let gate = begun.gate;
+    moves::rows::clear(figures, FIGURES_LONG);
+    if have < 4096 {
+        return events::close(
+            buffer,
+            rest,
+            gate,
+            guests,
+            waiting,
+            flight,
+            book,
+            figures,
+            log,
+        );
+    }
+    events::pump(
+        buffer,
+        rest,
+        gate,
+        guests,
+        waiting,
+        flight,
+        book,
+        figures,
+        log,
+    )
+}

@@ -1,0 +1,4 @@
+pub mod Columns
+pub mod Kept
+pub mod Notes
+pub mod Turns
