@@ -1,10 +1,11 @@
 /* host.c: a small host around the gate. It plays the day of lot 214 (samples/lot214.txt) against an array that is only
- * simulated, and prints what the requests of each guest waited, from arrival to send.
+ * simulated, and prints what the requests of each guest waited, from arrival to send, and how many ticks the day took.
  *
  *     cc -std=c99 -Iinclude examples/host.c target/staticlib/libhost.a -o host && ./host
  *
- * A host does three things: it hands every event to the gate, it sends what the answer names, and it ticks at the time
- * when a waiting request may go next. Here time is simulated too: the host jumps from one event to the next.
+ * A host does three things: it hands every event to the gate, it sends what the answer names, and with nothing else to do
+ * it sleeps until the time to wake that the gate said last, and then ticks. Here time is simulated too: where a host
+ * sleeps, this one jumps to the next event.
  */
 #include "sgq.h"
 
@@ -13,7 +14,6 @@
 #include <stdlib.h>
 
 #define MS UINT64_C(1000000) /* nanoseconds */
-#define NEVER UINT64_MAX
 #define DEPTH 4
 #define CAPACITY 64
 #define PHASES 2
@@ -89,6 +89,8 @@ struct host {
     size_t busy_count;
     size_t row; /* of the day, and how many ids of that row have arrived */
     uint32_t within;
+    uint64_t wake; /* when to tick, as the gate said last */
+    uint64_t ticks;
     struct waits waits[GUESTS][PHASES];
 };
 
@@ -104,6 +106,7 @@ static void open_gate(struct host *host)
     sgq_answer answer = sgq_tables_open_all(&host->lent, settings, GUESTS);
     if (answer.kind == SGQ_REFUSED)
         stop("opening", answer);
+    host->wake = answer.wake;
 }
 
 /* The place of a request among jobs; it is one of them. */
@@ -144,15 +147,25 @@ static void send_one(struct host *host, sgq_answer answer, uint64_t now)
     host->busy[host->busy_count++] = job;
 }
 
-/* An event sends at most one request, so as long as one goes the gate is asked for another. */
-static void send_all(struct host *host, sgq_answer answer, uint64_t now)
+static sgq_answer tick(struct host *host, uint64_t now)
 {
-    while (sgq_sent(answer)) {
-        send_one(host, answer, now);
-        answer = sgq_tables_tick(&host->lent, now);
+    host->ticks += 1;
+    return sgq_tables_tick(&host->lent, now);
+}
+
+/* An event sends at most one request. As long as the gate says to wake now, a tick sends another; then it has said until
+ * when the host may sleep. */
+static void follow(struct host *host, sgq_answer answer, uint64_t now)
+{
+    while (answer.kind != SGQ_REFUSED) {
+        if (sgq_sent(answer))
+            send_one(host, answer, now);
+        host->wake = answer.wake;
+        if (host->wake > now)
+            return;
+        answer = tick(host, now);
     }
-    if (answer.kind == SGQ_REFUSED)
-        stop("a tick", answer);
+    stop("an event", answer);
 }
 
 static void arrive(struct host *host, uint64_t now)
@@ -165,13 +178,13 @@ static void arrive(struct host *host, uint64_t now)
         host->within = 0;
     }
     sgq_answer answer = sgq_tables_arrive(&host->lent, job.guest, (uint32_t)job.id, now);
-    if (answer.kind == SGQ_REFUSED) { /* nothing has changed, so the host goes on */
+    if (answer.kind == SGQ_REFUSED) { /* nothing has changed, nor when to wake, so the host goes on */
         printf("refused: %s, id %" PRIu64 " at %" PRIu64 " ms: %" PRIu64 ", %s\n\n", guest_name[job.guest], job.id,
                now / MS, answer.refusal, sgq_refusal_text(answer.refusal));
         return;
     }
     host->asked[host->asked_count++] = job;
-    send_all(host, answer, now);
+    follow(host, answer, now);
 }
 
 /* The place at the array of the request that is done first. */
@@ -187,10 +200,7 @@ static size_t first_done(const struct host *host)
 static void complete(struct host *host, uint64_t now)
 {
     struct job job = take_out(host->busy, &host->busy_count, first_done(host));
-    sgq_answer answer = sgq_tables_complete(&host->lent, job.guest, (uint32_t)job.id, now);
-    if (answer.kind == SGQ_REFUSED)
-        stop("a completion", answer);
-    send_all(host, answer, now);
+    follow(host, sgq_tables_complete(&host->lent, job.guest, (uint32_t)job.id, now), now);
 }
 
 static uint64_t sooner(uint64_t a, uint64_t b)
@@ -198,40 +208,21 @@ static uint64_t sooner(uint64_t a, uint64_t b)
     return a < b ? a : b;
 }
 
-/* When a tick may next send something: with a place free and nothing due now, at the first tag of those that wait. A
- * request with no limit never waits for one. */
-static uint64_t next_wake(const struct host *host)
-{
-    uint64_t wake = NEVER;
-    if (sgq_free_places(&host->gate) == 0)
-        return NEVER;
-    for (size_t place = 0; place < host->gate.waiting; place++) {
-        const sgq_request *request = &host->waiting[place];
-        const sgq_guest *guest = &host->guests[request->guest];
-        if (guest->reservation != 0)
-            wake = sooner(wake, request->rtag);
-        if (guest->limit != 0)
-            wake = sooner(wake, request->ltag);
-    }
-    return wake;
-}
-
 /* Plays the day to its end. At equal times what is done goes first, then what arrives. */
 static void play(struct host *host)
 {
     for (;;) {
-        uint64_t done = host->busy_count > 0 ? host->busy[first_done(host)].time : NEVER;
-        uint64_t arrival = host->row < ROWS ? day[host->row].ms * MS : NEVER;
-        uint64_t wake = next_wake(host);
-        uint64_t now = sooner(done, sooner(arrival, wake));
-        if (now == NEVER)
+        uint64_t done = host->busy_count > 0 ? host->busy[first_done(host)].time : SGQ_NEVER;
+        uint64_t arrival = host->row < ROWS ? day[host->row].ms * MS : SGQ_NEVER;
+        uint64_t now = sooner(done, sooner(arrival, host->wake));
+        if (now == SGQ_NEVER)
             return;
         if (now == done)
             complete(host, now);
         else if (now == arrival)
             arrive(host, now);
         else
-            send_all(host, sgq_tables_tick(&host->lent, now), now);
+            follow(host, tick(host, now), now);
     }
 }
 
@@ -256,11 +247,19 @@ static void print_waits(const struct host *host)
         }
 }
 
+/* The day ends with its last event, whose time the gate has. */
+static void print_ticks(const struct host *host)
+{
+    printf("\nticks: before, one each ms, %" PRIu64 "; now, when the gate says, %" PRIu64 "\n", host->gate.time / MS,
+           host->ticks);
+}
+
 int main(void)
 {
     static struct host host; /* zeros */
     open_gate(&host);
     play(&host);
     print_waits(&host);
+    print_ticks(&host);
     return 0;
 }

@@ -2,7 +2,8 @@
  *
  * The gate holds the requests of 1 to 64 guests for one disc array and decides, after each event, whether one goes to
  * the array: at most one. Events are an arrival (guest, id, time), a completion (guest, id, time) and a tick (time).
- * The rules are document 01's; words in quotes are that document's own.
+ * Each answer also says when to tick. The rules are document 01's; words in quotes are that document's own, where no
+ * other is named.
  *
  * The library keeps nothing between calls. The host lends it the gate and three tables at each call, and must not
  * change them in between: every call tests that they are sound and refuses with a number where they are not. "Every
@@ -27,7 +28,7 @@
 /* The version of this header and of the library that it belongs to. While the major number is 0, another minor number
  * means other calls or other rows. SGQ_VERSION is the text "MAJOR.MINOR.PATCH". */
 #define SGQ_VERSION_MAJOR 0
-#define SGQ_VERSION_MINOR 1
+#define SGQ_VERSION_MINOR 2
 #define SGQ_VERSION_PATCH 0
 #define SGQ_VERSION \
     SGQ_TEXT_OF(SGQ_VERSION_MAJOR) "." SGQ_TEXT_OF(SGQ_VERSION_MINOR) "." SGQ_TEXT_OF(SGQ_VERSION_PATCH)
@@ -48,6 +49,9 @@ extern "C" {
 /* "Time and tags are whole nanoseconds, 0 to 4,611,686,018,427,387,903 (2^62 - 1, the ceiling)." */
 #define SGQ_CEILING UINT64_C(4611686018427387903)
 
+/* No time to wake, in an answer: all bits one, which is later than any time. */
+#define SGQ_NEVER UINT64_MAX
+
 /* "Depth (places at the array) 1 to 64", "requests of 1 to 64 guests", "Capacity (waiting places) 1 to 1,024." */
 #define SGQ_MOST_DEPTH 64
 #define SGQ_MOST_GUESTS 64
@@ -63,7 +67,7 @@ extern "C" {
 #define SGQ_GUEST_NUMBERS 6
 #define SGQ_REQUEST_NUMBERS 5
 #define SGQ_FLIGHT_NUMBERS 2
-#define SGQ_ANSWER_NUMBERS 4
+#define SGQ_ANSWER_NUMBERS 5
 
 /* The gate: what it was opened with, the time and the counts. "A fresh table has time 0, nothing waiting or in
  * flight". */
@@ -111,12 +115,18 @@ typedef struct sgq_flight {
 } sgq_flight;
 
 /* What a call answers. Guest and id name the request sent and are 0 where none was; refusal is 0 where nothing was
- * refused. */
+ * refused.
+ *
+ * Wake says when to tick. Document 02, K2: "the earliest time, now or later, at which a tick alone would send
+ * something", or SGQ_NEVER "when no place is free or nothing waits". It is judged after the event: what this answer
+ * sends does not wait any more. Where it is the event's own time, a tick at once sends another request. It stands until
+ * the next accepted event. A refused event carries nothing: 0 is there, and what was said last still stands. */
 typedef struct sgq_answer {
     uint64_t kind; /* enum sgq_kind */
     uint64_t guest;
     uint64_t id;
     uint64_t refusal; /* enum sgq_refusal */
+    uint64_t wake;    /* a time in nanoseconds, or SGQ_NEVER; 0 in a refusal */
 } sgq_answer;
 
 /* The kinds of answer. */
@@ -165,7 +175,7 @@ enum sgq_refusal {
 
 /* Opens a gate: the answer is SGQ_NOTHING, or refused with 1 or 2. Settings are SGQ_SETTINGS_NUMBERS a guest. The gate
  * and the tables may hold anything before; after it, "a fresh table has time 0, nothing waiting or in flight, all next
- * numbers 0", and "every place past the count holds zeros". */
+ * numbers 0", and "every place past the count holds zeros". So wake is SGQ_NEVER. */
 SGQ_MUST_USE sgq_answer sgq_open(uint64_t *gate, uint64_t depth, uint64_t guests, uint64_t capacity,
                                  const uint64_t *settings, size_t settings_length,
                                  uint64_t *guest_table, size_t guest_table_length,
@@ -187,8 +197,8 @@ SGQ_MUST_USE sgq_answer sgq_complete(uint64_t *gate,
                                      uint64_t *flight, size_t flight_length,
                                      uint64_t guest, uint32_t id, uint64_t time);
 
-/* "A tick only sets the time and makes the choice." With places free a host ticks again after each send, until nothing
- * is sent, and then when the next waiting reservation or limit tag is reached. */
+/* "A tick only sets the time and makes the choice." A host ticks once the clock has reached the wake of the last
+ * accepted event, at once where it has. A tick before that sends nothing; from then on it sends a request. */
 SGQ_MUST_USE sgq_answer sgq_tick(uint64_t *gate,
                                  uint64_t *guest_table, size_t guest_table_length,
                                  uint64_t *waiting, size_t waiting_length,

@@ -3,13 +3,13 @@
 //!
 //!     bench-calls WHICH TRACE SKIP COUNT ROUNDS
 //!
-//! WHICH is library, second or both. The first SKIP events fill the tables; the COUNT after them are played ROUNDS
-//! times, in turn where it is both. Prints for each round the name and the nanoseconds that the COUNT calls took.
+//! WHICH is library, second or both. The first SKIP events fill the tables; the COUNT after them are played from there,
+//! ROUNDS times, in turn where it is both. Prints for each round the name and the nanoseconds that the COUNT calls took.
 
 mod players;
 mod trace;
 
-use players::{Library, Player, Second};
+use players::{after, Library, Player, Second};
 use std::process::ExitCode;
 use std::time::Instant;
 use trace::Trace;
@@ -33,9 +33,9 @@ fn run(words: &[String]) -> Option<()> {
     let rounds: usize = rounds.parse().ok()?;
     let trace = Trace::read(file, skip + count)?;
     let (first, timed) = trace.events.split_at(skip);
-    // Neither is opened where it is not wanted: instructions are counted over the whole run.
-    let library = (which != "second").then(|| Library::after(&trace, first));
-    let second = (which != "library").then(|| Second::after(&trace, first));
+    let start = after(&trace, first);
+    let library = (which != "second").then(|| Library(start.clone()));
+    let second = (which != "library").then_some(Second(start));
     for _ in 0..rounds {
         let ours = library
             .as_ref()

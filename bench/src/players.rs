@@ -1,77 +1,31 @@
-//! The two that play events: the library through its C calls, and the second program through its calls on lent tables.
+//! The two that play events on lent tables: the library through its C calls, and the second program through its own.
 
 use crate::trace::Trace;
 use second::sample::Owned;
 use second::tables::{Gate as Row, FLIGHT_NUMBERS, WAITING_NUMBERS};
 use second::trace::Event;
-use second::{Settings, State};
+use second::State;
+use sgq::raw;
 
 pub trait Player {
     /// Plays one event. The number stands for the answer, the same for both players.
     fn play(&mut self, event: &Event) -> u64;
 }
 
-/// A number for each answer: kind, guest and id, or the refusal.
-fn folded(kind: u64, guest: u64, id: u64) -> u64 {
-    kind << 60 | guest << 32 | id
+/// A number for each answer: kind, guest and id, or the refusal; and the time to wake.
+fn folded(kind: u64, guest: u64, id: u64, wake: u64) -> u64 {
+    (kind << 60 | guest << 32 | id) ^ wake.rotate_left(17)
 }
 
-#[derive(Clone)]
-pub struct Library(sgq::Gate);
-
-impl Library {
-    /// The library's gate as it stands after these events.
-    pub fn after(trace: &Trace, events: &[Event]) -> Library {
-        let settings: Vec<_> = trace.settings.iter().map(wrapped).collect();
-        let gate = sgq::Gate::open(trace.depth, trace.capacity, &settings).expect("good settings");
-        let mut library = Library(gate);
-        for event in events {
-            library.play(event);
-        }
-        library
+/// The tables as they stand after these events. The second program plays them without the test of soundness, which is
+/// the quickest.
+pub fn after(trace: &Trace, events: &[Event]) -> Owned {
+    let (depth, capacity) = (trace.depth as usize, trace.capacity as usize);
+    let mut state = State::fresh(depth, capacity, &trace.settings);
+    for &event in events {
+        second::trace::play(&mut state, event);
     }
-}
-
-fn wrapped(settings: &Settings) -> sgq::Settings {
-    sgq::Settings {
-        reservation: settings.reservation,
-        limit: settings.limit,
-        shares: settings.shares,
-    }
-}
-
-impl Player for Library {
-    fn play(&mut self, event: &Event) -> u64 {
-        let guest = event.guest as u64;
-        let answer = match event.kind {
-            0 => self.0.arrive(guest, event.id, event.time),
-            1 => self.0.complete(guest, event.id, event.time),
-            _ => self.0.tick(event.time),
-        };
-        match answer {
-            Ok(sgq::Answer::Nothing) => folded(0, 0, 0),
-            Ok(sgq::Answer::Sent { phase, guest, id }) => match phase {
-                sgq::Phase::Reservation => folded(1, guest, id as u64),
-                sgq::Phase::Weight => folded(2, guest, id as u64),
-            },
-            Err(refusal) => folded(3, 0, refusal.number()),
-        }
-    }
-}
-
-#[derive(Clone)]
-pub struct Second(Owned);
-
-impl Second {
-    /// The second program's tables as they stand after these events, which are played without the test of soundness.
-    pub fn after(trace: &Trace, events: &[Event]) -> Second {
-        let (depth, capacity) = (trace.depth as usize, trace.capacity as usize);
-        let mut state = State::fresh(depth, capacity, &trace.settings);
-        for &event in events {
-            second::trace::play(&mut state, event);
-        }
-        Second(tables(&state))
-    }
+    tables(&state)
 }
 
 fn tables(state: &State) -> Owned {
@@ -95,22 +49,54 @@ fn tables(state: &State) -> Owned {
     }
 }
 
+#[derive(Clone)]
+pub struct Library(pub Owned);
+
+impl Player for Library {
+    fn play(&mut self, event: &Event) -> u64 {
+        let Owned {
+            gate,
+            guests,
+            waiting,
+            flight,
+        } = &mut self.0;
+        let (g, w, f) = (guests.len(), waiting.len(), flight.len());
+        let (gate, guests) = (gate.as_mut_ptr(), guests.as_mut_ptr());
+        let (waiting, flight) = (waiting.as_mut_ptr(), flight.as_mut_ptr());
+        let (guest, id, time) = (event.guest as u64, event.id, event.time);
+        // SAFETY: all numbers of the gate, and the tables as long as they are, each in memory of its own.
+        let answer = unsafe {
+            match event.kind {
+                0 => raw::sgq_arrive(gate, guests, g, waiting, w, flight, f, guest, id, time),
+                1 => raw::sgq_complete(gate, guests, g, waiting, w, flight, f, guest, id, time),
+                _ => raw::sgq_tick(gate, guests, g, waiting, w, flight, f, time),
+            }
+        };
+        let named = answer.id | answer.refusal;
+        folded(answer.kind, answer.guest, named, answer.wake)
+    }
+}
+
+#[derive(Clone)]
+pub struct Second(pub Owned);
+
 impl Player for Second {
     fn play(&mut self, event: &Event) -> u64 {
         let guest = event.guest as u64;
         let mut lent = self.0.lend();
-        let answer = match event.kind {
+        let reply = match event.kind {
             0 => second::arrive(&mut lent, guest, event.id, event.time),
             1 => second::complete(&mut lent, guest, event.id, event.time),
             _ => second::tick(&mut lent, event.time),
         };
-        match answer {
-            second::Answer::Nothing => folded(0, 0, 0),
+        let wake = reply.wake_number();
+        match reply.answer {
+            second::Answer::Nothing => folded(raw::NOTHING, 0, 0, wake),
             second::Answer::Sent { phase, guest, id } => match phase {
-                second::Phase::Reservation => folded(1, guest, id),
-                second::Phase::Weight => folded(2, guest, id),
+                second::Phase::Reservation => folded(raw::SENT_BY_RESERVATION, guest, id, wake),
+                second::Phase::Weight => folded(raw::SENT_BY_WEIGHT, guest, id, wake),
             },
-            second::Answer::Refused(number) => folded(3, 0, number as u64),
+            second::Answer::Refused(number) => folded(raw::REFUSED, 0, number as u64, wake),
         }
     }
 }

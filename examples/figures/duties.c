@@ -33,17 +33,19 @@ static void one_by_one(void)
         if (sgq_sent(sgq_tables_complete(&house.lent, guest, 1, 50 * MS)))
             return;
     unsigned ticks = 1;
-    while (sgq_sent(sgq_tables_tick(&house.lent, 100 * MS)))
-        ticks++;
-    printf("four requests may go at 100 ms and four places are free: %u ticks, the last sends nothing\n", ticks);
+    sgq_answer answer = sgq_tables_tick(&house.lent, 100 * MS);
+    for (; sgq_sent(answer) && answer.wake <= 100 * MS; ticks++)
+        answer = sgq_tables_tick(&house.lent, 100 * MS);
+    printf("four requests may go at 100 ms and four places are free: %u ticks, %" PRIu64 " are sent\n", ticks,
+           house.gate.flight);
 }
 
-/* A minute of bids, plates and archive reads, with a tick where a tag is reached and after each send. */
-static void by_tags(void)
+/* A minute of bids, plates and archive reads, with a tick whenever the gate says to wake. */
+static void when_woken(void)
 {
     const sgq_settings settings[3] = {{50, 0, 1}, {0, 0, 300}, {0, 20, 100}};
-    const struct load bids = {0, 60 * MS, 0, NEVER, 0}, plates = {8, 0, 20 * SECOND, 40 * SECOND, 0};
-    const struct load archive = {4, 0, 0, NEVER, 0};
+    const struct load bids = {0, 60 * MS, 0, SGQ_NEVER, 0}, plates = {8, 0, 20 * SECOND, 40 * SECOND, 0};
+    const struct load archive = {4, 0, 0, SGQ_NEVER, 0};
     house_open(&house, 4, 64, settings, 3, 4, 8 * MS);
     house_load(&house, 0, bids);
     house_load(&house, 1, plates);
@@ -57,7 +59,7 @@ static void by_tags(void)
 void ticks_figures(void)
 {
     one_by_one();
-    by_tags();
+    when_woken();
 }
 
 /* A client with a limit of two a second asks for 32 and goes away; the next client asks for one. What the gate sends is
@@ -93,7 +95,7 @@ void withdrawn_figures(void)
 static void open_busy(struct house *one, uint64_t shares)
 {
     const sgq_settings settings[2] = {{0, 0, shares}, {100, 200, 1}};
-    const struct load busy = {8, 0, 0, NEVER, 0};
+    const struct load busy = {8, 0, 0, SGQ_NEVER, 0};
     house_open(one, 4, 32, settings, 2, 4, 4 * MS);
     house_load(one, 0, busy);
     house_load(one, 1, busy);
@@ -152,9 +154,9 @@ static void send_to_array(sgq_answer answer)
 }
 
 /* Opens the gate once more over the same tables and hands it what waited, in order of acceptance. Nothing may be in
- * flight: the host has waited for the array to be done, and has not told the gate. */
-static void open_again(const sgq_tables *lent, const sgq_settings *settings, size_t guests, const struct jobs *waited,
-                       uint64_t now)
+ * flight: the host has waited for the array to be done, and has not told the gate. Gives when to tick. */
+static uint64_t open_again(const sgq_tables *lent, const sgq_settings *settings, size_t guests,
+                           const struct jobs *waited, uint64_t now)
 {
     sgq_answer answer = sgq_tables_open_all(lent, settings, guests);
     for (size_t place = 0; place < waited->count && answer.kind != SGQ_REFUSED; place++) {
@@ -165,6 +167,7 @@ static void open_again(const sgq_tables *lent, const sgq_settings *settings, siz
     }
     if (answer.kind == SGQ_REFUSED)
         stop_at("opening again", answer);
+    return answer.wake;
 }
 
 void reopen_figures(void)
@@ -186,7 +189,8 @@ void reopen_figures(void)
     print_answer("a tick", sgq_tables_tick(&lent, 2 * SECOND));
     print_answer("an arrival", sgq_tables_arrive(&lent, 0, 1, 2 * SECOND));
     printf("the array is done with those in flight; the gate is opened again\n");
-    open_again(&lent, settings, SGQ_COUNT(settings), &waited, 3 * SECOND);
+    uint64_t wake = open_again(&lent, settings, SGQ_COUNT(settings), &waited, 3 * SECOND);
     printf("%" PRIu64 " in flight, %" PRIu64 " wait\n", gate.flight, gate.waiting);
+    printf("to wake: %s\n", wake == SGQ_NEVER ? "never, no place is free" : "later");
     print_answer("a completion of before", sgq_tables_complete(&lent, 1, 0, 4 * SECOND));
 }

@@ -20,11 +20,12 @@ void house_open(struct house *house, uint64_t depth, uint64_t capacity, const sg
     house->servers = servers;
     house->service = service;
     for (size_t guest = 0; guest < GUESTS; guest++)
-        house->next_ask[guest] = NEVER;
+        house->next_ask[guest] = SGQ_NEVER;
     house->lent = (sgq_tables)SGQ_TABLES(house->gate, house->guests, house->waiting, house->flight);
     sgq_answer answer = sgq_tables_open(&house->lent, depth, guests, capacity, settings, guests);
     if (answer.kind == SGQ_REFUSED)
         stop_at("opening", answer);
+    house->wake = answer.wake;
 }
 
 void house_load(struct house *house, uint64_t guest, struct load load)
@@ -101,17 +102,18 @@ static sgq_answer tick_once(struct house *house)
     return answer;
 }
 
-/* An event sends at most one request: while one goes, something waits and a place is free, the gate is asked again. */
-static void send_all(struct house *house, sgq_answer answer)
+/* An event sends at most one request: as long as the gate says to wake now, a tick sends another. */
+static void follow(struct house *house, sgq_answer answer)
 {
-    while (sgq_sent(answer)) {
-        send_one(house, answer);
-        if (house->gate.waiting == 0 || sgq_free_places(&house->gate) == 0)
+    while (answer.kind != SGQ_REFUSED) {
+        if (sgq_sent(answer))
+            send_one(house, answer);
+        house->wake = answer.wake;
+        if (house->wake > house->now)
             return;
         answer = tick_once(house);
     }
-    if (answer.kind == SGQ_REFUSED)
-        stop_at("an event", answer);
+    stop_at("an event", answer);
 }
 
 /* Arrivals. */
@@ -139,7 +141,7 @@ static void let_in(struct house *house)
         }
         put(&house->inside, take_out(&house->door, place));
         house->events += 1;
-        send_all(house, answer);
+        follow(house, answer);
     }
 }
 
@@ -153,7 +155,7 @@ static void ask(struct house *house, uint64_t guest)
 static void ask_in_turn(struct house *house, uint64_t guest)
 {
     const struct load *load = &house->load[guest];
-    house->next_ask[guest] = NEVER;
+    house->next_ask[guest] = SGQ_NEVER;
     for (uint64_t request = 0; request < load->under_way; request++)
         ask(house, guest);
     if (load->period != 0) {
@@ -174,7 +176,7 @@ static void complete(struct house *house, size_t place)
     if (tally->longest_whole < house->now - job.asked)
         tally->longest_whole = house->now - job.asked;
     house->events += 1;
-    send_all(house, sgq_tables_complete(&house->lent, job.guest, (uint32_t)job.id, house->now));
+    follow(house, sgq_tables_complete(&house->lent, job.guest, (uint32_t)job.id, house->now));
     if (load->under_way != 0 && house->now < load->until)
         ask(house, job.guest);
     let_in(house);
@@ -205,26 +207,9 @@ static uint64_t first_asking(const struct house *house)
     return first;
 }
 
-/* When a tick may send something: at the first tag of those that wait, where a place is free. */
-static uint64_t next_wake(const struct house *house)
-{
-    uint64_t wake = NEVER;
-    if (sgq_free_places(&house->gate) == 0)
-        return NEVER;
-    for (size_t place = 0; place < house->gate.waiting; place++) {
-        const sgq_request *request = &house->waiting[place];
-        const sgq_guest *guest = &house->guests[request->guest];
-        if (guest->reservation != 0)
-            wake = sooner(wake, request->rtag);
-        if (guest->limit != 0)
-            wake = sooner(wake, request->ltag);
-    }
-    return wake;
-}
-
 static void tick(struct house *house)
 {
-    send_all(house, tick_once(house));
+    follow(house, tick_once(house));
     let_in(house);
 }
 
@@ -234,8 +219,8 @@ void house_play(struct house *house, uint64_t until)
     for (;;) {
         size_t first = first_done(house);
         uint64_t guest = first_asking(house);
-        uint64_t done = house->busy.count > 0 ? house->busy.job[first].done : NEVER;
-        uint64_t next = sooner(sooner(done, house->next_ask[guest]), next_wake(house));
+        uint64_t done = house->busy.count > 0 ? house->busy.job[first].done : SGQ_NEVER;
+        uint64_t next = sooner(sooner(done, house->next_ask[guest]), house->wake);
         if (next >= until)
             return;
         house->now = next;

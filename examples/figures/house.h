@@ -8,7 +8,6 @@
 
 #define MS UINT64_C(1000000) /* nanoseconds */
 #define SECOND (1000 * MS)
-#define NEVER UINT64_MAX
 #define GUESTS 8   /* at most */
 #define ASKED 1024 /* requests under way, at most */
 
@@ -48,7 +47,7 @@ struct house {
     uint32_t next_id[GUESTS];
     struct jobs door, inside, busy; /* asked for; accepted and not yet sent; at the array */
     uint64_t events, ticks, idle_ticks; /* arrivals and completions; ticks, and those of them that sent nothing */
-    uint64_t now;
+    uint64_t now, wake;                 /* the time, and when to tick, as the gate said last */
 };
 
 /* Opens the gate, with an array that works on `servers` requests at once for `service` ns each. */

@@ -14,8 +14,8 @@ static struct house house;
  * 8 ms each. */
 static void play(uint64_t depth, uint64_t capacity, uint64_t quota)
 {
-    const struct load pictures = {96, 0, 0, NEVER, quota};
-    const struct load bids = {0, 25 * MS + MS / 8, SECOND, NEVER, 0};
+    const struct load pictures = {96, 0, 0, SGQ_NEVER, quota};
+    const struct load bids = {0, 25 * MS + MS / 8, SECOND, SGQ_NEVER, 0};
     house_open(&house, depth, capacity, settings, PARTIES, 4, 8 * MS);
     house_load(&house, PICTURES, pictures);
     house_load(&house, ROOM, bids);

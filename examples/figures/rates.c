@@ -16,7 +16,7 @@ static void open_array(const sgq_settings *settings, size_t guests, uint64_t dep
 
 static void keep_busy(uint64_t guest, uint64_t under_way, uint64_t from)
 {
-    const struct load load = {under_way, 0, from, NEVER, 0};
+    const struct load load = {under_way, 0, from, SGQ_NEVER, 0};
     house_load(&house, guest, load);
 }
 

@@ -1,5 +1,6 @@
 //! The library calls on lent tables. Lengths and soundness are judged at
-//! every call; a refusal changes no lent number.
+//! every call; a refusal changes no lent number. The reply to an accepted
+//! event says when to wake the host.
 
 use crate::numbers::counts_good;
 use crate::rules::{Answer, State};
@@ -8,51 +9,86 @@ use crate::tables::{
     settings_at, Gate, Guest, Tables, View, FLIGHT_NUMBERS, GATE_NUMBERS, GUEST_NUMBERS,
     SETTINGS_NUMBERS, WAITING_NUMBERS,
 };
+use crate::wake::wake;
+
+/// The answer to a call, and the time to wake the host at the tables as the
+/// call leaves them. A refusal has none.
+#[derive(Clone, Copy, Debug, PartialEq, Eq)]
+pub struct Reply {
+    pub answer: Answer,
+    pub wake: Option<u64>,
+}
+
+/// No time to wake, as a number. No time is as large.
+pub const NEVER: u64 = u64::MAX;
+
+impl Reply {
+    fn refused(number: u8) -> Reply {
+        Reply {
+            answer: Answer::Refused(number),
+            wake: None,
+        }
+    }
+
+    /// The time to wake as one number, which in a refusal means nothing
+    /// and is 0.
+    pub fn wake_number(self) -> u64 {
+        match self.answer {
+            Answer::Refused(_) => 0,
+            _ => self.wake.unwrap_or(NEVER),
+        }
+    }
+}
 
 /// Opens a gate. The settings are reservation, limit and shares of each
-/// guest.
-pub fn open(depth: u64, guests: u64, capacity: u64, settings: &[u64], lent: &mut Tables) -> Answer {
+/// guest. Nothing waits in a fresh table, so there is no time to wake.
+pub fn open(depth: u64, guests: u64, capacity: u64, settings: &[u64], lent: &mut Tables) -> Reply {
     if !counts_good(depth, guests, capacity) {
-        return Answer::Refused(1);
+        return Reply::refused(1);
     }
     let listed = settings.len() >= guests as usize * SETTINGS_NUMBERS;
     if !listed || !lent.view().long_enough(depth, guests, capacity) {
-        return Answer::Refused(2);
+        return Reply::refused(2);
     }
     let settings_of = |guest| settings_at(settings, guest);
     if !(0..guests as usize).all(|guest| settings_of(guest).good()) {
-        return Answer::Refused(1);
+        return Reply::refused(1);
     }
     let settings: Vec<_> = (0..guests as usize).map(settings_of).collect();
     let fresh = State::fresh(depth as usize, capacity as usize, &settings);
     write_back(&fresh, lent);
-    Answer::Nothing
+    Reply {
+        answer: Answer::Nothing,
+        wake: None,
+    }
 }
 
-pub fn arrive(lent: &mut Tables, guest: u64, id: u32, time: u64) -> Answer {
+pub fn arrive(lent: &mut Tables, guest: u64, id: u32, time: u64) -> Reply {
     play(lent, |state| state.arrive(guest, id, time))
 }
 
-pub fn complete(lent: &mut Tables, guest: u64, id: u32, time: u64) -> Answer {
+pub fn complete(lent: &mut Tables, guest: u64, id: u32, time: u64) -> Reply {
     play(lent, |state| state.complete(guest, id, time))
 }
 
-pub fn tick(lent: &mut Tables, time: u64) -> Answer {
+pub fn tick(lent: &mut Tables, time: u64) -> Reply {
     play(lent, |state| state.tick(time))
 }
 
 /// Judges the tables, plays one event on the state they hold and writes
 /// the state back if the event was accepted.
-fn play(lent: &mut Tables, event: impl FnOnce(&mut State) -> Answer) -> Answer {
+fn play(lent: &mut Tables, event: impl FnOnce(&mut State) -> Answer) -> Reply {
     if let Some(number) = table_refusal(&lent.view()) {
-        return Answer::Refused(number);
+        return Reply::refused(number);
     }
     let mut state = read(&lent.view());
     let answer = event(&mut state);
-    if !matches!(answer, Answer::Refused(_)) {
-        write_back(&state, lent);
+    if let Answer::Refused(number) = answer {
+        return Reply::refused(number);
     }
-    answer
+    write_back(&state, lent);
+    let wake = wake(&state);
+    Reply { answer, wake }
 }
 
 /// 2, 3. Without guests, depth and capacity in their ranges the lengths

@@ -4,6 +4,7 @@
 //! - `tables`:  the lent tables of numbers and their records
 //! - `sound`:   the test of soundness, rule by rule
 //! - `rules`:   the events, the adjustment, the stamping, the choice, the drop
+//! - `wake`:    when a tick alone would next send something
 //! - `calls`:   the library calls on lent tables
 //! - `trace`:   the trace and the program that prints it
 //! - `sheet`:   the sale-day sheet of a trace
@@ -19,9 +20,11 @@ pub mod sheet;
 pub mod sound;
 pub mod tables;
 pub mod trace;
+pub mod wake;
 
-pub use calls::{arrive, complete, open, tick};
+pub use calls::{arrive, complete, open, tick, Reply, NEVER};
 pub use numbers::{Settings, CEILING};
 pub use rules::{Answer, Phase, State};
 pub use sound::{first_broken, Rule};
 pub use tables::{Flight, Guest, Tables, Waiting};
+pub use wake::wake;

@@ -7,9 +7,18 @@ use second::numbers::SECOND;
 use second::sample::{sound_tables, spoil, Owned, Prng};
 use second::tables::*;
 use second::Answer::{Nothing, Refused};
-use second::{first_broken, open, CEILING};
+use second::{first_broken, Answer, Tables, CEILING, NEVER};
 
 const SETTINGS: [u64; 2 * SETTINGS_NUMBERS] = [100, 250, 1, 0, 0, 7];
+
+/// The answer to an opening, which never has a time to wake.
+fn open(depth: u64, guests: u64, capacity: u64, settings: &[u64], lent: &mut Tables) -> Answer {
+    let reply = second::open(depth, guests, capacity, settings, lent);
+    assert_eq!(reply.wake, None);
+    let number = if refused(reply.answer) { 0 } else { NEVER };
+    assert_eq!(reply.wake_number(), number);
+    reply.answer
+}
 
 /// Depth 2, two guests, capacity 3, and one place more in every table.
 fn room() -> Owned {

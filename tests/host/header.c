@@ -38,6 +38,7 @@ AT(sgq_answer, kind, 0);
 AT(sgq_answer, guest, 1);
 AT(sgq_answer, id, 2);
 AT(sgq_answer, refusal, 3);
+AT(sgq_answer, wake, 4);
 
 static void print_answer(unsigned event, sgq_answer answer)
 {

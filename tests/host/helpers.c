@@ -1,5 +1,5 @@
-/* The helpers of sgq.h where header.c does not come: tables of no records, counts taken from arrays, free places and
- * waiting counts. C99 and C++ alike; prints a line for each thing that is not as it should be. */
+/* What header.c does not try of sgq.h: tables of no records, counts taken from arrays, free places and waiting counts,
+ * and when to wake. C99 and C++ alike; prints a line for each thing that is not as it should be. */
 #include "sgq.h"
 
 #include <inttypes.h>
@@ -24,6 +24,7 @@ static void refused(const char *what, sgq_answer answer, uint64_t expected)
 {
     same(what, answer.kind, SGQ_REFUSED);
     same(what, answer.refusal, expected);
+    same(what, answer.wake, 0);
 }
 
 /* Tables of no records, and no settings: NULL is as good as any pointer. */
@@ -51,7 +52,9 @@ static void counts(void)
     static const sgq_tables lent = SGQ_TABLES(gate, guests, waiting, flight);
     static const uint64_t from[] = {0, 1, 1, 0, 1};
 
-    same("open", sgq_tables_open_all(&lent, settings, SGQ_COUNT(settings)).kind, SGQ_NOTHING);
+    const sgq_answer opened = sgq_tables_open_all(&lent, settings, SGQ_COUNT(settings));
+    same("open", opened.kind, SGQ_NOTHING);
+    same("wake after opening", opened.wake, SGQ_NEVER);
     same("depth", gate.depth, DEPTH);
     same("guests", gate.guests, GUESTS);
     same("capacity", gate.capacity, CAPACITY);
@@ -69,6 +72,34 @@ static void counts(void)
     refused("a sixth", sgq_tables_arrive(&lent, 0, 6, 0), SGQ_REFUSED_WAITING_FULL);
 }
 
+/* Two requests of a limited guest wait at an array with a place free: a tick before the time to wake sends nothing and
+ * says the same, and a tick at it sends one. A refused tick carries nothing. */
+static void wakes(void)
+{
+    static const sgq_settings settings[] = {{0, 10, 1}};
+    static const uint64_t spacing = UINT64_C(100000000);
+    static sgq_gate gate;
+    static sgq_guest guests[1];
+    static sgq_request waiting[CAPACITY];
+    static sgq_flight flight[DEPTH];
+    static const sgq_tables lent = SGQ_TABLES(gate, guests, waiting, flight);
+
+    same("open", sgq_tables_open_all(&lent, settings, SGQ_COUNT(settings)).kind, SGQ_NOTHING);
+    same("nothing waits", sgq_tables_arrive(&lent, 0, 1, 0).wake, SGQ_NEVER);
+    same("the second waits", sgq_tables_arrive(&lent, 0, 2, 0).wake, spacing);
+    same("the third too", sgq_tables_arrive(&lent, 0, 3, 0).wake, spacing);
+    const sgq_answer early = sgq_tables_tick(&lent, spacing - 1);
+    same("a tick before", early.kind, SGQ_NOTHING);
+    same("what it says", early.wake, spacing);
+    refused("a tick that is late", sgq_tables_tick(&lent, 0), SGQ_REFUSED_TIME_BEFORE_LAST);
+    const sgq_answer woken = sgq_tables_tick(&lent, spacing);
+    same("a tick at the time", woken.kind, SGQ_SENT_BY_WEIGHT);
+    same("no place is free", woken.wake, SGQ_NEVER);
+    same("a place is free", sgq_tables_complete(&lent, 0, 1, spacing).wake, 2 * spacing);
+    same("now", sgq_tables_complete(&lent, 0, 2, 3 * spacing).kind, SGQ_SENT_BY_WEIGHT);
+    same("never is all bits one", ~SGQ_NEVER, 0);
+}
+
 int main(void)
 {
     char version[32];
@@ -76,5 +107,6 @@ int main(void)
     same("version", (uint64_t)strcmp(version, SGQ_VERSION), 0);
     no_records();
     counts();
+    wakes();
     return wrong;
 }

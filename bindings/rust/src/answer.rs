@@ -3,7 +3,7 @@
 use crate::raw;
 use std::fmt;
 
-/// What an accepted event led to. The compiler warns where it is thrown away:
+/// What an accepted event led to, and when to tick. The compiler warns where it is thrown away:
 ///
 /// ```compile_fail
 /// #![deny(unused_must_use)]
@@ -20,6 +20,19 @@ use std::fmt;
 ///     Ok(())
 /// }
 /// ```
+#[must_use = "an answer may name a request that now goes to the array"]
+#[derive(Clone, Copy, Debug, PartialEq, Eq, Hash)]
+pub struct Outcome {
+    /// What goes to the array now.
+    pub answer: Answer,
+    /// When to tick. Document 02, K2: "the earliest time, now or later, at which a tick alone would send something", or
+    /// none "when no place is free or nothing waits". It is judged after the event: what the answer sends does not wait
+    /// any more. Where it is the event's own time, a tick at once sends another request. It stands until the next
+    /// accepted event; a refused one carries nothing, and what was said last still stands.
+    pub wake: Option<u64>,
+}
+
+/// Whether an accepted event sends a request, and which.
 #[must_use = "an answer may name a request that now goes to the array"]
 #[derive(Clone, Copy, Debug, PartialEq, Eq, Hash)]
 pub enum Answer {
@@ -151,14 +164,28 @@ impl fmt::Display for Answer {
     }
 }
 
-/// The library's answer by name.
-pub(crate) fn named(answer: raw::Answer) -> Result<Answer, Refusal> {
-    match answer.kind {
-        raw::NOTHING => Ok(Answer::Nothing),
-        raw::SENT_BY_RESERVATION => Ok(sent(Phase::Reservation, answer)),
-        raw::SENT_BY_WEIGHT => Ok(sent(Phase::Weight, answer)),
-        _ => Err(Refusal::of(answer.refusal).expect("library and wrapper are of one version")),
+impl fmt::Display for Outcome {
+    fn fmt(&self, f: &mut fmt::Formatter<'_>) -> fmt::Result {
+        match self.wake {
+            Some(time) => write!(f, "{}, wake at {time}", self.answer),
+            None => write!(f, "{}, no time to wake", self.answer),
+        }
     }
+}
+
+/// The library's answer by name.
+pub(crate) fn named(given: raw::Answer) -> Result<Outcome, Refusal> {
+    let answer = match given.kind {
+        raw::NOTHING => Answer::Nothing,
+        raw::SENT_BY_RESERVATION => sent(Phase::Reservation, given),
+        raw::SENT_BY_WEIGHT => sent(Phase::Weight, given),
+        _ => {
+            let refusal = Refusal::of(given.refusal);
+            return Err(refusal.expect("library and wrapper are of one version"));
+        }
+    };
+    let wake = (given.wake != raw::NEVER).then_some(given.wake);
+    Ok(Outcome { answer, wake })
 }
 
 fn sent(phase: Phase, answer: raw::Answer) -> Answer {

@@ -1,6 +1,6 @@
 //! A gate that owns its tables.
 
-use crate::answer::{named, Answer, Refusal};
+use crate::answer::{named, Outcome, Refusal};
 use crate::raw::{self, Flight, Guest, Numbers, Request, Settings};
 use crate::{MOST_CAPACITY, MOST_DEPTH};
 
@@ -14,7 +14,8 @@ pub struct Gate {
 }
 
 impl Gate {
-    /// Opens a gate for these guests, numbered from 0: `depth` places at the array, `capacity` waiting places.
+    /// Opens a gate for these guests, numbered from 0: `depth` places at the array, `capacity` waiting places. Nothing
+    /// waits, so there is no time to wake.
     ///
     /// # Errors
     ///
@@ -35,7 +36,7 @@ impl Gate {
         depth: u64,
         capacity: u64,
         settings: &[Settings],
-    ) -> Result<Answer, Refusal> {
+    ) -> Result<Outcome, Refusal> {
         let count = settings.len() as u64;
         let lent = self.lend();
         // SAFETY: see `lend`; the settings are rows of numbers too.
@@ -64,7 +65,7 @@ impl Gate {
     /// Refusals 4 to 9 of document 01, the first that holds in this order: [`Refusal::UnknownGuest`],
     /// [`Refusal::TimeAboveCeiling`], [`Refusal::TimeBeforeLast`], [`Refusal::IdInUse`], [`Refusal::WaitingFull`],
     /// [`Refusal::TagAboveCeiling`]. The gate is then as it was.
-    pub fn arrive(&mut self, guest: u64, id: u32, time: u64) -> Result<Answer, Refusal> {
+    pub fn arrive(&mut self, guest: u64, id: u32, time: u64) -> Result<Outcome, Refusal> {
         let lent = self.lend();
         // SAFETY: see `lend`.
         named(unsafe {
@@ -89,7 +90,7 @@ impl Gate {
     ///
     /// The first that holds of [`Refusal::UnknownGuest`], [`Refusal::TimeAboveCeiling`], [`Refusal::TimeBeforeLast`],
     /// [`Refusal::NotInFlight`]. The gate is then as it was.
-    pub fn complete(&mut self, guest: u64, id: u32, time: u64) -> Result<Answer, Refusal> {
+    pub fn complete(&mut self, guest: u64, id: u32, time: u64) -> Result<Outcome, Refusal> {
         let lent = self.lend();
         // SAFETY: see `lend`.
         named(unsafe {
@@ -108,13 +109,13 @@ impl Gate {
         })
     }
 
-    /// "A tick only sets the time and makes the choice." With places free, tick again after each send until nothing is
-    /// sent, and then when the next waiting reservation or limit tag is reached.
+    /// "A tick only sets the time and makes the choice." Tick once the clock has reached [`Outcome::wake`] of the last
+    /// accepted event, at once where it has. A tick before that sends nothing; from then on it sends a request.
     ///
     /// # Errors
     ///
     /// The first that holds of [`Refusal::TimeAboveCeiling`], [`Refusal::TimeBeforeLast`]. The gate is then as it was.
-    pub fn tick(&mut self, time: u64) -> Result<Answer, Refusal> {
+    pub fn tick(&mut self, time: u64) -> Result<Outcome, Refusal> {
         let lent = self.lend();
         // SAFETY: see `lend`.
         named(unsafe {

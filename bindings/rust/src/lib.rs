@@ -1,25 +1,53 @@
 //! The proved disc gate, for a host in Rust.
 //!
 //! The gate holds the requests of 1 to 64 guests for one disc array and decides, after each event, whether one goes to
-//! the array: at most one. [`Gate`] owns the tables that the library is lent; its methods are the library's calls. The
-//! rules are document 01's; words in quotes are that document's own.
+//! the array: at most one. Each answer also says when to tick. [`Gate`] owns the tables that the library is lent; its
+//! methods are the library's calls. The rules are document 01's; words in quotes are that document's own, where no other
+//! is named.
 //!
 //! ```
-//! use sgq::{Answer, Gate, Phase, Refusal, Settings};
+//! use sgq::{Answer, Gate, Outcome, Phase, Refusal, Settings};
 //!
 //! # fn main() -> Result<(), Refusal> {
 //! const MS: u64 = 1_000_000;
-//! let by = |phase, id| Answer::Sent { phase, guest: 0, id };
+//! let sent = |phase, id| Answer::Sent { phase, guest: 0, id };
+//! let by = |phase, id, wake| Outcome { answer: sent(phase, id), wake };
+//! let nothing = |wake| Outcome { answer: Answer::Nothing, wake };
 //!
 //! let guests = [Settings { reservation: 100, limit: 250, shares: 1 }];
 //! let mut gate = Gate::open(4, 8, &guests)?;
-//! assert_eq!(gate.arrive(0, 1, 0)?, by(Phase::Reservation, 1));
-//! assert_eq!(gate.arrive(0, 2, 0)?, Answer::Nothing);
-//! assert_eq!(gate.tick(4 * MS)?, by(Phase::Weight, 2));
-//! assert_eq!(gate.complete(0, 1, 10 * MS)?, Answer::Nothing);
+//! assert_eq!(gate.arrive(0, 1, 0)?, by(Phase::Reservation, 1, None));
+//! assert_eq!(gate.arrive(0, 2, 0)?, nothing(Some(4 * MS)));
+//! assert_eq!(gate.tick(4 * MS)?, by(Phase::Weight, 2, None));
+//! assert_eq!(gate.complete(0, 1, 10 * MS)?, nothing(None));
 //! assert_eq!(gate.complete(0, 1, 10 * MS), Err(Refusal::NotInFlight));
 //! # Ok(())
 //! # }
+//! ```
+//!
+//! A host's loop around it, where `send` hands a request to the array and `now` reads the clock. It gives the time at
+//! which to tick next, if nothing arrives or completes before:
+//!
+//! ```
+//! use sgq::{Answer, Gate, Outcome, Refusal};
+//!
+//! fn follow(
+//!     gate: &mut Gate,
+//!     mut outcome: Outcome,
+//!     mut send: impl FnMut(u64, u32),
+//!     now: impl Fn() -> u64,
+//! ) -> Result<Option<u64>, Refusal> {
+//!     loop {
+//!         if let Answer::Sent { guest, id, .. } = outcome.answer {
+//!             send(guest, id);
+//!         }
+//!         let time = now();
+//!         match outcome.wake {
+//!             Some(wake) if wake <= time => outcome = gate.tick(time)?,
+//!             later_or_none => return Ok(later_or_none),
+//!         }
+//!     }
+//! }
 //! ```
 //!
 //! # Linking
@@ -39,7 +67,7 @@ mod answer;
 mod gate;
 pub mod raw;
 
-pub use answer::{Answer, Phase, Refusal};
+pub use answer::{Answer, Outcome, Phase, Refusal};
 pub use gate::Gate;
 pub use raw::{Flight, Guest, Request, Settings};
 

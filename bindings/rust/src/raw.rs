@@ -15,7 +15,7 @@ pub const REQUEST_NUMBERS: usize = 5;
 /// How many numbers a request in flight is.
 pub const FLIGHT_NUMBERS: usize = 2;
 /// How many numbers an answer is.
-pub const ANSWER_NUMBERS: usize = 4;
+pub const ANSWER_NUMBERS: usize = 5;
 
 // The records are the rows, with nothing between the numbers: these lines do not compile where that fails.
 const _: () = assert!(numbers_of::<Numbers>() == GATE_NUMBERS);
@@ -113,7 +113,10 @@ pub const SENT_BY_WEIGHT: u64 = 2;
 /// The kind of an answer: refused, and nothing has changed.
 pub const REFUSED: u64 = 3;
 
-/// What a call answers; [`crate::Answer`] and [`crate::Refusal`] have names for it.
+/// No time to wake, in an answer: all bits one, which is later than any time.
+pub const NEVER: u64 = u64::MAX;
+
+/// What a call answers; [`crate::Outcome`] and [`crate::Refusal`] have names for it.
 #[must_use = "an answer may name a request that now goes to the array"]
 #[repr(C)]
 #[derive(Clone, Copy, Debug, Default, PartialEq, Eq)]
@@ -126,6 +129,8 @@ pub struct Answer {
     pub id: u64,
     /// The refusal number, or 0.
     pub refusal: u64,
+    /// When to tick: a time, or [`NEVER`]; 0 in a refusal, where what was said last still stands.
+    pub wake: u64,
 }
 
 extern "C" {

@@ -1,7 +1,7 @@
 //! The names beside the numbers of the library, and the calls on tables that a `Gate` never lends.
 
 use sgq::raw::{self, FLIGHT_NUMBERS, GUEST_NUMBERS, REQUEST_NUMBERS};
-use sgq::{Answer, Flight, Gate, Guest, Phase, Refusal, Request, CEILING};
+use sgq::{Answer, Flight, Gate, Guest, Outcome, Phase, Refusal, Request, CEILING};
 
 #[test]
 fn refusals_by_number() {
@@ -33,7 +33,11 @@ fn answers_in_words() {
         "guest 3, id 17 sent by reservation"
     );
     assert_eq!(said(Phase::Weight), "guest 3, id 17 sent by weight");
-    assert_eq!(Answer::Nothing.to_string(), "nothing sent");
+    let answer = Answer::Nothing;
+    assert_eq!(answer.to_string(), "nothing sent");
+    let told = |wake| Outcome { answer, wake }.to_string();
+    assert_eq!(told(Some(5)), "nothing sent, wake at 5");
+    assert_eq!(told(None), "nothing sent, no time to wake");
 }
 
 #[test]
@@ -67,6 +71,7 @@ fn tick(gate: raw::Numbers, guests: usize, waiting: usize, flight: usize) -> raw
     }
 }
 
+/// A refusal carries no time to wake: the number is 0.
 fn refused(refusal: Refusal) -> raw::Answer {
     raw::Answer {
         kind: raw::REFUSED,
@@ -87,7 +92,11 @@ const SOUND: raw::Numbers = raw::Numbers {
 #[test]
 fn short_tables() {
     let (g, w, f) = (GUEST_NUMBERS, REQUEST_NUMBERS, FLIGHT_NUMBERS);
-    assert_eq!(tick(SOUND, g, w, f), raw::Answer::default());
+    let nothing_waits = raw::Answer {
+        wake: raw::NEVER,
+        ..raw::Answer::default()
+    };
+    assert_eq!(tick(SOUND, g, w, f), nothing_waits);
     for (guests, waiting, flight) in [(g - 1, w, f), (g, w - 1, f), (g, w, f - 1), (0, 0, 0)] {
         let answer = tick(SOUND, guests, waiting, flight);
         assert_eq!(answer, refused(Refusal::ShortTable));

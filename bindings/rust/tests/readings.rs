@@ -1,8 +1,8 @@
-//! Document 01's example and edge readings, and each refusal, through the wrapper.
+//! Document 01's example and edge readings, each refusal, and when to tick, through the wrapper.
 
 #![allow(clippy::unnecessary_wraps)] // what a call must give is compared as it is given
 
-use sgq::{Answer, Flight, Gate, Guest, Phase, Refusal, Settings};
+use sgq::{Answer, Flight, Gate, Guest, Outcome, Phase, Refusal, Settings};
 use sgq::{CEILING, MOST_CAPACITY, MOST_DEPTH, MOST_GUESTS, MOST_RATE};
 
 const MS: u64 = 1_000_000;
@@ -15,17 +15,31 @@ fn settings(reservation: u64, limit: u64, shares: u64) -> Settings {
     }
 }
 
-fn by_reservation(guest: u64, id: u32) -> Result<Answer, Refusal> {
+/// An outcome with no time to wake.
+fn never(answer: Answer) -> Result<Outcome, Refusal> {
+    Ok(Outcome { answer, wake: None })
+}
+
+fn by_reservation(guest: u64, id: u32) -> Result<Outcome, Refusal> {
     let phase = Phase::Reservation;
-    Ok(Answer::Sent { phase, guest, id })
+    never(Answer::Sent { phase, guest, id })
 }
 
-fn by_weight(guest: u64, id: u32) -> Result<Answer, Refusal> {
+fn by_weight(guest: u64, id: u32) -> Result<Outcome, Refusal> {
     let phase = Phase::Weight;
-    Ok(Answer::Sent { phase, guest, id })
+    never(Answer::Sent { phase, guest, id })
 }
 
-const NOTHING: Result<Answer, Refusal> = Ok(Answer::Nothing);
+const NOTHING: Result<Outcome, Refusal> = Ok(Outcome {
+    answer: Answer::Nothing,
+    wake: None,
+});
+
+/// The same outcome with a time to wake.
+fn until(time: u64, outcome: Result<Outcome, Refusal>) -> Result<Outcome, Refusal> {
+    let wake = Some(time);
+    outcome.map(|outcome| Outcome { wake, ..outcome })
+}
 
 fn open(depth: u64, capacity: u64, guests: &[Settings]) -> Gate {
     Gate::open(depth, capacity, guests).expect("good settings")
@@ -35,7 +49,7 @@ fn open(depth: u64, capacity: u64, guests: &[Settings]) -> Gate {
 fn refused(
     gate: &mut Gate,
     refusal: Refusal,
-    call: impl FnOnce(&mut Gate) -> Result<Answer, Refusal>,
+    call: impl FnOnce(&mut Gate) -> Result<Outcome, Refusal>,
 ) {
     let before = gate.clone();
     assert_eq!(call(gate), Err(refusal));
@@ -46,11 +60,11 @@ fn refused(
 fn example() {
     let mut gate = open(4, 8, &[settings(100, 250, 1)]);
     assert_eq!(gate.arrive(0, 1, 0), by_reservation(0, 1));
-    assert_eq!(gate.arrive(0, 2, 0), NOTHING);
-    assert_eq!(gate.arrive(0, 3, 0), NOTHING);
-    assert_eq!(gate.arrive(0, 4, 0), NOTHING);
-    assert_eq!(gate.tick(4 * MS), by_weight(0, 2));
-    assert_eq!(gate.tick(8 * MS), by_weight(0, 3));
+    assert_eq!(gate.arrive(0, 2, 0), until(4 * MS, NOTHING));
+    assert_eq!(gate.arrive(0, 3, 0), until(4 * MS, NOTHING));
+    assert_eq!(gate.arrive(0, 4, 0), until(4 * MS, NOTHING));
+    assert_eq!(gate.tick(4 * MS), until(8 * MS, by_weight(0, 2)));
+    assert_eq!(gate.tick(8 * MS), until(10 * MS, by_weight(0, 3)));
     assert_eq!(gate.tick(10 * MS), by_reservation(0, 4));
     refused(&mut gate, Refusal::TimeBeforeLast, |gate| gate.tick(9 * MS));
     assert_eq!(gate.complete(0, 1, 10 * MS), NOTHING);
@@ -183,11 +197,78 @@ fn what_a_gate_shows() {
     assert_eq!((gate.waiting(), gate.flight()), (&[][..], &[][..]));
     assert_eq!((gate.free_places(), gate.free_waiting()), (2, 3));
     assert_eq!(gate.arrive(0, 7, 5), by_weight(0, 7));
-    assert_eq!(gate.arrive(0, 8, 6), NOTHING);
+    assert_eq!(gate.arrive(0, 8, 6), until(1_000 * MS + 5, NOTHING));
     assert_eq!((gate.free_places(), gate.free_waiting()), (1, 2));
     assert_eq!((gate.flight_of(0), gate.waiting_of(0)), (1, 1));
     assert_eq!((gate.flight_of(1), gate.waiting_of(1)), (0, 0));
     assert_eq!(gate.flight(), [Flight { guest: 0, id: 7 }]);
     assert_eq!((gate.waiting().len(), gate.waiting()[0].id), (1, 8));
     assert_eq!((gate.time(), gate.guests().len()), (6, 1));
+}
+
+/// A gate at which `count` requests of a guest with this limit arrive at 0; the first goes at once.
+fn limited(depth: u64, limit: u64, count: u32) -> Gate {
+    let mut gate = open(depth, 8, &[settings(0, limit, 1)]);
+    assert_eq!(gate.arrive(0, 1, 0), by_weight(0, 1));
+    for id in 2..=count {
+        let wake = (depth > 1).then_some(1_000 * MS / limit);
+        let answer = Answer::Nothing;
+        assert_eq!(gate.arrive(0, id, 0), Ok(Outcome { answer, wake }));
+    }
+    gate
+}
+
+#[test]
+fn woken_at_once() {
+    let mut gate = limited(4, 10, 3);
+    let late = 250 * MS;
+    assert_eq!(gate.tick(late), until(late, by_weight(0, 2)));
+    assert_eq!(gate.tick(late), by_weight(0, 3));
+}
+
+#[test]
+fn woken_after_a_completion() {
+    let mut gate = limited(1, 10, 3);
+    let place_free = until(100 * MS, NOTHING);
+    assert_eq!(gate.complete(0, 1, 5), place_free);
+    assert_eq!(gate.tick(100 * MS), by_weight(0, 2));
+    refused(&mut gate, Refusal::NotInFlight, |gate| {
+        gate.complete(0, 1, 100 * MS)
+    });
+}
+
+#[test]
+fn woken_at_the_ceiling() {
+    let mut gate = open(2, 2, &[settings(0, 1, 1)]);
+    let early = CEILING - 1_000 * MS;
+    assert_eq!(gate.arrive(0, 1, early), by_weight(0, 1));
+    assert_eq!(gate.arrive(0, 2, early), until(CEILING, NOTHING));
+    assert_eq!(gate.tick(CEILING), by_weight(0, 2));
+}
+
+/// A host that ticks only when it is woken: every tick sends, and a nanosecond before nothing would go.
+#[test]
+fn every_tick_sends() {
+    let mut gate = open(4, 8, &[settings(100, 250, 1), settings(0, 30, 9)]);
+    let mut wake = None;
+    for id in 0..4 {
+        for guest in [0, 1] {
+            wake = gate.arrive(guest, id, 0).expect("there is room").wake;
+        }
+    }
+    let mut ticks = 0;
+    while let Some(time) = wake {
+        if time > gate.time() {
+            let before = gate.clone().tick(time - 1);
+            assert_eq!(before, until(time, NOTHING));
+        }
+        let Outcome { answer, wake: next } = gate.tick(time).expect("a good time");
+        let Answer::Sent { guest, id, .. } = answer else {
+            panic!("nothing was sent at {time}");
+        };
+        wake = gate.complete(guest, id, time).expect("it is there").wake;
+        assert_eq!(wake, next, "one place more changes nothing");
+        ticks += 1;
+    }
+    assert_eq!((ticks, gate.waiting().len()), (6, 0));
 }

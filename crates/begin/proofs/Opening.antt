@@ -76,13 +76,13 @@ module _ (bs old gs ws fs : List ℕ) (d n c : ℕ) (h : headerOf bs ≡ Opened 
     unfolding handed
     opening-became =
         record {
-          tables = ap (λ (x : Seen). (x .0, x .2, x .3, x .4)) p ∙ ap (λ (x : Handed). (x .0 .gate, x .1, x .2, x .3)) is-fresh;
-          known = subst (λ (x : Seen). Known (x .0) (x .2) (x .3) (x .4)) (sym p) is-known;
+          tables = ap (λ (x : Seen). (x .0, x .3, x .4, x .5)) p ∙ ap (λ (x : Handed). (x .0 .gate, x .1, x .2, x .3)) is-fresh;
+          known = subst (λ (x : Seen). Known (x .0) (x .3) (x .4) (x .5)) (sym p) is-known;
         }
 
     -- and show it
     pub opening-shows : tableOf (r .gate) hs vs es ≡ fresh d c (settingsIn bs)
     opening-shows =
-        ap (λ (x : Seen). tableOf (x .0) (x .2) (x .3) (x .4)) p
+        ap (λ (x : Seen). tableOf (x .0) (x .3) (x .4) (x .5)) p
         ∙ opened-firm numbers numbers-lawful d n c ss gs ws fs is-taken .1
         ∙ ap (fresh d c) rows

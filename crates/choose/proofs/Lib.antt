@@ -3,3 +3,4 @@ pub mod Sends
 pub mod WeightSend
 pub mod Phases
 pub mod Returns
+pub mod Wakes

@@ -57,7 +57,7 @@ module _ (g : Gate) (gs ws fs : List ℕ) (k : Known g gs ws fs) where
       }
 
   -- an unlimited guest's limit tags are 0
-  limit-zero : (j : ℕ) → j < length (t .waiting) → limited (settingsOf (t .guests) (at (t .waiting) j)) ≡ false → (at (t .waiting) j) .ltag ≡ 0
+  pub limit-zero : (j : ℕ) → j < length (t .waiting) → limited (settingsOf (t .guests) (at (t .waiting) j)) ≡ false → (at (t .waiting) j) .ltag ≡ 0
   unfolding kept
   limit-zero j h e =
       let q = at (t .waiting) j in

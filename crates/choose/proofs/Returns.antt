@@ -6,27 +6,31 @@ use native.Mathlib.Omega.{arith}
 use lib.Dec.{leb}
 use lib.ListN.{length, getD}
 use Rattle.rules.specs.Tables.{Request, Table, settingsOf}
-use Rattle.rules.specs.Choice.{dueAt, due, open?}
+use Rattle.rules.specs.Choice.{Result, dueAt, due, open?}
 use Rattle.rules.specs.declared.Gate.{Gate}
-use Rattle.rules.specs.declared.Outcome.{Outcome}
+use Rattle.table.specs.declared.gates.Decision.{Decision}
 use Rattle.rules.specs.declared.Answer.the-variants.{Nothing, Sent}
 use Rattle.rules.specs.declared.Phase.the-variants.{Reservation, Weight}
 use Rattle.table.specs.Columns.{guestWide, waitingWide, RESERVATION, RNEXT, GUEST, RTAG}
-use Rattle.table.specs.View.{outcomeOf, guestsOf, tableOf, Known}
+use Rattle.table.specs.View.{decisionOf, guestsOf, tableOf, Known}
 use Rattle.moves.specs.Moves.{gone, joined, Named, spacingOf, nextDropped, tagsDropped}
 use Rattle.walks.specs.Walks.{Picks}
 use Rattle.moves.specs.declared.rows.Name.{Name}
 use Rattle.walks.specs.declared.Found.{Found}
 use Rattle.walks.specs.declared.Found.the-variants.{At, Nothing as NoPlace}
-use Rattle.table.specs.Does.{does, weightPhase, reservationPhase, sentGate, sending}
+use Rattle.table.specs.Does.{written, Leaves, weightPhase, reservationPhase, sentGate, sending}
 use Rattle.table.proofs.Facts.{facts}
-use Rattle.choose.proofs.Sends.{found-at, reservation-sent, weight-none, reservation-none}
+use Rattle.choose.proofs.Sends.{found-at, still, reservation-sent, weight-none, reservation-none}
 use Rattle.choose.proofs.WeightSend.{weight-sent}
 use Rattle.choose.proofs.Phases.{due-picks, open-picks, drop-asks}
 
 module _ (g : Gate) (gs ws fs : List ℕ) (k : Known g gs ws fs) where
   abbrev t : Table
   t = tableOf g gs ws fs
+
+  -- what a phase leaves, told by equals
+  again : (f : Table → Result) {x y : Decision × List ℕ × List ℕ × List ℕ} → x ≡ y → Leaves f g gs ws fs (y .0) (y .1) (y .2) (y .3) → Leaves f g gs ws fs (x .0) (x .1) (x .2) (x .3)
+  again f e l = subst (λ (z : Decision × List ℕ × List ℕ × List ℕ). Leaves f g gs ws fs (z .0) (z .1) (z .2) (z .3)) (sym e) l
 
   -- an id that waits has 32 bits
   pub narrow-id : (place : ℕ) → place < g .waiting → (r : Name) → Named place ws r → r .id < 4294967296
@@ -42,16 +46,18 @@ module _ (g : Gate) (gs ws fs : List ℕ) (k : Known g gs ws fs) where
     pub due-here : (x : Found) (place : ℕ) → Due x → x ≡ At place → place < g .waiting
     due-here x place p e = found-at g gs ws fs k x place (due-picks g gs ws fs k x p) e .1
 
-    pub reservation-returns : (x : Found) (place : ℕ) → Due x → x ≡ At place → (n : Name) (vs es : List ℕ) (o : Outcome)
-        → vs ≡ gone place (g .waiting) ws → es ≡ joined place (g .flight) ws fs → Named place ws n → o ≡ sending Reservation (n .guest) (n .id) g
-        → (o, gs, vs, es) ≡ does reservationPhase g gs ws fs
-    reservation-returns x place p e n vs es o ew ef en eo =
+    pub reservation-returns : (x : Found) (place : ℕ) → Due x → x ≡ At place → (n : Name) (vs es : List ℕ) (d : Decision)
+        → vs ≡ gone place (g .waiting) ws → es ≡ joined place (g .flight) ws fs → Named place ws n → d ≡ sending Reservation (n .guest) (n .id) g
+        → Leaves reservationPhase g gs ws fs d gs vs es
+    reservation-returns x place p e n vs es d ew ef en ed =
         let f = found-at g gs ws fs k x place (due-picks g gs ws fs k x p) e in
-        (λ i. ((eo ∙ (λ j. outcomeOf (sentGate g) (Sent Reservation (en .0 j) (en .1 j)))) i, gs, ew i, ef i))
-        ∙ reservation-sent g gs ws fs k free place (f .1) (f .0)
+        again reservationPhase (λ i. ((ed ∙ (λ j. decisionOf (sentGate g) (Sent Reservation (en .0 j) (en .1 j)))) i, gs, ew i, ef i))
+        (reservation-sent g gs ws fs k free place (f .1) (f .0))
 
-    pub none-due : (x : Found) → Due x → x ≡ NoPlace → does weightPhase g gs ws fs ≡ does reservationPhase g gs ws fs
-    none-due x p e = reservation-none g gs ws fs k (subst (λ (y : Found). Picks (due t) Request.rtag (t .waiting) y) e (due-picks g gs ws fs k x p))
+    pub none-due : (x : Found) → Due x → x ≡ NoPlace → {d : Decision} {hs vs es : List ℕ} → Leaves weightPhase g gs ws fs d hs vs es → Leaves reservationPhase g gs ws fs d hs vs es
+    none-due x p e l =
+        let r = reservation-none g gs ws fs k (subst (λ (y : Found). Picks (due t) Request.rtag (t .waiting) y) e (due-picks g gs ws fs k x p)) in
+        record { shows = l .shows ∙ ap (λ (y : Result). written gs ws fs (y .table)) r; answers = l .answers ∙ ap Result.answer r }
 
     -- THE WEIGHT PHASE
 
@@ -72,19 +78,21 @@ module _ (g : Gate) (gs ws fs : List ℕ) (k : Known g gs ws fs) where
         let f = found-at g gs ws fs k x place (open-picks g gs ws fs k x p) e in
         subst (λ (y : ℕ). Asks y vs) (sym (en .0)) (subst (Asks (getD ws (place * waitingWide + GUEST) 0)) (sym ew) (drop-asks g gs ws fs k free place (f .1) (f .0)))
 
-    pub weight-returns : (x : Found) (place : ℕ) → Open x → x ≡ At place → (n : Name) (hs vs us es : List ℕ) (o : Outcome)
+    pub weight-returns : (x : Found) (place : ℕ) → Open x → x ≡ At place → (n : Name) (hs vs us es : List ℕ) (d : Decision)
         → vs ≡ gone place (g .waiting) ws → es ≡ joined place (g .flight) ws fs → Named place ws n
         → hs ≡ nextDropped (n .guest) gs → us ≡ tagsDropped (n .guest) (spacingOf (n .guest) gs) vs (g .waiting - 1)
-        → o ≡ sending Weight (n .guest) (n .id) g → (o, hs, us, es) ≡ does weightPhase g gs ws fs
-    weight-returns x place p e n hs vs us es o ew ef en eh eu eo =
+        → d ≡ sending Weight (n .guest) (n .id) g → Leaves weightPhase g gs ws fs d hs us es
+    weight-returns x place p e n hs vs us es d ew ef en eh eu ed =
         let f = found-at g gs ws fs k x place (open-picks g gs ws fs k x p) e in
+        again weightPhase
         (λ i. (
-          (eo ∙ (λ j. outcomeOf (sentGate g) (Sent Weight (en .0 j) (en .1 j)))) i,
+          (ed ∙ (λ j. decisionOf (sentGate g) (Sent Weight (en .0 j) (en .1 j)))) i,
           (eh ∙ ap (λ (m : ℕ). nextDropped m gs) (en .0)) i,
           (eu ∙ (λ j. tagsDropped (en .0 j) (spacingOf (en .0 j) gs) (ew j) (g .waiting - 1))) i,
           ef i,
         ))
-        ∙ weight-sent g gs ws fs k free place (f .1) (f .0)
+        (weight-sent g gs ws fs k free place (f .1) (f .0))
 
-    pub none-open : (x : Found) → Open x → x ≡ NoPlace → (outcomeOf g Nothing, gs, ws, fs) ≡ does weightPhase g gs ws fs
-    none-open x p e = weight-none g gs ws fs k (subst (λ (y : Found). Picks (open? t) Request.stag (t .waiting) y) e (open-picks g gs ws fs k x p))
+    pub none-open : (x : Found) → Open x → x ≡ NoPlace → (d : Decision) → d ≡ decisionOf g Nothing → Leaves weightPhase g gs ws fs d gs ws fs
+    none-open x p e d ed =
+        again weightPhase (λ i. (ed i, gs, ws, fs)) (still g gs ws fs k {f = weightPhase} (weight-none g gs ws fs k (subst (λ (y : Found). Picks (open? t) Request.stag (t .waiting) y) e (open-picks g gs ws fs k x p))))

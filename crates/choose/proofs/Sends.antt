@@ -1,59 +1,48 @@
--- A send by reservation over the lent numbers is the one of the definitions; and what the choice leaves where nothing is sent. Assumes nothing.
+-- A send by reservation over the lent numbers is the one of the definitions; and what a phase leaves where nothing is sent. Assumes nothing.
 use Prim.Native.Nat.{ℕ, _+_, _-_, _*_, _≤_, _<_}
 use mathlib.Core.Path.{_≡_, refl, sym, ap, _∙_}
 use mathlib.Core.Bool.{Bool}
 use mathlib.Core.List.{List, [], _∷_, _++_}
 use native.Mathlib.Omega.{arith}
 use lib.ListN.{length, getD, length-append}
-use borrow.Author.Tests.{lt-ltb, le-ltb}
 use Rattle.lists.specs.Tab.{removeAt, length-removeAt}
 use Rattle.lists.specs.Rows.{overRows}
 use Rattle.lists.specs.RowsLaws.{length-rows, over-same, all-used}
 use Rattle.rules.specs.Tables.{Request, Table, name}
-use Rattle.rules.specs.Choice.{due, open?, sending, byReservation, byWeight, room, choice}
+use Rattle.rules.specs.Choice.{Result, due, open?, sending, byReservation, byWeight}
 use Rattle.rules.specs.Chosen.{at}
 use Rattle.rules.specs.declared.Gate.{Gate}
 use Rattle.rules.specs.declared.Answer.the-variants.{Nothing, Sent}
 use Rattle.rules.specs.declared.Phase.the-variants.{Reservation}
 use Rattle.table.specs.Columns.{waitingWide, GUEST, ID}
-use Rattle.table.specs.View.{gateAt, outcomeOf, guestForm, requestForm, flightForm, tableOf, handed, Known}
+use Rattle.table.specs.View.{gateAt, decisionOf, guestForm, requestForm, flightForm, tableOf, Known}
 use Rattle.table.specs.ViewLaws.{guest-exact}
 use Rattle.moves.specs.Moves.{gone, joined}
 use Rattle.moves.specs.MovesLaws.{gone-is, joined-is}
 use Rattle.walks.specs.Walks.{Picks}
 use Rattle.walks.specs.declared.Found.{Found}
 use Rattle.walks.specs.declared.Found.the-variants.{At, Nothing as NoPlace}
-use Rattle.table.specs.Does.{written, does, weightPhase, reservationPhase, sentGate}
-use Rattle.table.proofs.Lens.{known-written, handed-written}
+use Rattle.table.specs.Does.{written, Leaves, weightPhase, reservationPhase, sentGate}
+use Rattle.table.proofs.Lens.{known-written}
 use Rattle.table.proofs.Facts.{facts, row-is}
 
 module _ (g : Gate) (gs ws fs : List ℕ) (k : Known g gs ws fs) where
   abbrev t : Table
   t = tableOf g gs ws fs
 
-  -- nothing is sent: all is handed back as it stood
-  pub nothing-same : (outcomeOf g Nothing, gs, ws, fs) ≡ handed gs ws fs (record { table = t; answer = Nothing })
-  nothing-same = handed-written gs ws fs g gs ws fs (record { table = t; answer = Nothing }) Nothing (known-written g gs ws fs k) refl
-
-  -- no place is free
-  pub choice-full : g .setup .depth ≤ g .flight → (outcomeOf g Nothing, gs, ws, fs) ≡ does choice g gs ws fs
-  unfolding choice room
-  choice-full h = rw (length-rows flightForm fs (g .flight), le-ltb (g .flight) (g .setup .depth) h) nothing-same
-
-  -- a place is free
-  pub choice-room : g .flight < g .setup .depth → does reservationPhase g gs ws fs ≡ does choice g gs ws fs
-  unfolding choice room
-  choice-room h = rw (length-rows flightForm fs (g .flight), lt-ltb (g .flight) (g .setup .depth) h)
+  -- nothing is sent: all stands as it stood
+  pub still : {f : Table → Result} → f t ≡ record { table = t; answer = Nothing } → Leaves f g gs ws fs (decisionOf g Nothing) gs ws fs
+  still e = record { shows = rw e (known-written g gs ws fs k); answers = rw e }
 
   -- none is due
-  pub reservation-none : Picks (due t) Request.rtag (t .waiting) NoPlace → does weightPhase g gs ws fs ≡ does reservationPhase g gs ws fs
+  pub reservation-none : Picks (due t) Request.rtag (t .waiting) NoPlace → weightPhase t ≡ reservationPhase t
   unfolding byReservation
   reservation-none p = rw (p .pick)
 
   -- none is open
-  pub weight-none : Picks (open? t) Request.stag (t .waiting) NoPlace → (outcomeOf g Nothing, gs, ws, fs) ≡ does weightPhase g gs ws fs
+  pub weight-none : Picks (open? t) Request.stag (t .waiting) NoPlace → weightPhase t ≡ record { table = t; answer = Nothing }
   unfolding byWeight
-  weight-none p = rw (p .pick) nothing-same
+  weight-none p = rw (p .pick)
 
   -- a place that a walk found is one of those that wait
   pub found-at : {ok : Request → Bool} {tag : Request → ℕ} (f : Found) (place : ℕ) → Picks ok tag (t .waiting) f → f ≡ At place → Picks ok tag (t .waiting) (At place) × (place < g .waiting)
@@ -100,10 +89,6 @@ module _ (g : Gate) (gs ws fs : List ℕ) (k : Known g gs ws fs) where
 
     -- a send by reservation
     pub reservation-sent : Picks (due t) Request.rtag (t .waiting) (At place)
-        → (outcomeOf (sentGate g) (Sent Reservation goesGuest goesId), gs, gone place (g .waiting) ws, joined place (g .flight) ws fs) ≡ does reservationPhase g gs ws fs
+        → Leaves reservationPhase g gs ws fs (decisionOf (sentGate g) (Sent Reservation goesGuest goesId)) gs (gone place (g .waiting) ws) (joined place (g .flight) ws fs)
     unfolding byReservation
-    reservation-sent h =
-        rw (h .pick)
-        (handed-written gs ws fs (sentGate g) gs (gone place (g .waiting) ws) (joined place (g .flight) ws fs)
-        (record { table = sending t goes stay; answer = Sent Reservation (goes .guest) (goes .id) }) (Sent Reservation goesGuest goesId) sent-written
-        (λ i. Sent Reservation (sym guest-goes i) (sym id-goes i)))
+    reservation-sent h = record { shows = rw (h .pick) sent-written; answers = rw (h .pick) (λ i. Sent Reservation (sym guest-goes i) (sym id-goes i)) }

@@ -13,15 +13,14 @@ use Rattle.rules.specs.declared.Gate.{Gate}
 use Rattle.rules.specs.declared.Answer.the-variants.{Sent}
 use Rattle.rules.specs.declared.Phase.the-variants.{Weight}
 use Rattle.table.specs.Columns.{waitingWide}
-use Rattle.table.specs.View.{gateAt, outcomeOf, guestForm, requestForm, waitingOf, tableOf, Known}
+use Rattle.table.specs.View.{gateAt, decisionOf, guestForm, requestForm, waitingOf, tableOf, Known}
 use Rattle.table.specs.ViewLaws.{request-exact}
 use Rattle.moves.specs.Moves.{gone, joined, spacingOf, nextDropped, tagsDropped}
 use Rattle.moves.specs.MovesLaws.{gone-is}
 use Rattle.moves.specs.DropLaws.{dropped-is}
 use Rattle.walks.specs.Walks.{Picks}
 use Rattle.walks.specs.declared.Found.the-variants.{At}
-use Rattle.table.specs.Does.{written, does, weightPhase, sentGate}
-use Rattle.table.proofs.Lens.{handed-written}
+use Rattle.table.specs.Does.{written, Leaves, weightPhase, sentGate}
 use Rattle.table.proofs.Facts.{facts}
 use Rattle.choose.proofs.Sends.{goes, stay, goesGuest, goesId, guest-goes, id-goes, length-stay, sent-written}
 
@@ -85,10 +84,10 @@ module _ (g : Gate) (gs ws fs : List ℕ) (k : Known g gs ws fs) (free : g .flig
 
   -- a send by weight
   pub weight-sent : Picks (open? t) Request.stag (t .waiting) (At place)
-      → (outcomeOf (sentGate g) (Sent Weight n (goesId g gs ws fs k free place here)), nextDropped n gs, tagsDropped n (spacingOf n gs) left (g .waiting - 1), joined place (g .flight) ws fs) ≡ does weightPhase g gs ws fs
+      → Leaves weightPhase g gs ws fs (decisionOf (sentGate g) (Sent Weight n (goesId g gs ws fs k free place here))) (nextDropped n gs) (tagsDropped n (spacingOf n gs) left (g .waiting - 1)) (joined place (g .flight) ws fs)
   unfolding byWeight
   weight-sent h =
-      rw (h .pick)
-      (handed-written gs ws fs (sentGate g) (nextDropped n gs) (tagsDropped n (spacingOf n gs) left (g .waiting - 1)) (joined place (g .flight) ws fs)
-      (record { table = dropped q (sending t q v); answer = Sent Weight (q .guest) (q .id) }) (Sent Weight n (goesId g gs ws fs k free place here)) weight-written
-      (λ i. Sent Weight (sym (guest-goes g gs ws fs k free place here) i) (sym (id-goes g gs ws fs k free place here) i)))
+      record {
+        shows = rw (h .pick) weight-written;
+        answers = rw (h .pick) (λ i. Sent Weight (sym (guest-goes g gs ws fs k free place here) i) (sym (id-goes g gs ws fs k free place here) i));
+      }

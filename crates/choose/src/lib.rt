@@ -1,19 +1,23 @@
-// The choice on a table that is known to be sound: one walk over the waiting rows finds what each phase would send. For this repository's own
-// crates, and no public call.
+// The choice on a table that is known to be sound: one walk over the waiting rows finds what each phase would send. Where a place is still free
+// after it and something waits, one more finds when to wake the gate. For this repository's own crates, and no public call.
 use rules::Answer;
 use rules::Gate;
 use rules::Outcome;
 use rules::Phase;
+use rules::Wake;
 use table::gates;
+use table::gates::Decision;
 use walks::Found;
 ghost use mathlib.Core.Path.{_≡_};
-ghost use Prim.Native.Nat.{_<_};
+ghost use mathlib.Core.List.{List};
+ghost use Prim.Native.Nat.{ℕ, _<_};
 ghost use lib.Dec.{leb};
 ghost use Rattle.rules.specs.Tables.{Request};
 ghost use Rattle.rules.specs.Choice.{choice};
-ghost use Rattle.table.specs.View.{waitingOf, Known};
+ghost use Rattle.rules.specs.Waking.{wake as wakeAt};
+ghost use Rattle.table.specs.View.{waitingOf, tableOf, Known};
 ghost use Rattle.walks.specs.Walks.{Picks};
-ghost use Rattle.table.specs.Does.{does, weightPhase, reservationPhase};
+ghost use Rattle.table.specs.Does.{does, Leaves, weightPhase, reservationPhase};
 
 // The weight phase: the open request with the smallest share tag, which the walk found, goes, and its guest's reservation tags drop.
 fn by_weight(
@@ -22,11 +26,11 @@ fn by_weight(
     waiting: &mut [u64],
     flight: &mut [u64],
     found: Found,
-) -> Outcome
+) -> Decision
     requires { ⌜ Known gate (now guests) (now waiting) (now flight) ⌝ }
     requires { ⌜ gate .flight < gate .setup .depth ⌝ }
     requires { ⌜ Picks (λ q. leb (q .ltag) (gate .time)) Request.stag (waitingOf (now waiting) (gate .waiting)) found ⌝ }
-    ensures { λ r. ⌜ (r, now (guests .exit), now (waiting .exit), now (flight .exit)) ≡ does weightPhase gate (now (guests .entry)) (now (waiting .entry)) (now (flight .entry)) ⌝ }
+    ensures { λ r. ⌜ Leaves weightPhase gate (now (guests .entry)) (now (waiting .entry)) (now (flight .entry)) r (now (guests .exit)) (now (waiting .exit)) (now (flight .exit)) ⌝ }
 {
     let count = gate.waiting as usize;
     let flying = gate.flight as usize;
@@ -38,7 +42,7 @@ fn by_weight(
             moves::rows::drop_tags(guests, waiting, count - 1, guest);
             gates::sent(gate, Phase::Weight, guest, id)
         }
-        Found::Nothing => gates::answered(gate, Answer::Nothing),
+        Found::Nothing => gates::decided(gate, Answer::Nothing),
     }
 }
 
@@ -48,10 +52,10 @@ fn by_reservation(
     guests: &mut [u64],
     waiting: &mut [u64],
     flight: &mut [u64],
-) -> Outcome
+) -> Decision
     requires { ⌜ Known gate (now guests) (now waiting) (now flight) ⌝ }
     requires { ⌜ gate .flight < gate .setup .depth ⌝ }
-    ensures { λ r. ⌜ (r, now (guests .exit), now (waiting .exit), now (flight .exit)) ≡ does reservationPhase gate (now (guests .entry)) (now (waiting .entry)) (now (flight .entry)) ⌝ }
+    ensures { λ r. ⌜ Leaves reservationPhase gate (now (guests .entry)) (now (waiting .entry)) (now (flight .entry)) r (now (guests .exit)) (now (waiting .exit)) (now (flight .exit)) ⌝ }
 {
     let known = gate.guests as usize;
     let count = gate.waiting as usize;
@@ -71,14 +75,35 @@ fn by_reservation(
     }
 }
 
-// The choice: nothing goes where no place is free.
+// When to wake the gate: never where no place is free or nothing waits. What is in flight makes no difference but by its count.
+fn wake_of(gate: Gate, guests: &[u64], waiting: &[u64]) -> Wake
+    requires { ⌜ ((fs : List ℕ) × Known gate (now guests) (now waiting) fs) ⌝ }
+    ensures { λ r. ⌜ ((fs : List ℕ) → r ≡ wakeAt (tableOf gate (now (guests .entry)) (now (waiting .entry)) fs)) ⌝ }
+{
+    if gate.setup.depth <= gate.flight {
+        return Wake::Never;
+    }
+    if gate.waiting == 0 {
+        return Wake::Never;
+    }
+    let known = gate.guests as usize;
+    let count = gate.waiting as usize;
+    let time = gate.time;
+    Wake::At(walks::wake::soonest(waiting, count, guests, known, time))
+}
+
+// The choice, and when to wake the gate that it leaves: nothing goes where no place is free, and no tick would change that.
 pub fn choose(gate: Gate, guests: &mut [u64], waiting: &mut [u64], flight: &mut [u64]) -> Outcome
     requires { ⌜ Known gate (now guests) (now waiting) (now flight) ⌝ }
     ensures { λ r. ⌜ (r, now (guests .exit), now (waiting .exit), now (flight .exit)) ≡ does choice gate (now (guests .entry)) (now (waiting .entry)) (now (flight .entry)) ⌝ }
 {
     if gate.flight < gate.setup.depth {
-        by_reservation(gate, guests, waiting, flight)
+        let decision = by_reservation(gate, guests, waiting, flight);
+        let after = decision.gate;
+        let answer = decision.answer;
+        let wake = wake_of(after, &guests[..], &waiting[..]);
+        gates::answered(after, answer, wake)
     } else {
-        gates::answered(gate, Answer::Nothing)
+        gates::answered(gate, Answer::Nothing, Wake::Never)
     }
 }

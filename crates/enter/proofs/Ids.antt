@@ -1,39 +1,18 @@
--- A test that every name in a table passes, passes after a step too: a step brings only the name that arrives. Assumes nothing.
+-- A test that every name in a table passes, passes after an event has entered too: it brings only the name that arrives. Assumes nothing.
 use Prim.Native.Nat.{ℕ}
-use mathlib.Core.Path.{_≡_, refl, ap, _∙_, subst}
+use mathlib.Core.Path.{_≡_, refl, ap, _∙_}
 use mathlib.Core.Bool.{Bool, true}
 use mathlib.Core.List.{List, [], _∷_, _++_, map}
 use Rattle.lists.specs.Words.{all, without}
-use Rattle.lists.specs.WordsLaws.{join, all-append, all-parts, all-mid, all-without, map-append}
+use Rattle.lists.specs.WordsLaws.{join, all-append, all-parts, all-without, map-append}
 use Rattle.rules.specs.Tables.{Request, Table, idle, name, same, names}
 use Rattle.rules.specs.declared.Flight.{Flight}
-use Rattle.rules.specs.Choice.{Pick, due, open?, sending, choice}
 use Rattle.rules.specs.Events.{calledBy, adjusted, stamped, stampedFor, placed, arriveAs, arrive, complete, wait, enter}
 use Rattle.rules.specs.declared.Event.{Event}
 use Rattle.rules.specs.declared.Event.the-variants.{Arrival, Completion, Tick}
-use Rattle.rules.proofs.Picks.{Between, Split, splits}
-use Rattle.rules.proofs.Cases.{choice-by}
-use Rattle.rules.proofs.Drops.{dropped-names}
 use Rattle.rules.proofs.ArriveSound.{adjusted-names}
 
 module _ (f : Flight → Bool) where
-  -- one goes from the middle of the waiting to the end of flight
-  sending-all : (t : Table) (p : Request) (v : List Request) → Between p v (t .waiting) → all f (names t) ≡ true → all f (names (sending t p v)) ≡ true
-  unfolding sending
-  sending-all t p v b h =
-      let c = all-parts f (map name (t .waiting)) (t .flight) h in
-      let w : all f (map name (b .before) ++ name p ∷ map name (b .after)) ≡ true = rw (b .stood, map-append name (b .before) (p ∷ b .after)) at (c .0) in
-      let m = all-mid f (map name (b .before)) (name p) (map name (b .after)) w in
-      let stay : all f (map name v) ≡ true = rw (b .stay, map-append name (b .before) (b .after)) (m .1) in
-      all-append f (map name v) (t .flight ++ (name p ∷ [])) stay (all-append f (t .flight) (name p ∷ []) (c .1) (join (m .0) refl))
-
-  -- the choice moves names only from the waiting to flight
-  pub choice-all : (t : Table) → all f (names t) ≡ true → all f (names ((choice t) .table)) ≡ true
-  choice-all t h =
-      choice-by (λ r. all f (names (r .table)) ≡ true) t h
-      (λ p v m e. sending-all t p v (subst (λ (k : Pick). Split k (t .waiting)) e (splits (due t) Request.rtag (t .waiting))) h)
-      (λ p v m n e. ap (all f) (dropped-names p (sending t p v)) ∙ sending-all t p v (subst (λ (k : Pick). Split k (t .waiting)) e (splits (open? t) Request.stag (t .waiting))) h)
-
   -- a request with a name that passes is placed
   placed-all : (now : ℕ) (q : Request) (t : Table) → f (name q) ≡ true → all f (names t) ≡ true → all f (names (placed now q t)) ≡ true
   unfolding placed

@@ -9,6 +9,7 @@ use Rattle.rules.specs.declared.Refusal.the-variants.{BadEvent}
 use Rattle.rules.specs.declared.Answer.the-variants.{Refused}
 use Rattle.rules.specs.declared.Outcome.{Outcome}
 use Rattle.table.specs.View.{tableOf, Handed, handed, Known}
+use Rattle.rules.specs.Waking.{unsaid}
 use Rattle.table.specs.Does.{does, refusing}
 use Rattle.table.proofs.Lens.{known-written, handed-written}
 use Rattle.step.proofs.After.{KnownAfter}
@@ -32,7 +33,7 @@ module _ (g : Gate) (gs ws fs : List ℕ) (x : Read) where
   unfolding answered
   bad-answers k p o q =
       let s : _≡_ {A = Handed} (o, gs, ws, fs) (refusing BadEvent g, gs, ws, fs) = λ i. (q i, gs, ws, fs) in (
-        s ∙ handed-written gs ws fs g gs ws fs (record { table = tableOf g gs ws fs; answer = Refused BadEvent }) (Refused BadEvent) (known-written g gs ws fs k) refl
+        s ∙ handed-written gs ws fs g gs ws fs (record { table = tableOf g gs ws fs; answer = Refused BadEvent }) (Refused BadEvent) unsaid (known-written g gs ws fs k) refl refl
             ∙ ap (λ (y : Read). does (λ t. answered t y) g gs ws fs) (sym p),
         subst KnownAfter (sym s) k,
       )

@@ -12,3 +12,4 @@ pub mod Opened
 pub mod Returns
 pub mod OpenReturns
 pub mod Example
+pub mod Wakes

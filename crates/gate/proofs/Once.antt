@@ -1,11 +1,11 @@
--- `once`: any two outcomes that the promise of a call admits are equal. What the paper shows of an answer is that answer alone, and the
--- promise fixes the rest number by number. Assumes nothing.
+-- `once`: any two outcomes that the promise of a call admits are equal. What the paper shows of an answer is that answer alone, so of a
+-- time to wake, and the promise fixes the rest number by number. Assumes nothing.
 use Prim.Native.Nat.{ℕ}
 use mathlib.Core.Path.{_≡_, refl, sym, ap, _∙_}
 use mathlib.Core.List.{List}
 use native.Mathlib.Omega.{arith}
-use lib.ListN.{getD}
-use Rattle.rules.specs.Answers.{letterOf, Printed, shown}
+use lib.ListN.{length, getD}
+use Rattle.rules.specs.Answers.{letterOf, Printed, shown, hour}
 use Rattle.rules.specs.declared.Event.{Event}
 use Rattle.rules.proofs.Judged.{numberOf-once}
 use Rattle.rules.specs.declared.Gate.{Gate}
@@ -13,6 +13,8 @@ use Rattle.rules.specs.declared.Phase.{Phase}
 use Rattle.rules.specs.declared.Phase.the-variants.{Reservation, Weight}
 use Rattle.rules.specs.declared.Answer.{Answer}
 use Rattle.rules.specs.declared.Answer.the-variants.{Nothing, Sent, Refused}
+use Rattle.rules.specs.declared.Wake.{Wake}
+use Rattle.rules.specs.declared.Wake.the-variants.{At, Never}
 use Rattle.table.specs.View.{outcomeOf}
 use Rattle.gate.specs.Promise.{Lending, numbers, HandedIn, SeenIn, seenIn, calledIn, openedIn, seen}
 
@@ -48,7 +50,14 @@ shown-once (Refused r) Nothing h = absurd (omega (arith, ap Printed.letter h))
 shown-once (Refused r) (Sent q k j) h = absurd (other-letter q .1 (sym (ap Printed.letter h)))
 shown-once (Refused r) (Refused s) h = ap Refused (numberOf-once r s (ap (value 0) h))
 
--- OUTCOMES
+-- TIMES TO WAKE
+
+-- two that are shown alike are equal
+pub hour-once : (w x : Wake) → hour w ≡ hour x → w ≡ x
+hour-once (At n) (At m) h = ap (λ (l : List ℕ). At (getD l 0 0)) h
+hour-once (At n) Never h = absurd (omega (arith, ap length h))
+hour-once Never (At m) h = absurd (omega (arith, ap length h))
+hour-once Never Never h = refl
 
 -- OUTCOMES
 
@@ -57,7 +66,8 @@ module _ (v : Lending) where
   pub seen-once-in : (h k : HandedIn v) → seenIn v h ≡ seenIn v k → h ≡ k
   seen-once-in h k e =
       let a = shown-once (h .0 .answer) (k .0 .answer) (ap (λ (s : SeenIn v). s .1) e) in
-      λ i. (outcomeOf (e i .0) (a i), e i .2, e i .3, e i .4)
+      let w = hour-once (h .0 .wake) (k .0 .wake) (ap (λ (s : SeenIn v). s .2) e) in
+      λ i. (outcomeOf (e i .0) (a i) (w i), e i .3, e i .4, e i .5)
 
   module _ (h k : HandedIn v) (gs : List (v .Cell)) (ws fs : List ℕ) where
     -- of an event

@@ -13,10 +13,12 @@ use Rattle.rules.specs.Sound.{settled}
 use Rattle.rules.specs.Refusals.{Verdict, refuse, openTests}
 use Rattle.rules.specs.Run.{newcomer, fresh}
 use Rattle.rules.proofs.Conditions.{counted-means}
+use Rattle.rules.proofs.WakeFits.{fresh-never}
 use Rattle.rules.specs.declared.Gate.{Gate}
 use Rattle.rules.specs.declared.Refusal.{Refusal}
 use Rattle.rules.specs.declared.Refusal.the-variants.{BadSetting, ShortTable}
 use Rattle.rules.specs.declared.Answer.the-variants.{Nothing}
+use Rattle.rules.specs.declared.Wake.the-variants.{Never}
 use Rattle.rules.specs.declared.Outcome.{Outcome}
 use Rattle.table.specs.Columns.{waitingWide, flightWide, settingsWide, mostGuests}
 use Rattle.table.specs.View.{gateAt, outcomeOf, settingsForm, guestForm, countable, short}
@@ -94,12 +96,13 @@ module _ (d n c : ℕ) (ss gs ws fs : List ℕ) (g : Gate) (e : g ≡ freshGate 
 
     -- and what the moves leave is the fresh table
     pub opened-returns : (hs vs es : List ℕ) → hs ≡ started ss n gs → vs ≡ zeros ws (c * waitingWide) → es ≡ zeros fs (d * flightWide)
-        → (o : Outcome) → o ≡ outcomeOf g Nothing → seen (o, hs, vs, es) ≡ seen (opened d n c ss gs ws fs)
+        → (o : Outcome) → o ≡ outcomeOf g Nothing Never → seen (o, hs, vs, es) ≡ seen (opened d n c ss gs ws fs)
     unfolding openedIn handedIn fresh
     opened-returns hs vs es x y z o q =
         let m : length (map newcomer (settingsIn ss n)) ≡ n = length-map (settingsIn ss n) newcomer ∙ length-rows settingsForm ss n in
         let pg : hs ≡ overRows guestForm (length (map newcomer (settingsIn ss n))) (map newcomer (settingsIn ss n)) gs = x ∙ ap (λ (k : ℕ). overRows guestForm k (map newcomer (settingsIn ss n)) gs) (sym m) in
         let pw = y ∙ cleared-waiting c ws (open-room .waiting) in
         let pf = z ∙ cleared-flight d fs (open-room .flight) in
+        let pn = sym (fresh-never d c (settingsIn ss n)) in
         let pe : g ≡ gateAt (record { depth = d; capacity = c }) (length (map newcomer (settingsIn ss n))) 0 0 0 = e ∙ ap (λ (k : ℕ). freshGate d k c) (sym m) in
-        ap (λ (o : Outcome). seen (o, hs, vs, es)) q ∙ (λ i. seen (outcomeOf (pe i) Nothing, pg i, pw i, pf i)) ∙ sym (ap (λ (v : Verdict). seen (openedByIn numbers v d n c ss gs ws fs)) (good .0))
+        ap (λ (o : Outcome). seen (o, hs, vs, es)) q ∙ (λ i. seen (outcomeOf (pe i) Nothing (pn i), pg i, pw i, pf i)) ∙ sym (ap (λ (v : Verdict). seen (openedByIn numbers v d n c ss gs ws fs)) (good .0))

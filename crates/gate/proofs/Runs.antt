@@ -14,17 +14,19 @@ use Rattle.rules.specs.declared.Event.{Event}
 use Rattle.rules.specs.declared.Event.the-variants.{Arrival, Completion, Tick}
 use Rattle.rules.specs.Refusals.{Verdict, accept, refuse, verdict}
 use Rattle.rules.specs.Run.{decided, step, after, answers}
+use Rattle.rules.specs.Waking.{told, wakes}
 use Rattle.rules.specs.declared.Setup.{Setup}
 use Rattle.rules.specs.declared.Refusal.{Refusal}
 use Rattle.rules.specs.declared.Answer.the-variants.{Refused}
 use Rattle.rules.proofs.SameSettings.{SameSettings, same-count, step-settings}
+use Rattle.rules.proofs.ChoiceNames.{choice-all}
 use Rattle.rules.proofs.StepSound.{step-sound}
 use Rattle.table.specs.Columns.{waitingWide, flightWide}
 use Rattle.table.specs.View.{identified}
-use Rattle.enter.proofs.Ids.{Brings, choice-all, enter-all}
+use Rattle.enter.proofs.Ids.{Brings, enter-all}
 use Rattle.enter.proofs.Entering.{narrow as shortId}
 use Rattle.gate.specs.Promise.{Lending, HandedIn, handedIn, shortIn, soundIn, unchangedIn, followedIn, calledIn}
-use Rattle.gate.specs.Calls.{Host, holds, call, held, replies, shows, firm, narrow, taken}
+use Rattle.gate.specs.Calls.{Host, holds, call, held, replies, wakings, shows, firm, narrow, taken}
 use Rattle.gate.proofs.Lending.{Lawful, sound-judged, sound-shown, Roomy, long-roomy, short-refused-in, unsound-refused-in, firm-judged}
 use Rattle.gate.proofs.Written.{Holds, handed-shown, handed-holds}
 
@@ -116,6 +118,15 @@ module _ (v : Lending) (lawful : Lawful v) where
           go accept p = ap (λ c. c .0 .answer) (accepted-call p)
           go (refuse r) p = ap (λ c. c .0 .answer) (refused-call r p) ∙ sym (ap (λ c. c .answer) (refused-step r p))
 
+      -- and carries what the step carries
+      pub call-wakes : call v e h .0 .wake ≡ told (step (shows v h) e)
+      unfolding handedIn
+      call-wakes = go (verdict t e) refl
+        where
+          go : (w : Verdict) → verdict t e ≡ w → call v e h .0 .wake ≡ told (step t e)
+          go accept p = ap (λ c. c .0 .wake) (accepted-call p)
+          go (refuse r) p = ap (λ c. c .0 .wake) (refused-call r p) ∙ sym (ap told (refused-step r p))
+
       -- the host's tables then show the table of the step
       pub call-shows : shows v (holds v (call v e h)) ≡ step (shows v h) e .table
       call-shows = go (verdict t e) refl
@@ -138,16 +149,18 @@ module _ (v : Lending) (lawful : Lawful v) where
 
   -- A RUN
 
-  -- what a run of calls does: it answers as the run of steps, leaves its table, and leaves the host's tables long enough and sound
+  -- what a run of calls does: it answers as the run of steps, carries the same times to wake, leaves its table, and leaves the host's tables long
+  -- enough and sound
   pub record Runs (h : Host v) (es : List Event) : Type 0 where
     pub answered : replies v h es ≡ answers (shows v h) es
+    pub woken : wakings v h es ≡ wakes (shows v h) es
     pub left : shows v (held v h es) ≡ after (shows v h) es
     pub still : firm v (held v h es) ≡ true
 
   -- from a host whose tables are long enough and sound, whatever the events
   pub calls-run : (es : List Event) (h : Host v) → firm v h ≡ true → all narrow es ≡ true → Runs h es
-  unfolding held replies answers after
-  calls-run [] h f n = record { answered = refl; left = refl; still = f }
+  unfolding held replies wakings answers wakes after
+  calls-run [] h f n = record { answered = refl; woken = refl; left = refl; still = f }
   calls-run (e ∷ es) h f n =
       let c = both (narrow e) (all narrow es) n in
       let k = firm-holds h f in
@@ -156,6 +169,7 @@ module _ (v : Lending) (lawful : Lawful v) where
       let s = call-shows h k e in
       record {
         answered = λ j. call-answers h k e j ∷ (i .answered ∙ ap (λ (x : Table). answers x es) s) j;
+        woken = λ j. call-wakes h k e j ∷ (i .woken ∙ ap (λ (x : Table). wakes x es) s) j;
         left = i .left ∙ ap (λ (x : Table). after x es) s;
         still = i .still;
       }

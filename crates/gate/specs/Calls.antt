@@ -14,6 +14,7 @@ use Rattle.rules.specs.Order.{brings}
 use Rattle.rules.specs.Turn.{isDue, ahead}
 use Rattle.rules.specs.declared.Gate.{Gate}
 use Rattle.rules.specs.declared.Answer.{Answer}
+use Rattle.rules.specs.declared.Wake.{Wake}
 use Rattle.table.specs.Columns.{waitingWide}
 use Rattle.table.specs.View.{requestForm}
 use Rattle.gate.specs.Promise.{Lending, HandedIn, tableIn, shortIn, soundIn, calledIn}
@@ -67,6 +68,11 @@ module _ (v : Lending) where
   unfoldable pub replies : Host → List Event → List Answer
   replies h [] = []
   replies h (e ∷ es) = call e h .0 .answer ∷ replies (holds (call e h)) es
+
+  -- what the outcomes of a run of calls carry: when to wake the gate, after each
+  unfoldable pub wakings : Host → List Event → List Wake
+  wakings h [] = []
+  wakings h (e ∷ es) = call e h .0 .wake ∷ wakings (holds (call e h)) es
 
   -- the table that is shown
   abbrev pub shows : Host → Table

@@ -8,6 +8,7 @@ use Rattle.rules.specs.Refusals.{accept, refuse}
 use Rattle.rules.specs.declared.Gate.{Gate}
 use Rattle.rules.specs.declared.Answer.the-variants.{Refused}
 use Rattle.rules.specs.declared.Outcome.{Outcome}
+use Rattle.rules.specs.Waking.{unsaid}
 use Rattle.rules.specs.declared.Refusal.{Refusal}
 use Rattle.table.specs.Columns.{guestWide, waitingWide, flightWide, settingsWide, mostGuests, mostDepth, mostCapacity}
 use Rattle.table.specs.View.{gateAt, outcomeOf, Known}
@@ -39,4 +40,4 @@ freshGate d n c = gateAt (record { depth = d; capacity = c }) n 0 0 0
 
 -- what a refused opening answers
 abbrev pub notOpened : Refusal → Outcome
-notOpened r = outcomeOf unopened (Refused r)
+notOpened r = outcomeOf unopened (Refused r) unsaid

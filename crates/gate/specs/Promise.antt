@@ -1,5 +1,5 @@
--- What the public calls promise: the gate, the answer as the paper shows it, and every lent table after the call, as a function of what was
--- handed in. Refusals too. A call's promise is the one equation `seen (what it handed back) ≡ seen (called ..)`, or `seen (opened ..)`;
+-- What the public calls promise: the gate, the answer as the paper shows it, when to wake the gate, and every lent table after the call, as a function
+-- of what was handed in. Refusals too. A call's promise is the one equation `seen (what it handed back) ≡ seen (called ..)`, or `seen (opened ..)`;
 -- proofs/Once.antt shows that it admits one outcome only. It is stated once for every way in which a host lends its guests; at the end are its
 -- names over numbers.
 use Prim.Native.Nat.{ℕ, _*_}
@@ -9,7 +9,7 @@ use lib.Dec.{ltb}
 use lib.ListN.{length}
 use Rattle.lists.specs.Rows.{rowsOf, overRows}
 use Rattle.rules.specs.Tables.{Table}
-use Rattle.rules.specs.Answers.{Printed, shown}
+use Rattle.rules.specs.Answers.{Printed, shown, hour}
 use Rattle.rules.specs.Sound.{sound}
 use Rattle.rules.specs.declared.Settings.{Settings}
 use Rattle.rules.specs.declared.Guest.{Guest}
@@ -18,6 +18,7 @@ use Rattle.rules.specs.Events.{enter}
 use Rattle.rules.specs.declared.Event.{Event}
 use Rattle.rules.specs.Refusals.{Verdict, accept, refuse, judged, tests, openTests}
 use Rattle.rules.specs.Run.{fresh}
+use Rattle.rules.specs.Waking.{told, unsaid}
 use Rattle.rules.specs.declared.Gate.{Gate}
 use Rattle.rules.specs.declared.Outcome.{Outcome}
 use Rattle.rules.specs.declared.Answer.{Answer}
@@ -63,22 +64,22 @@ module _ (v : Lending) where
   abbrev pub HandedIn : Type 0
   HandedIn = Outcome × List (v .Cell) × List ℕ × List ℕ
 
-  -- THE WAY BACK: a table and an answer written over what was lent; places beyond what the settings need stay as they were
+  -- THE WAY BACK: a table and an answer written over what was lent, with the time to wake; places beyond what the settings need stay as they were
   unfoldable pub handedIn : List (v .Cell) → (ws fs : List ℕ) → Result → HandedIn
   handedIn gs ws fs r = (
-    outcomeOf (gateOf (r .table)) (r .answer),
+    outcomeOf (gateOf (r .table)) (r .answer) (told r),
     v .over (r .table .guests) gs,
     overRows requestForm (r .table .setup .capacity) (r .table .waiting) ws,
     overRows flightForm (r .table .setup .depth) (r .table .flight) fs,
   )
 
-  -- all that a caller sees of a call: the gate, the answer as the paper shows it, and the three tables
+  -- all that a caller sees of a call: the gate, the answer as the paper shows it, the time to wake, and the three tables
   abbrev pub SeenIn : Type 0
-  SeenIn = Gate × Printed × List (v .Cell) × List ℕ × List ℕ
+  SeenIn = Gate × Printed × List ℕ × List (v .Cell) × List ℕ × List ℕ
 
   -- what a caller sees of what a call handed back
   abbrev pub seenIn : HandedIn → SeenIn
-  seenIn h = (h .0 .gate, shown (h .0 .answer), h .1, h .2, h .3)
+  seenIn h = (h .0 .gate, shown (h .0 .answer), hour (h .0 .wake), h .1, h .2, h .3)
 
   -- AN EVENT
 
@@ -93,9 +94,9 @@ module _ (v : Lending) where
       sound (tableIn g gs ws fs) && identified (tableIn g gs ws fs)
       && zeroed waitingWide (g .setup .capacity) (g .waiting) ws && zeroed flightWide (g .setup .depth) (g .flight) fs
 
-  -- "Every refusal changes no lent number and not the time."
+  -- "Every refusal changes no lent number and not the time." It carries no time to wake
   abbrev pub unchangedIn : Gate → List (v .Cell) → (ws fs : List ℕ) → Answer → HandedIn
-  unchangedIn g gs ws fs a = (outcomeOf g a, gs, ws, fs)
+  unchangedIn g gs ws fs a = (outcomeOf g a unsaid, gs, ws, fs)
 
   -- what follows from a verdict on an event: at the table that is shown it is entered and the choice made; or nothing moves
   abbrev pub followedIn : Verdict → Event → Gate → List (v .Cell) → (ws fs : List ℕ) → HandedIn

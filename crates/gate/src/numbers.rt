@@ -9,6 +9,7 @@ use rules::Gate;
 use rules::Outcome;
 use rules::Refusal;
 use rules::Setup;
+use rules::Wake;
 use sound::is_sound;
 use sound::lengths::is_countable;
 use sound::lengths::is_short;
@@ -151,7 +152,7 @@ fn judge_opening(
     Judged::Good
 }
 
-// Opening: the lent tables become a fresh table of these settings, three numbers a guest.
+// Opening: the lent tables become a fresh table of these settings, three numbers a guest. Nothing waits in it, so no tick would send.
 pub fn open(
     depth: u64,
     known: u64,
@@ -174,7 +175,7 @@ pub fn open(
             moves::rows::start(guests, settings, count);
             moves::rows::clear(waiting, rooms * WAITING_WIDE);
             moves::rows::clear(flight, places * FLIGHT_WIDE);
-            gates::answered(gate, Answer::Nothing)
+            gates::answered(gate, Answer::Nothing, Wake::Never)
         }
     }
 }

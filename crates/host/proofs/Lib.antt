@@ -1,3 +1,4 @@
 pub mod Once
 pub mod Returns
 pub mod Runs
+pub mod Wakes

@@ -1,6 +1,6 @@
--- `once`: any two outcomes that the promise of a call through C admits are equal: the answer's four numbers, the gate's six, every number of
--- every table. And four numbers are one answer only, so nothing of an answer is lost on the way. Assumes nothing.
-use Prim.Native.Nat.{ℕ}
+-- `once`: any two outcomes that the promise of a call through C admits are equal: the answer's five numbers, the gate's six, every number of
+-- every table. And four numbers are one answer only, the fifth one time to wake, so nothing of an answer is lost on the way. Assumes nothing.
+use Prim.Native.Nat.{ℕ, _≤_}
 use mathlib.Core.Path.{_≡_, refl, sym, ap, _∙_}
 use mathlib.Core.List.{List}
 use native.Mathlib.Omega.{arith}
@@ -12,9 +12,12 @@ use Rattle.rules.specs.declared.Phase.{Phase}
 use Rattle.rules.specs.declared.Phase.the-variants.{Reservation, Weight}
 use Rattle.rules.specs.declared.Answer.{Answer}
 use Rattle.rules.specs.declared.Answer.the-variants.{Nothing, Sent, Refused}
+use Rattle.rules.specs.declared.Wake.{Wake}
+use Rattle.rules.specs.declared.Wake.the-variants.{At, Never}
+use Rattle.rules.specs.Numbers.{ceiling}
 use Rattle.gate.specs.Promise.{called, opened}
 use Rattle.host.specs.declared.Reply.{Reply}
-use Rattle.host.specs.Host.{kindOf, gateIn, replyOf, hosted}
+use Rattle.host.specs.Host.{kindOf, Four, fourOf, fifthOf, gateIn, hosted}
 
 -- ANSWERS
 
@@ -30,17 +33,35 @@ other-kind : (p : Phase) → (kindOf p ≡ 0 → ⊥) × (kindOf p ≡ 3 → ⊥
 other-kind Reservation = (λ h. omega (arith, h), λ h. omega (arith, h))
 other-kind Weight = (λ h. omega (arith, h), λ h. omega (arith, h))
 
+-- the first of four numbers
+abbrev kind : Four → ℕ
+kind f = f .0
+
 -- two answers that have the same four numbers are equal
-pub reply-once : (a b : Answer) → replyOf a ≡ replyOf b → a ≡ b
-reply-once Nothing Nothing h = refl
-reply-once Nothing (Sent q k j) h = absurd (other-kind q .0 (sym (ap Reply.kind h)))
-reply-once Nothing (Refused s) h = absurd (omega (arith, ap Reply.kind h))
-reply-once (Sent p g i) Nothing h = absurd (other-kind p .0 (ap Reply.kind h))
-reply-once (Sent p g i) (Sent q k j) h = λ n. Sent (kindOf-once p q (ap Reply.kind h) n) (h n .guest) (h n .id)
-reply-once (Sent p g i) (Refused s) h = absurd (other-kind p .1 (ap Reply.kind h))
-reply-once (Refused r) Nothing h = absurd (omega (arith, ap Reply.kind h))
-reply-once (Refused r) (Sent q k j) h = absurd (other-kind q .1 (sym (ap Reply.kind h)))
-reply-once (Refused r) (Refused s) h = ap Refused (numberOf-once r s (ap Reply.refusal h))
+pub four-once : (a b : Answer) → fourOf a ≡ fourOf b → a ≡ b
+four-once Nothing Nothing h = refl
+four-once Nothing (Sent q k j) h = absurd (other-kind q .0 (sym (ap kind h)))
+four-once Nothing (Refused s) h = absurd (omega (arith, ap kind h))
+four-once (Sent p g i) Nothing h = absurd (other-kind p .0 (ap kind h))
+four-once (Sent p g i) (Sent q k j) h = λ n. Sent (kindOf-once p q (ap kind h) n) (h n .1) (h n .2)
+four-once (Sent p g i) (Refused s) h = absurd (other-kind p .1 (ap kind h))
+four-once (Refused r) Nothing h = absurd (omega (arith, ap kind h))
+four-once (Refused r) (Sent q k j) h = absurd (other-kind q .1 (sym (ap kind h)))
+four-once (Refused r) (Refused s) h = ap Refused (numberOf-once r s (ap (λ (f : Four). f .3) h))
+
+-- TIMES TO WAKE
+
+-- a time to wake is at most the ceiling, as every one that is told is
+abbrev pub Timely : Wake → Type 0
+Timely (At n) = n ≤ ceiling
+Timely Never = Unit {0}
+
+-- two of them that have the same fifth number are equal
+pub fifth-once : (w x : Wake) → Timely w → Timely x → fifthOf w ≡ fifthOf x → w ≡ x
+fifth-once (At n) (At m) a b h = ap At h
+fifth-once (At n) Never a b h = absurd (omega (arith, h))
+fifth-once Never (At m) a b h = absurd (omega (arith, h))
+fifth-once Never Never a b h = refl
 
 -- OUTCOMES
 

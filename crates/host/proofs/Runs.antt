@@ -13,6 +13,7 @@ use Rattle.rules.specs.Answers.{Printed, shown, taken}
 use Rattle.rules.specs.Order.{waits, left}
 use Rattle.rules.specs.Refused.{Case, RefusedExactly, callCases, openCases}
 use Rattle.rules.specs.Run.{fresh, after, answers}
+use Rattle.rules.specs.Waking.{wakes}
 use Rattle.rules.specs.TurnAt.{DueAt, InTurnAt}
 use Rattle.rules.proofs.Trials.{X}
 use Rattle.rules.specs.declared.Event.{Event}
@@ -20,16 +21,17 @@ use Rattle.rules.specs.declared.Gate.{Gate}
 use Rattle.rules.specs.declared.Phase.the-variants.{Reservation, Weight}
 use Rattle.rules.specs.declared.Answer.{Answer}
 use Rattle.rules.specs.declared.Answer.the-variants.{Nothing, Sent, Refused}
+use Rattle.rules.specs.declared.Wake.{Wake}
 use Rattle.gate.specs.Promise.{numbers, called, opened, settingsIn, tableIn, shortIn, soundIn, openShortIn, HandedIn}
-use Rattle.gate.specs.Calls.{Host, holds, call, held, replies, firm, narrow, took, finds, freeReplies}
+use Rattle.gate.specs.Calls.{Host, holds, call, held, replies, wakings, firm, narrow, took, finds, freeReplies}
 use Rattle.gate.proofs.Lending.{numbers-lawful}
 use Rattle.gate.proofs.Runs.{calls-run}
 use Rattle.gate.proofs.Opened.{opened-firm}
 use Rattle.gate.proofs.Order.{calls-in-order}
 use Rattle.gate.proofs.Demand3.{calls-demand-3-places}
 use Rattle.gate.proofs.Refusing.{refusal-keeps, called-exactly, open-exactly}
-use Rattle.host.specs.Host.{gateIn, gateOver, replyOf, written, hosted}
-use Rattle.host.specs.Calls.{Lent, inside, shownBy, through, kept, heldBy, fours, Refuses, Takes, takes, freeFours}
+use Rattle.host.specs.Host.{fourOf, fifthOf, four, gateIn, gateOver, replyOf, written, hosted}
+use Rattle.host.specs.Calls.{Lent, inside, shownBy, through, kept, heldBy, fours, fifths, Refuses, Takes, takes, freeFours}
 
 -- THE SIX NUMBERS
 
@@ -66,7 +68,7 @@ module _ (h : Lent) (six : length (h .six) ≡ 6) (e : Event) where
   gate-after (Refused r) p = sym (ap (λ (c : HandedIn numbers). c .0 .gate) (refusal-keeps numbers e (gateIn (h .six)) (h .guests) (h .waiting) (h .flight) r p))
 
   -- so a host in C holds after a call what a host over numbers holds
-  call-back : inside (kept (through e h)) ≡ holds numbers (call numbers e (inside h))
+  pub call-back : inside (kept (through e h)) ≡ holds numbers (call numbers e (inside h))
   call-back =
       let p = gate-after (back .0 .answer) refl in
       λ i. record { gate = p i; guests = back .1; waiting = back .2; flight = back .3 }
@@ -82,17 +84,25 @@ unfolding heldBy held
 held-back [] h six = refl
 held-back (e ∷ es) h six = held-back es (kept (through e h)) (still-six h six e) ∙ ap (λ (u : Host numbers). held numbers u es) (call-back h six e)
 
--- and every answer is the four numbers of the answer there
-fours-back : (es : List Event) (h : Lent) → length (h .six) ≡ 6 → fours h es ≡ map replyOf (replies numbers (inside h) es)
+-- and every answer has the four numbers of the answer there
+fours-back : (es : List Event) (h : Lent) → length (h .six) ≡ 6 → fours h es ≡ map fourOf (replies numbers (inside h) es)
 unfolding fours replies
 fours-back [] h six = refl
 fours-back (e ∷ es) h six =
-    ap (through e h .0 ∷_) (fours-back es (kept (through e h)) (still-six h six e) ∙ ap (λ (u : Host numbers). map replyOf (replies numbers u es)) (call-back h six e))
+    ap (four (through e h .0) ∷_) (fours-back es (kept (through e h)) (still-six h six e) ∙ ap (λ (u : Host numbers). map fourOf (replies numbers u es)) (call-back h six e))
 
--- what a run of calls through C does: it answers as the run of steps, leaves its table, and leaves six numbers and tables that are long enough and
--- sound
+-- and the fifth of the time to wake there
+fifths-back : (es : List Event) (h : Lent) → length (h .six) ≡ 6 → fifths h es ≡ map fifthOf (wakings numbers (inside h) es)
+unfolding fifths wakings
+fifths-back [] h six = refl
+fifths-back (e ∷ es) h six =
+    ap (through e h .0 .wake ∷_) (fifths-back es (kept (through e h)) (still-six h six e) ∙ ap (λ (u : Host numbers). map fifthOf (wakings numbers u es)) (call-back h six e))
+
+-- what a run of calls through C does: it answers as the run of steps, carries the same times to wake, leaves its table, and leaves six numbers and
+-- tables that are long enough and sound
 pub record ThroughRuns (h : Lent) (es : List Event) : Type 0 where
-  pub answered : fours h es ≡ map replyOf (answers (shownBy h) es)
+  pub answered : fours h es ≡ map fourOf (answers (shownBy h) es)
+  pub woken : fifths h es ≡ map fifthOf (wakes (shownBy h) es)
   pub leaves : shownBy (heldBy h es) ≡ after (shownBy h) es
   pub still : firm numbers (inside (heldBy h es)) ≡ true
 
@@ -102,7 +112,8 @@ through-run es h six f n =
     let r = calls-run numbers numbers-lawful es (inside h) f n in
     let b = held-back es h six in
     record {
-      answered = fours-back es h six ∙ ap (map replyOf) (r .answered);
+      answered = fours-back es h six ∙ ap (map fourOf) (r .answered);
+      woken = fifths-back es h six ∙ ap (map fifthOf) (r .woken);
       leaves = ap (λ (u : Host numbers). tableIn numbers (u .gate) (u .guests) (u .waiting) (u .flight)) b ∙ r .left;
       still = ap (firm numbers) b ∙ r .still;
     }
@@ -112,7 +123,7 @@ through-run es h six f n =
 -- Of each guest, over any run of calls through C: what waited and what was accepted is, in this order, what left and what still waits; the answers
 -- are those whose four numbers the calls gave.
 pub through-in-order : (n : ℕ) (es : List Event) (h : Lent) → length (h .six) ≡ 6
-    → (got : List Answer) × (fours h es ≡ map replyOf got) × (waits n (shownBy h) ++ took n es got ≡ left n got ++ waits n (shownBy (heldBy h es)))
+    → (got : List Answer) × (fours h es ≡ map fourOf got) × (waits n (shownBy h) ++ took n es got ≡ left n got ++ waits n (shownBy (heldBy h es)))
 through-in-order n es h six = (
   replies numbers (inside h) es,
   fours-back es h six,
@@ -122,20 +133,20 @@ through-in-order n es h six = (
 
 -- DEMAND 3, by places
 
-takes-taken : (a : Answer) → takes (replyOf a) ≡ taken a
-takes-taken Nothing = refl
-takes-taken (Sent Reservation g i) = refl
-takes-taken (Sent Weight g i) = refl
-takes-taken (Refused r) = refl
+takes-taken : (a : Answer) (w : Wake) → takes (replyOf a w) ≡ taken a
+takes-taken Nothing w = refl
+takes-taken (Sent Reservation g i) w = refl
+takes-taken (Sent Weight g i) w = refl
+takes-taken (Refused r) w = refl
 
 -- the calls that are accepted and find a place free are those there
-free-back : (es : List Event) (h : Lent) → length (h .six) ≡ 6 → freeFours h es ≡ map replyOf (freeReplies numbers (inside h) es)
+free-back : (es : List Event) (h : Lent) → length (h .six) ≡ 6 → freeFours h es ≡ map fourOf (freeReplies numbers (inside h) es)
 unfolding freeFours freeReplies
 free-back [] h six = refl
 free-back (e ∷ es) h six =
-    ap (λ (b : Bool). if b && finds e (gateIn (h .six)) then replyOf a ∷ freeFours u es else freeFours u es) (takes-taken a)
+    ap (λ (b : Bool). if b && finds e (gateIn (h .six)) then fourOf a ∷ freeFours u es else freeFours u es) (takes-taken a (back h six e .0 .wake))
     ∙ go (taken a && finds e (gateIn (h .six)))
-    (free-back es u (still-six h six e) ∙ ap (λ (k : Host numbers). map replyOf (freeReplies numbers k es)) (call-back h six e))
+    (free-back es u (still-six h six e) ∙ ap (λ (k : Host numbers). map fourOf (freeReplies numbers k es)) (call-back h six e))
   where
     a : Answer
     a = back h six e .0 .answer
@@ -146,44 +157,44 @@ free-back (e ∷ es) h six =
     later : List Answer
     later = freeReplies numbers (holds numbers (call numbers e (inside h))) es
 
-    go : (b : Bool) → freeFours u es ≡ map replyOf later → (if b then replyOf a ∷ freeFours u es else freeFours u es) ≡ map replyOf (if b then a ∷ later else later)
-    go true p = ap (replyOf a ∷_) p
+    go : (b : Bool) → freeFours u es ≡ map fourOf later → (if b then fourOf a ∷ freeFours u es else freeFours u es) ≡ map fourOf (if b then a ∷ later else later)
+    go true p = ap (fourOf a ∷_) p
     go false p = p
 
 -- Demand 3: "the accepted events that find a place free at the array .. send exactly those k first, then this request at the (k+1)th, each by
 -- reservation"; the answers are those whose four numbers the calls gave.
 pub through-demand-3 : (h : Lent) (es : List Event) → length (h .six) ≡ 6 → firm numbers (inside h) ≡ true → all narrow es ≡ true → (i : ℕ) → DueAt (shownBy h) i
-    → (got : List Answer) × (freeFours h es ≡ map replyOf got) × InTurnAt (shownBy h) i got
+    → (got : List Answer) × (freeFours h es ≡ map fourOf got) × InTurnAt (shownBy h) i got
 through-demand-3 h es six f n i d = (freeReplies numbers (inside h) es, free-back es h six, calls-demand-3-places numbers numbers-lawful (inside h) es f n i d)
 
 -- REFUSED EXACTLY
 
--- the four numbers of an answer say that it is a refusal with a number just where the paper shows it so
-refuses-is : (a : Answer) (n : ℕ) → Refuses (replyOf a) n ↔ (shown a ≡ X n)
-refuses-is Nothing n = (λ p. absurd (omega (arith, p .0)), λ p. absurd (omega (arith, ap Printed.letter p)))
-refuses-is (Sent Reservation g i) n = (λ p. absurd (omega (arith, p .0)), λ p. absurd (omega (arith, ap Printed.letter p)))
-refuses-is (Sent Weight g i) n = (λ p. absurd (omega (arith, p .0)), λ p. absurd (omega (arith, ap Printed.letter p)))
-refuses-is (Refused r) n = (λ p. ap X (p .1), λ p. (refl, ap (λ (q : Printed). getD (q .values) 0 0) p))
+-- the numbers of an answer say that it is a refusal with a number just where the paper shows it so
+refuses-is : (a : Answer) (w : Wake) (n : ℕ) → Refuses (replyOf a w) n ↔ (shown a ≡ X n)
+refuses-is Nothing w n = (λ p. absurd (omega (arith, p .0)), λ p. absurd (omega (arith, ap Printed.letter p)))
+refuses-is (Sent Reservation g i) w n = (λ p. absurd (omega (arith, p .0)), λ p. absurd (omega (arith, ap Printed.letter p)))
+refuses-is (Sent Weight g i) w n = (λ p. absurd (omega (arith, p .0)), λ p. absurd (omega (arith, ap Printed.letter p)))
+refuses-is (Refused r) w n = (λ p. ap X (p .1), λ p. (refl, ap (λ (q : Printed). getD (q .values) 0 0) p))
 
-takes-is : (a : Answer) → Takes (replyOf a) ↔ (taken a ≡ true)
-takes-is Nothing = (λ p. refl, λ p k. omega (arith, k))
-takes-is (Sent Reservation g i) = (λ p. refl, λ p k. omega (arith, k))
-takes-is (Sent Weight g i) = (λ p. refl, λ p k. omega (arith, k))
-takes-is (Refused r) = (λ p. absurd (p refl), λ p. absurd (false≢true p))
+pub takes-is : (a : Answer) (w : Wake) → Takes (replyOf a w) ↔ (taken a ≡ true)
+takes-is Nothing w = (λ p. refl, λ p k. omega (arith, k))
+takes-is (Sent Reservation g i) w = (λ p. refl, λ p k. omega (arith, k))
+takes-is (Sent Weight g i) w = (λ p. refl, λ p k. omega (arith, k))
+takes-is (Refused r) w = (λ p. absurd (p refl), λ p. absurd (false≢true p))
 
 -- what is refused exactly is so through C
-told : {cs : List Case} (a : Answer) → RefusedExactly cs (λ n. shown a ≡ X n) (taken a ≡ true) → RefusedExactly cs (Refuses (replyOf a)) (Takes (replyOf a))
-told a x = record { number = λ n. Iff·trans (refuses-is a n) (x .number n); no-number = Iff·trans (takes-is a) (x .no-number) }
+told : {cs : List Case} (a : Answer) (w : Wake) → RefusedExactly cs (λ n. shown a ≡ X n) (taken a ≡ true) → RefusedExactly cs (Refuses (replyOf a w)) (Takes (replyOf a w))
+told a w x = record { number = λ n. Iff·trans (refuses-is a w n) (x .number n); no-number = Iff·trans (takes-is a w) (x .no-number) }
 
 -- Each number of an arrival, a completion and a tick is given exactly where document 01 says.
 pub through-exactly : (h : Lent) (e : Event)
     → RefusedExactly (callCases (shortIn numbers (gateIn (h .six)) (h .guests) (h .waiting) (h .flight)) (not (soundIn numbers (gateIn (h .six)) (h .guests) (h .waiting) (h .flight))) (shownBy h) e) (Refuses (through e h .0)) (Takes (through e h .0))
-through-exactly h e = told (called e (gateIn (h .six)) (h .guests) (h .waiting) (h .flight) .0 .answer) (called-exactly numbers numbers-lawful (gateIn (h .six)) (h .guests) (h .waiting) (h .flight) e)
+through-exactly h e = let x = called e (gateIn (h .six)) (h .guests) (h .waiting) (h .flight) in told (x .0 .answer) (x .0 .wake) (called-exactly numbers numbers-lawful (gateIn (h .six)) (h .guests) (h .waiting) (h .flight) e)
 
 -- And of an opening.
 pub through-open-exactly : (six : List ℕ) (d n c : ℕ) (ss gs ws fs : List ℕ)
     → RefusedExactly (openCases (openShortIn numbers d n c ss gs ws fs) d n c (settingsIn ss n)) (Refuses (hosted six (opened d n c ss gs ws fs) .0)) (Takes (hosted six (opened d n c ss gs ws fs) .0))
-through-open-exactly six d n c ss gs ws fs = told (opened d n c ss gs ws fs .0 .answer) (open-exactly numbers d n c ss gs ws fs)
+through-open-exactly six d n c ss gs ws fs = told (opened d n c ss gs ws fs .0 .answer) (opened d n c ss gs ws fs .0 .wake) (open-exactly numbers d n c ss gs ws fs)
 
 -- AN OPENING
 
@@ -192,14 +203,14 @@ pub through-opened : (six : List ℕ) → length six ≡ 6 → (d n c : ℕ) (ss
     → (length (kept (hosted six (opened d n c ss gs ws fs)) .six) ≡ 6) × (firm numbers (inside (kept (hosted six (opened d n c ss gs ws fs)))) ≡ true) × (shownBy (kept (hosted six (opened d n c ss gs ws fs))) ≡ fresh d c (settingsIn ss n))
 through-opened six l d n c ss gs ws fs t =
     let x = opened d n c ss gs ws fs in
-    let k = opened-firm numbers numbers-lawful d n c ss gs ws fs (takes-is (x .0 .answer) .0 t) in
-    let p = same (x .0 .answer) t in (
+    let k = opened-firm numbers numbers-lawful d n c ss gs ws fs (takes-is (x .0 .answer) (x .0 .wake) .0 t) in
+    let p = same (x .0 .answer) (takes-is (x .0 .answer) (x .0 .wake) .0 t) in (
       six-stay (x .0 .answer) (x .0 .gate) six l,
       ap (λ (g : Gate). firm numbers (record { gate = g; guests = x .1; waiting = x .2; flight = x .3 })) p ∙ k .0,
       ap (λ (g : Gate). tableIn numbers g (x .1) (x .2) (x .3)) p ∙ k .1,
     )
   where
-    same : (a : Answer) → Takes (replyOf a) → gateIn (written a (opened d n c ss gs ws fs .0 .gate) six) ≡ opened d n c ss gs ws fs .0 .gate
+    same : (a : Answer) → taken a ≡ true → gateIn (written a (opened d n c ss gs ws fs .0 .gate) six) ≡ opened d n c ss gs ws fs .0 .gate
     same Nothing t = gate-back (opened d n c ss gs ws fs .0 .gate) six l
     same (Sent q m i) t = gate-back (opened d n c ss gs ws fs .0 .gate) six l
-    same (Refused r) t = absurd (t refl)
+    same (Refused r) t = absurd (false≢true t)

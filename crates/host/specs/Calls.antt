@@ -10,7 +10,7 @@ use Rattle.rules.specs.declared.Event.{Event}
 use Rattle.gate.specs.Promise.{numbers, called}
 use Rattle.gate.specs.Calls.{Host, shows, finds}
 use Rattle.host.specs.declared.Reply.{Reply}
-use Rattle.host.specs.Host.{gateIn, hosted}
+use Rattle.host.specs.Host.{Four, four, gateIn, hosted}
 
 -- what a host in C holds between calls: the gate's six numbers, and its three tables
 pub record Lent : Type 0 where
@@ -27,7 +27,7 @@ inside h = record { gate = gateIn (h .six); guests = h .guests; waiting = h .wai
 abbrev pub shownBy : Lent → Table
 shownBy h = shows numbers (inside h)
 
--- a call through C on what a host holds: the answer's four numbers, the six of the gate, and the three tables
+-- a call through C on what a host holds: the answer's five numbers, the six of the gate, and the three tables
 abbrev pub through : Event → Lent → Reply × List ℕ × List ℕ × List ℕ × List ℕ
 through e h = hosted (h .six) (called e (gateIn (h .six)) (h .guests) (h .waiting) (h .flight))
 
@@ -40,12 +40,17 @@ unfoldable pub heldBy : Lent → List Event → Lent
 heldBy h [] = h
 heldBy h (e ∷ es) = heldBy (kept (through e h)) es
 
--- the four numbers of each answer to a run of calls
-unfoldable pub fours : Lent → List Event → List Reply
+-- the first four numbers of each answer to a run of calls
+unfoldable pub fours : Lent → List Event → List Four
 fours h [] = []
-fours h (e ∷ es) = through e h .0 ∷ fours (kept (through e h)) es
+fours h (e ∷ es) = four (through e h .0) ∷ fours (kept (through e h)) es
 
--- an answer's four numbers are a refusal with number n: kind 3, and the number
+-- the fifth of each: when to wake the gate
+unfoldable pub fifths : Lent → List Event → List ℕ
+fifths h [] = []
+fifths h (e ∷ es) = through e h .0 .wake ∷ fifths (kept (through e h)) es
+
+-- an answer's numbers are a refusal with number n: kind 3, and the number
 abbrev pub Refuses : Reply → ℕ → Type 0
 Refuses r n = (r .kind ≡ 3) × (r .refusal ≡ n)
 
@@ -57,10 +62,10 @@ Takes r = r .kind ≡ 3 → ⊥
 abbrev pub takes : Reply → Bool
 takes r = not (eqb (r .kind) 3)
 
--- the four numbers of the answers to the calls of a run that are accepted and find a place free, in order
-unfoldable pub freeFours : Lent → List Event → List Reply
+-- the first four numbers of the answers to the calls of a run that are accepted and find a place free, in order
+unfoldable pub freeFours : Lent → List Event → List Four
 freeFours h [] = []
 freeFours h (e ∷ es) =
     if takes (through e h .0) && finds e (gateIn (h .six))
-    then through e h .0 ∷ freeFours (kept (through e h)) es
+    then four (through e h .0) ∷ freeFours (kept (through e h)) es
     else freeFours (kept (through e h)) es

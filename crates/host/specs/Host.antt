@@ -1,4 +1,4 @@
--- The calls as a host in C sees them: the gate as six numbers, the answer as four.
+-- The calls as a host in C sees them: the gate as six numbers, the answer as five.
 use Prim.Native.Nat.{ℕ}
 use mathlib.Core.List.{List}
 use lib.ListN.{getD, set}
@@ -8,6 +8,8 @@ use Rattle.rules.specs.declared.Phase.{Phase}
 use Rattle.rules.specs.declared.Phase.the-variants.{Reservation, Weight}
 use Rattle.rules.specs.declared.Answer.{Answer}
 use Rattle.rules.specs.declared.Answer.the-variants.{Nothing, Sent, Refused}
+use Rattle.rules.specs.declared.Wake.{Wake}
+use Rattle.rules.specs.declared.Wake.the-variants.{At, Never}
 use Rattle.table.specs.View.{gateAt, Handed}
 use Rattle.host.specs.declared.Reply.{Reply}
 
@@ -16,11 +18,32 @@ abbrev pub kindOf : Phase → ℕ
 kindOf Reservation = 1
 kindOf Weight = 2
 
+-- four numbers: kind, guest, id, refusal
+abbrev pub Four : Type 0
+Four = ℕ × ℕ × ℕ × ℕ
+
 -- an answer as four numbers: kind (0 nothing, 1 sent by reservation, 2 by weight, 3 refused), guest, id, and the paper's number of a refusal
-abbrev pub replyOf : Answer → Reply
-replyOf Nothing = record { kind = 0; guest = 0; id = 0; refusal = 0 }
-replyOf (Sent p g i) = record { kind = kindOf p; guest = g; id = i; refusal = 0 }
-replyOf (Refused r) = record { kind = 3; guest = 0; id = 0; refusal = numberOf r }
+abbrev pub fourOf : Answer → Four
+fourOf Nothing = (0, 0, 0, 0)
+fourOf (Sent p g i) = (kindOf p, g, i, 0)
+fourOf (Refused r) = (3, 0, 0, numberOf r)
+
+-- where there is no time to wake: all bits one
+abbrev pub never : ℕ
+never = 18446744073709551615
+
+-- a time to wake as the fifth number
+abbrev pub fifthOf : Wake → ℕ
+fifthOf (At n) = n
+fifthOf Never = never
+
+-- an answer and a time to wake as five numbers
+abbrev pub replyOf : Answer → Wake → Reply
+replyOf a w = record { kind = fourOf a .0; guest = fourOf a .1; id = fourOf a .2; refusal = fourOf a .3; wake = fifthOf w }
+
+-- the first four of the five
+abbrev pub four : Reply → Four
+four r = (r .kind, r .guest, r .id, r .refusal)
 
 -- the gate that six numbers are: depth, guests, capacity, time, waiting, flight
 abbrev pub gateIn : List ℕ → Gate
@@ -38,4 +61,4 @@ written (Refused r) g v = v
 
 -- THE PROMISE: the answer, the six numbers and the three tables after a call that hands back h
 abbrev pub hosted : List ℕ → Handed → Reply × List ℕ × List ℕ × List ℕ × List ℕ
-hosted v h = (replyOf (h .0 .answer), written (h .0 .answer) (h .0 .gate) v, h .1, h .2, h .3)
+hosted v h = (replyOf (h .0 .answer) (h .0 .wake), written (h .0 .answer) (h .0 .gate) v, h .1, h .2, h .3)

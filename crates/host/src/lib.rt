@@ -1,5 +1,5 @@
 // What a C or Rust host links: the four calls over numbers, under the names of include/sgq.h. The gate is six numbers (depth, guests,
-// capacity, time, waiting, flight), the answer four (kind, guest, id, refusal). Each call takes whatever it is handed.
+// capacity, time, waiting, flight), the answer five (kind, guest, id, refusal, wake). Each call takes whatever it is handed.
 use rules::Answer;
 use rules::Arriving;
 use rules::Flight;
@@ -7,20 +7,25 @@ use rules::Gate;
 use rules::Outcome;
 use rules::Phase;
 use rules::Setup;
+use rules::Wake;
 use table::gates::gate_at;
 ghost use mathlib.Core.Path.{_≡_};
 ghost use Rattle.rules.specs.declared.Event.the-variants.{Arrival, Completion, Tick};
 ghost use Rattle.gate.specs.Promise.{called, opened};
-ghost use Rattle.host.specs.Host.{kindOf, gateIn, gateOver, replyOf, written, hosted};
+ghost use Rattle.host.specs.Host.{kindOf, fifthOf, gateIn, gateOver, replyOf, written, hosted};
 
-// An answer as four numbers: the kind (0 nothing, 1 sent by reservation, 2 sent by weight, 3 refused), the guest and id sent, and the refusal's
-// number. What an answer does not have is 0.
+// The time to wake where there is none: all bits one.
+const NEVER: u64 = 18446744073709551615;
+
+// An answer as five numbers: the kind (0 nothing, 1 sent by reservation, 2 sent by weight, 3 refused), the guest and id sent, the refusal's
+// number, and when to wake the gate by a tick. What an answer does not have is 0, in a refusal the time to wake too.
 #[repr(C)]
 pub struct Reply {
     pub kind: u64,
     pub guest: u64,
     pub id: u64,
     pub refusal: u64,
+    pub wake: u64,
 }
 
 // The kind of a send by a phase.
@@ -33,16 +38,28 @@ fn kind_of(phase: Phase) -> u64
     }
 }
 
-// An answer as its four numbers.
-fn four_of(answer: Answer) -> Reply
-    ensures { λ r. ⌜ r ≡ replyOf answer ⌝ }
+// A time to wake as a number.
+fn fifth_of(wake: Wake) -> u64
+    ensures { λ n. ⌜ n ≡ fifthOf wake ⌝ }
 {
+    match wake {
+        Wake::At(time) => time,
+        Wake::Never => NEVER,
+    }
+}
+
+// An answer and a time to wake as their five numbers.
+fn five_of(answer: Answer, wake: Wake) -> Reply
+    ensures { λ r. ⌜ r ≡ replyOf answer wake ⌝ }
+{
+    let fifth = fifth_of(wake);
     match answer {
         Answer::Nothing => Reply {
             kind: 0,
             guest: 0,
             id: 0,
             refusal: 0,
+            wake: fifth,
         },
         Answer::Sent { phase, guest, id } => {
             let kind = kind_of(phase);
@@ -51,6 +68,7 @@ fn four_of(answer: Answer) -> Reply
                 guest: guest,
                 id: id as u64,
                 refusal: 0,
+                wake: fifth,
             }
         }
         Answer::Refused(why) => {
@@ -60,6 +78,7 @@ fn four_of(answer: Answer) -> Reply
                 guest: 0,
                 id: 0,
                 refusal: n,
+                wake: fifth,
             }
         }
     }
@@ -90,19 +109,20 @@ fn gate_over(six: &mut [u64; 6], gate: Gate)
 
 // Writes the gate after a call over the six numbers and gives its answer; a refusal leaves the six numbers as they stood.
 fn hand_back(six: &mut [u64; 6], outcome: Outcome) -> Reply
-    ensures { λ r. ⌜ (r ≡ replyOf (outcome .answer)) × (now (six .exit) ≡ written (outcome .answer) (outcome .gate) (now (six .entry))) ⌝ }
+    ensures { λ r. ⌜ (r ≡ replyOf (outcome .answer) (outcome .wake)) × (now (six .exit) ≡ written (outcome .answer) (outcome .gate) (now (six .entry))) ⌝ }
 {
     let answer = outcome.answer;
+    let wake = outcome.wake;
     let gate = outcome.gate;
     match answer {
-        Answer::Refused(_) => four_of(answer),
+        Answer::Refused(_) => five_of(answer, wake),
         Answer::Nothing => {
             gate_over(six, gate);
-            four_of(answer)
+            five_of(answer, wake)
         }
         Answer::Sent { .. } => {
             gate_over(six, gate);
-            four_of(answer)
+            five_of(answer, wake)
         }
     }
 }

@@ -7,7 +7,7 @@ use mathlib.Core.Logic.{_⊎_, inl, inr}
 use native.Mathlib.Omega.{arith}
 use lib.Dec.{leb, eqb}
 use lib.ListN.{length, getD}
-use borrow.Author.Tests.{le-leb, eqb-true, eqb-false, eq-eqb, ne-eqb}
+use borrow.Author.Tests.{le-leb, leb-true, leb-false, eqb-true, eqb-false, eq-eqb, ne-eqb}
 use Rattle.lists.specs.Words.{if_then_else_, all, filter, without, each, below, lowest, empty}
 use Rattle.lists.specs.Tab.{removeAt}
 
@@ -207,6 +207,11 @@ pub map-on : {A B : Type 0} (p : A → Bool) (f k : A → B) → ((x : A) → p 
 map-on p f k h [] a = refl
 map-on p f k h (x ∷ l) a = let c = both (p x) (all p l) a in ap₂ _∷_ (h x (c .0)) (map-on p f k h l (c .1))
 
+-- two functions that agree on every entry of the list
+pub map-places : {A B : Type 0} (f k : A → B) (l : List A) (d : A) → ((j : ℕ) → j < length l → f (getD l j d) ≡ k (getD l j d)) → map f l ≡ map k l
+map-places f k [] d h = refl
+map-places f k (x ∷ l) d h = ap₂ _∷_ (h 0 (omega arith)) (map-places f k l d (λ j i. h (suc j) (omega arith)))
+
 -- no change
 pub map-id : {A : Type 0} (l : List A) → map (λ x. x) l ≡ l
 map-id [] = refl
@@ -290,3 +295,24 @@ unfolding lowest
 lowest-snoc [] x h = absurd (omega arith)
 lowest-snoc (y ∷ []) x h = refl
 lowest-snoc (y ∷ z ∷ l) x h = omega (arith, lowest-snoc (z ∷ l) x (omega arith))
+
+-- of a list's entries one has the smallest number
+pub lowest-of : {A : Type 0} (f : A → ℕ) (l : List A) (d : A) → 0 < length l → (i : ℕ) × (i < length l) × (f (getD l i d) ≡ lowest (map f l))
+unfolding lowest
+lowest-of f [] d h = absurd (omega arith)
+lowest-of f (x ∷ []) d h = (0, omega arith, refl)
+lowest-of f (x ∷ y ∷ l) d h = go (leb (f x) (lowest (map f (y ∷ l)))) refl (lowest-of f (y ∷ l) d (omega arith))
+  where
+    go : (b : Bool) → leb (f x) (lowest (map f (y ∷ l))) ≡ b → (i : ℕ) × (i < length (y ∷ l)) × (f (getD (y ∷ l) i d) ≡ lowest (map f (y ∷ l)))
+        → (i : ℕ) × (i < length (x ∷ y ∷ l)) × (f (getD (x ∷ y ∷ l) i d) ≡ min (f x) (lowest (map f (y ∷ l))))
+    go true e (i, h, n) = (0, omega arith, omega (arith, leb-true (f x) (lowest (map f (y ∷ l))) e))
+    go false e (i, h, n) = (suc i, omega arith, omega (arith, leb-false (f x) (lowest (map f (y ∷ l))) e))
+
+-- and none has a smaller one
+pub lowest-under : {A : Type 0} (f : A → ℕ) (l : List A) (d : A) (i : ℕ) → i < length l → lowest (map f l) ≤ f (getD l i d)
+unfolding lowest
+lowest-under f [] d i h = absurd (omega arith)
+lowest-under f (x ∷ []) d zero h = omega arith
+lowest-under f (x ∷ []) d (suc i) h = absurd (omega arith)
+lowest-under f (x ∷ y ∷ l) d zero h = omega arith
+lowest-under f (x ∷ y ∷ l) d (suc i) h = omega (arith, lowest-under f (y ∷ l) d i (omega arith))

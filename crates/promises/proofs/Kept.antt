@@ -4,6 +4,7 @@ use Rattle.rules.proofs.Arrived.{step-described, step-once}
 use Rattle.rules.proofs.StepSound.{step-sound}
 use Rattle.rules.proofs.TurnAt.{demand-3-places, no-place-no-send}
 use Rattle.rules.proofs.Readings.{readings}
+use Rattle.rules.proofs.WakeFits.{accepted-wakes, accepted-none, wakes-once}
 use Rattle.gate.specs.Promise.{Lending, numbers}
 use Rattle.gate.proofs.Lending.{Lawful, numbers-lawful}
 use Rattle.gate.proofs.Refusing.{called-exactly, open-exactly, refusal-keeps, opening-keeps}
@@ -14,10 +15,12 @@ use Rattle.gate.proofs.Beyond.{called-beyond, opened-beyond}
 use Rattle.gate.proofs.Unread.{called-unread, opened-unread}
 use Rattle.gate.proofs.Order.{calls-in-order}
 use Rattle.gate.proofs.Demand3.{calls-demand-3-places, calls-no-place}
+use Rattle.gate.proofs.Wakes.{calls-wake, opening-wakes}
 use Rattle.records.specs.Promise.{records}
 use Rattle.records.proofs.Lawful.{records-lawful}
-use Rattle.host.proofs.Once.{reply-once, open-once}
+use Rattle.host.proofs.Once.{four-once, fifth-once, open-once}
 use Rattle.host.proofs.Runs.{through-exactly, through-open-exactly, through-opened, through-run, through-in-order, through-demand-3}
+use Rattle.host.proofs.Wakes.{through-wakes, through-refused-wakes, through-opening-wakes, through-refused-opening-wakes}
 use Rattle.trace.proofs.HeaderExactly.{header-exactly}
 use Rattle.trace.proofs.LineExactly.{line-exactly, line-numbers, table-sound}
 use Rattle.trace.proofs.Order.{trace-in-order}
@@ -36,6 +39,9 @@ rules-kept =
       sound-kept = step-sound;
       demand-3 = demand-3-places;
       no-place-no-send = no-place-no-send;
+      wakes = accepted-wakes;
+      wakes-none = accepted-none;
+      wakes-once = wakes-once;
       readings = readings;
     }
 
@@ -57,6 +63,8 @@ lent-kept v lawful =
       in-order = calls-in-order v lawful;
       demand-3 = calls-demand-3-places v lawful;
       no-place-no-send = calls-no-place v lawful;
+      wakes = calls-wake v lawful;
+      opening-wakes = opening-wakes v lawful;
     }
 
 c-kept : ThroughC
@@ -68,9 +76,14 @@ c-kept =
       runs = through-run;
       called-once = λ b c h e p q. p ∙ sym q;
       opened-once = open-once;
-      four-once = reply-once;
+      four-once = four-once;
+      fifth-once = fifth-once;
       in-order = through-in-order;
       demand-3 = through-demand-3;
+      wakes = through-wakes;
+      refused-wakes = through-refused-wakes;
+      opening-wakes = through-opening-wakes;
+      refused-opening-wakes = through-refused-opening-wakes;
     }
 
 trace-kept : OfATrace

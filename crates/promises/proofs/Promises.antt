@@ -3,7 +3,8 @@
 use Prim.Native.Nat.{ℕ, _+_, _*_, _^_, _≤_, _<_}
 use mathlib.Core.Path.{_≡_}
 use mathlib.Core.Bool.{true, false, not}
-use mathlib.Core.List.{List, _++_, map}
+use mathlib.Core.List.{List, [], _++_, map}
+use mathlib.Core.Logic.{_↔_, _⊎_}
 use lib.ListN.{length, take}
 use Rattle.lists.specs.Words.{all}
 use Rattle.rules.specs.Tables.{Table}
@@ -19,6 +20,8 @@ use Rattle.rules.specs.Order.{waits, left}
 use Rattle.rules.specs.Run.{fresh, step, after}
 use Rattle.rules.specs.Turn.{findsRoom, atFree}
 use Rattle.rules.specs.TurnAt.{DueAt, InTurnAt}
+use Rattle.rules.specs.Waking.{told}
+use Rattle.rules.specs.Woken.{Wakes}
 use Rattle.rules.specs.declared.Settings.{Settings}
 use Rattle.rules.specs.declared.Event.{Event}
 use Rattle.rules.specs.declared.Phase.{Phase}
@@ -26,6 +29,8 @@ use Rattle.rules.specs.declared.Gate.{Gate}
 use Rattle.rules.specs.declared.Refusal.{Refusal}
 use Rattle.rules.specs.declared.Answer.{Answer}
 use Rattle.rules.specs.declared.Answer.the-variants.{Nothing, Sent, Refused}
+use Rattle.rules.specs.declared.Wake.{Wake}
+use Rattle.rules.specs.declared.Wake.the-variants.{Never}
 use Rattle.rules.proofs.Readings.{Readings}
 use Rattle.rules.proofs.Trials.{X}
 use Rattle.table.specs.Columns.{settingsWide}
@@ -37,10 +42,10 @@ use Rattle.gate.proofs.Runs.{Runs}
 use Rattle.records.specs.Promise.{records}
 use Rattle.records.proofs.Lawful.{records-lawful}
 use Rattle.gate.proofs.Lending.{numbers-lawful}
-use Rattle.host.specs.Host.{gateIn, replyOf, hosted}
+use Rattle.host.specs.Host.{fourOf, never, fifthOf, gateIn, hosted}
 use Rattle.host.specs.Calls.{Lent, inside, shownBy, through, kept, heldBy, fours, Refuses, Takes, freeFours}
 use Rattle.host.proofs.Runs.{ThroughRuns}
-use Rattle.host.proofs.Once.{Back}
+use Rattle.host.proofs.Once.{Timely, Back}
 use Rattle.lines.specs.Line.{titleLine, refusedWith}
 use Rattle.trace.specs.Printed.{linesFrom, printed}
 use Rattle.trace.specs.Event.{whole}
@@ -57,13 +62,17 @@ use Rattle.book.proofs.Sums.{WaitsAre}
 
 -- ON THE RULES
 
--- an accepted event in plain facts, which fit one outcome only, and demand 3
+-- an accepted event in plain facts, which fit one outcome only, demand 3, and when to wake, in plain facts that fit one value only
 pub record OnTheRules : Type 0 where
   pub described : (t : Table) (e : Event) → accepted t e ≡ true → (u : Table) × Entered t e u × Chosen u (step t e)
   pub once : (t : Table) (e : Event) (u : Table) (r : Result) → accepted t e ≡ true → Entered t e u → Chosen u r → r ≡ step t e
   pub sound-kept : (t : Table) (e : Event) → sound t ≡ true → sound (step t e .table) ≡ true
   pub demand-3 : (t : Table) (i : ℕ) (es : List Event) → sound t ≡ true → DueAt t i → InTurnAt t i (atFree t es)
   pub no-place-no-send : (t : Table) (e : Event) → accepted t e ≡ true → findsRoom t e ≡ false → step t e .answer ≡ Nothing
+  pub wakes : (t : Table) (e : Event) → accepted t e ≡ true → Wakes (step t e .table) (told (step t e))
+  pub wakes-none : (t : Table) (e : Event) → accepted t e ≡ true
+      → (told (step t e) ≡ Never) ↔ ((step t e .table .setup .depth ≤ length (step t e .table .flight)) ⊎ (step t e .table .waiting ≡ []))
+  pub wakes-once : (t : Table) → sound t ≡ true → (w x : Wake) → Wakes t w → Wakes t x → w ≡ x
   pub readings : Readings
 
 -- OVER LENT TABLES, in a way of lending guests
@@ -98,6 +107,9 @@ pub record OverLent (v : Lending) (lawful : Lawful v) : Type 0 where
   -- demand 3
   pub demand-3 : (h : Host v) (es : List Event) → firm v h ≡ true → all narrow es ≡ true → (i : ℕ) → DueAt (shows v h) i → InTurnAt (shows v h) i (freeReplies v h es)
   pub no-place-no-send : (h : Host v) (e : Event) → firm v h ≡ true → taken (call v e h .0 .answer) ≡ true → finds e (h .gate) ≡ false → call v e h .0 .answer ≡ Nothing
+  -- document 02, K2: an accepted call carries when to wake the gate that it leaves; an accepted opening, in which nothing waits, none
+  pub wakes : (h : Host v) (e : Event) → firm v h ≡ true → taken (call v e h .0 .answer) ≡ true → Wakes (shows v (holds v (call v e h))) (call v e h .0 .wake)
+  pub opening-wakes : (d n c : ℕ) (ss : List ℕ) (gs : List (v .Cell)) (ws fs : List ℕ) → taken (openedIn v d n c ss gs ws fs .0 .answer) ≡ true → openedIn v d n c ss gs ws fs .0 .wake ≡ Never
 
 -- THROUGH C, over the gate's six numbers and the three tables as a host holds them. The tables that a call leaves are those over numbers, so what
 -- stands beyond the need is untouched and unread there
@@ -112,11 +124,18 @@ pub record ThroughC : Type 0 where
   pub runs : (es : List Event) (h : Lent) → length (h .six) ≡ 6 → firm numbers (inside h) ≡ true → all narrow es ≡ true → ThroughRuns h es
   pub called-once : (b c : Back) (h : Lent) (e : Event) → b ≡ through e h → c ≡ through e h → b ≡ c
   pub opened-once : (b c : Back) (six : List ℕ) (d n m : ℕ) (ss gs ws fs : List ℕ) → b ≡ hosted six (opened d n m ss gs ws fs) → c ≡ hosted six (opened d n m ss gs ws fs) → b ≡ c
-  pub four-once : (a b : Answer) → replyOf a ≡ replyOf b → a ≡ b
+  pub four-once : (a b : Answer) → fourOf a ≡ fourOf b → a ≡ b
+  pub fifth-once : (w x : Wake) → Timely w → Timely x → fifthOf w ≡ fifthOf x → w ≡ x
   pub in-order : (n : ℕ) (es : List Event) (h : Lent) → length (h .six) ≡ 6
-      → (got : List Answer) × (fours h es ≡ map replyOf got) × (waits n (shownBy h) ++ took n es got ≡ left n got ++ waits n (shownBy (heldBy h es)))
+      → (got : List Answer) × (fours h es ≡ map fourOf got) × (waits n (shownBy h) ++ took n es got ≡ left n got ++ waits n (shownBy (heldBy h es)))
   pub demand-3 : (h : Lent) (es : List Event) → length (h .six) ≡ 6 → firm numbers (inside h) ≡ true → all narrow es ≡ true → (i : ℕ) → DueAt (shownBy h) i
-      → (got : List Answer) × (freeFours h es ≡ map replyOf got) × InTurnAt (shownBy h) i got
+      → (got : List Answer) × (freeFours h es ≡ map fourOf got) × InTurnAt (shownBy h) i got
+  -- document 02, K2: the fifth number, in a refusal 0
+  pub wakes : (h : Lent) (e : Event) → length (h .six) ≡ 6 → firm numbers (inside h) ≡ true → Takes (through e h .0)
+      → (w : Wake) × Wakes (shownBy (kept (through e h))) w × Timely w × (through e h .0 .wake ≡ fifthOf w)
+  pub refused-wakes : (h : Lent) (e : Event) (n : ℕ) → Refuses (through e h .0) n → through e h .0 .wake ≡ 0
+  pub opening-wakes : (six : List ℕ) (d n c : ℕ) (ss gs ws fs : List ℕ) → Takes (hosted six (opened d n c ss gs ws fs) .0) → hosted six (opened d n c ss gs ws fs) .0 .wake ≡ never
+  pub refused-opening-wakes : (six : List ℕ) (d n c : ℕ) (ss gs ws fs : List ℕ) (m : ℕ) → Refuses (hosted six (opened d n c ss gs ws fs) .0) m → hosted six (opened d n c ss gs ws fs) .0 .wake ≡ 0
 
 -- OF A TRACE, of any bytes
 

@@ -24,6 +24,7 @@ use Rattle.rules.specs.declared.Answer.{Answer}
 use Rattle.rules.specs.declared.Answer.the-variants.{Nothing, Refused}
 use Rattle.rules.specs.declared.Refusal.the-variants.{ShortTable, Unsound}
 use Rattle.table.specs.Columns.{guestWide, settingsWide, waitingWide, flightWide, mostGuests}
+use Rattle.rules.specs.Waking.{unsaid}
 use Rattle.table.specs.View.{outcomeOf, guestsOf, waitingOf, flightsOf, countable, identified, zeroed}
 use Rattle.gate.specs.Promise.{numbers, tableIn, HandedIn, handedIn, SeenIn, seenIn, shortIn, soundIn, unchangedIn, followedIn, judgedIn, calledIn}
 use Rattle.gate.specs.Promise.{settingsIn, unopened, openShortIn, openedByIn, openingIn, openedIn}
@@ -56,7 +57,7 @@ too-few n rs few = go (lt-or-le (length rs) n)
 
 -- a refusal on the numbers is one on the records
 pub refusal-home : (n : ℕ) (rs : List Guest) (g : Gate) (ws fs : List ℕ) (a : Answer) → homed n rs (unchangedIn numbers g (part n rs) ws fs a) ≡ unchangedIn records g rs ws fs a
-refusal-home n rs g ws fs a = λ i. (outcomeOf g a, kept n rs i, ws, fs)
+refusal-home n rs g ws fs a = λ i. (outcomeOf g a unsaid, kept n rs i, ws, fs)
 
 -- a result on the numbers is one on the records
 result-home : (n : ℕ) (rs : List Guest) (ws fs : List ℕ) → count n rs ≡ n → (r : Result) → length (r .table .guests) ≡ n → homed n rs (handedIn numbers (part n rs) ws fs r) ≡ handedIn records rs ws fs r
@@ -165,4 +166,4 @@ module _ (d n c : ℕ) (ss : List ℕ) (rs : List Guest) (ws fs : List ℕ) wher
 -- what `part` ensures of a call over numbers, once the records have come home, is what a caller of the call over records sees
 pub at-home : (n : ℕ) (rs : List Guest) (does : List ℕ → HandedIn numbers) (p : HandedIn records) → homed n rs (does (part n rs)) ≡ p
     → (r : Outcome) (zs ws fs : List ℕ) → seenIn numbers (r, zs, ws, fs) ≡ seenIn numbers (inPart (count n rs) (rows n rs) does) → seenIn records (r, brought n rs zs, ws, fs) ≡ seenIn records p
-at-home n rs does p home r zs ws fs e = ap (λ (s : SeenIn numbers). (s .0, s .1, brought n rs (s .2), s .3, s .4)) e ∙ ap (seenIn records) home
+at-home n rs does p home r zs ws fs e = ap (λ (s : SeenIn numbers). (s .0, s .1, s .2, brought n rs (s .3), s .4, s .5)) e ∙ ap (seenIn records) home

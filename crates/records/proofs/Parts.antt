@@ -7,7 +7,7 @@ use Rattle.gate.specs.Promise.{Seen}
 
 -- what a caller sees, with the numbers past place k behind those of the guests
 abbrev behind : ℕ → List ℕ → Seen → Seen
-behind k xs s = (s .0, s .1, s .2 ++ drop k xs, s .3, s .4)
+behind k xs s = (s .0, s .1, s .2, s .3 ++ drop k xs, s .4, s .5)
 
 pub in-part : (k : ℕ) (xs : List ℕ) (s t : Seen) → s ≡ t → behind k xs s ≡ behind k xs t
 in-part k xs s t e = ap (behind k xs) e

@@ -3,15 +3,15 @@ use mathlib.Core.Path.{_≡_, refl, sym, ap, _∙_}
 use mathlib.Core.Bool.{Bool, true, false, not, true≢false, false≢true}
 use mathlib.Core.List.{List, [], _∷_, _++_, map}
 use mathlib.Core.Logic.{_⊎_, inl, inr, ⊎-elim}
-use Prim.Native.Nat.{ℕ, zero, suc, min, _+_, _-_, _≤_, _<_}
+use Prim.Native.Nat.{ℕ, zero, suc, _+_, _-_, _≤_, _<_}
 use native.Mathlib.Omega.{arith}
 use native.Mathlib.Nat.{zero-add}
 use lib.Dec.{leb, eqb}
-use lib.ListN.{length, getD, take, drop, length-append, length-map, List·getD-append, List·getD-map}
+use lib.ListN.{length, getD, take, drop, length-append, List·getD-append}
 use lib.Seq.{ext-getD, getD-at, getD-set-same, getD-set-other, split-at}
 use borrow.Author.Tests.{leb-true, leb-false, le-leb, eqb-true, eqb-false, not-true, not-false}
-use Rattle.lists.specs.Words.{if_then_else_, all, empty, lowest, without}
-use Rattle.lists.specs.WordsLaws.{both, all-at, places-all, all-filter, none-left, getD-each}
+use Rattle.lists.specs.Words.{if_then_else_, all, empty, without}
+use Rattle.lists.specs.WordsLaws.{both, all-at, places-all, all-filter, none-left, getD-each, lowest-of, lowest-under}
 use Rattle.lists.specs.Tab.{removeAt, lt-or-le}
 use Rattle.rules.specs.Tables.{Guest, Request, Flight, Table, reserved, limited, rspacing, lspacing, sspacing, nobodys, owner, of, mine, idle, name, same}
 use Rattle.rules.specs.Sound.{kept, sound}
@@ -26,7 +26,7 @@ use Rattle.rules.proofs.Conditions.{same-is}
 use Rattle.rules.proofs.Chains.{kept-above}
 use Rattle.rules.proofs.SameSettings.{same-count, same-owner, adjusted-settings, enter-settings}
 use Rattle.rules.proofs.Facts.{Sound, orderly-is, is-sound}
-use Rattle.rules.proofs.ArriveSound.{smallest-all, adjusted-length, adjusted-owner}
+use Rattle.rules.proofs.ArriveSound.{adjusted-length, adjusted-owner}
 use Rattle.rules.proofs.EnterSound.{accepted-finds, enter-time}
 use Rattle.rules.proofs.StepSound.{accepted-step}
 use Rattle.rules.proofs.Chosen.{chosen-once, step-chosen}
@@ -56,18 +56,6 @@ taken-is zero [] = refl
 taken-is (suc i) [] = refl
 taken-is zero (x ∷ l) = refl
 taken-is (suc i) (x ∷ l) = ap (x ∷_) (taken-is i l)
-
--- the smallest number of a list stands at a place
-lowest-at : (l : List ℕ) → 0 < length l → (i : ℕ) × (i < length l) × (getD l i 0 ≡ lowest l)
-unfolding lowest
-lowest-at [] h = absurd (omega arith)
-lowest-at (x ∷ []) h = (0, omega arith, refl)
-lowest-at (x ∷ y ∷ l) h = go (leb x (lowest (y ∷ l))) refl (lowest-at (y ∷ l) (omega arith))
-  where
-    go : (b : Bool) → leb x (lowest (y ∷ l)) ≡ b → (i : ℕ) × (i < length (y ∷ l)) × (getD (y ∷ l) i 0 ≡ lowest (y ∷ l))
-        → (i : ℕ) × (i < length (x ∷ y ∷ l)) × (getD (x ∷ y ∷ l) i 0 ≡ min x (lowest (y ∷ l)))
-    go true e (i, h, n) = (0, omega arith, omega (arith, leb-true x (lowest (y ∷ l)) e))
-    go false e (i, h, n) = (suc i, omega arith, omega (arith, leb-false x (lowest (y ∷ l)) e))
 
 -- IDLE AND BUSY, and the smallest share tag
 
@@ -106,13 +94,8 @@ module _ (t : Table) where
   -- where something waits there is a smallest share tag
   smallest-is : 0 < length (t .waiting) → Smallest t (smallest t)
   smallest-is h =
-      let (i, k, e) = lowest-at (map Request.stag (t .waiting)) (rw (length-map (t .waiting) Request.stag) h) in
-      record {
-        place = i;
-        inside = rw (length-map (t .waiting) Request.stag) at k;
-        its-tag = sym (List·getD-map Request.stag (t .waiting) i blank) ∙ e;
-        none-smaller = λ j l. leb-true (smallest t) ((at (t .waiting) j) .stag) (all-at (λ q. leb (smallest t) (q .stag)) (t .waiting) blank (smallest-all t) j l);
-      }
+      let (i, k, e) = lowest-of Request.stag (t .waiting) blank h in
+      record { place = i; inside = k; its-tag = e; none-smaller = λ j l. lowest-under Request.stag (t .waiting) blank j l }
 
   -- and only one number is that
   smallest-once : (m n : ℕ) → Smallest t m → Smallest t n → m ≡ n

@@ -1,13 +1,16 @@
 -- More readings, as one table under a single statement: document 01's unmarked ones, and small runs that shut out its plausible errors.
 -- Assumes nothing.
 use mathlib.Core.Path.{_≡_, refl}
-use mathlib.Core.List.{List, [], _∷_}
+use mathlib.Core.List.{List, [], _∷_, map}
 use Prim.Native.Nat.{ℕ, suc}
 use lib.ListN.{replicate}
 use Rattle.rules.specs.Numbers.{ceiling}
 use Rattle.rules.specs.Tables.{Settings, Guest, Request, Table}
 use Rattle.rules.specs.Events.{Event, Arrival, Tick}
+use Rattle.rules.specs.Answers.{hour}
 use Rattle.rules.specs.Run.{fresh}
+use Rattle.rules.specs.Waking.{readyAt, wake, wakes}
+use Rattle.rules.proofs.Readings.{one, ten}
 use Rattle.rules.proofs.Trials.{ms, settings, comes, ends, three, -, R, W, X, lines, waitingAfter, guestsAfter, flightAfter, named}
 
 -- a guest without reservation or limit, with shares 1: its spacing is a second
@@ -58,6 +61,10 @@ flown = comes 0 7 0 ∷ comes 1 5 0 ∷ comes 0 6 0 ∷ comes 1 9 0 ∷ ends 1 5
 abbrev third : Table
 third = gate (settings 3 3 3 ∷ [])
 
+-- the times to wake that the outcomes of a run carry
+abbrev wakings : Table → List Event → List (List ℕ)
+wakings t es = map hour (wakes t es)
+
 -- the readings
 pub record Guards : Type 0 where
   -- "Time 2^62 − 1 is accepted, 2^62 is refused 5."
@@ -103,10 +110,17 @@ pub record Guards : Type 0 where
   pub thirds-reserved : waitingAfter Request.rtag third (three []) ≡ 333333333 ∷ 666666666 ∷ []
   pub thirds-limited : waitingAfter Request.ltag third (three []) ≡ 333333334 ∷ 666666668 ∷ []
   pub thirds-shared : waitingAfter Request.stag third (three []) ≡ 333333333 ∷ 666666666 ∷ []
+  -- when to wake after each event of the example: at the limit tag; after the drops of two weight sends at the reservation tag, which is then the earlier; at
+  -- none where nothing waits; and 0 in a refusal
+  pub ten-wakes :
+      wakings one ten ≡ [] ∷ (ms 4 ∷ []) ∷ (ms 4 ∷ []) ∷ (ms 4 ∷ []) ∷ (ms 8 ∷ []) ∷ (ms 10 ∷ []) ∷ [] ∷ (0 ∷ []) ∷ [] ∷ (0 ∷ []) ∷ []
+  -- at once where a tick came late and more than one is due, and at none where no place is free
+  pub late-wakes : wakings one (three (Tick (ms 20) ∷ [])) ≡ [] ∷ (ms 4 ∷ []) ∷ (ms 4 ∷ []) ∷ (ms 20 ∷ []) ∷ []
+  pub full-wakes : wakings (gate (free ∷ [])) (three []) ≡ [] ∷ [] ∷ [] ∷ []
 
 -- they all hold
 pub guards : Guards
-unfolding lines
+unfolding lines readyAt wake wakes
 guards =
     record {
       last-time = refl;
@@ -133,4 +147,7 @@ guards =
       thirds-reserved = refl;
       thirds-limited = refl;
       thirds-shared = refl;
+      ten-wakes = refl;
+      late-wakes = refl;
+      full-wakes = refl;
     }

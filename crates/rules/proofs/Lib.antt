@@ -20,6 +20,7 @@ pub mod Firsts
 pub mod Picks
 pub mod Drops
 pub mod ChoiceSound
+pub mod ChoiceNames
 pub mod ArriveSound
 pub mod EnterSound
 pub mod StepSound
@@ -36,3 +37,4 @@ pub mod Guards
 pub mod InFlight
 pub mod Arrived
 pub mod Soundness
+pub mod WakeFits

@@ -8,6 +8,8 @@ use Rattle.rules.specs.declared.Refusal.{Refusal}
 use Rattle.rules.specs.declared.Refusal.the-variants.{BadSetting, ShortTable, Unsound, UnknownGuest, TimeAboveCeiling, TimeBeforeLast, IdInUse, NoRoom, TagAboveCeiling, NotInFlight, BadMark, BadVersion, HeaderCut, BadEvent, EventCut}
 use Rattle.rules.specs.declared.Answer.{Answer}
 use Rattle.rules.specs.declared.Answer.the-variants.{Nothing, Sent, Refused}
+use Rattle.rules.specs.declared.Wake.{Wake}
+use Rattle.rules.specs.declared.Wake.the-variants.{At, Never}
 
 -- the number of a refusal, from the paper's table
 abbrev pub numberOf : Refusal → ℕ
@@ -48,3 +50,8 @@ abbrev pub taken : Answer → Bool
 taken Nothing = true
 taken (Sent p g i) = true
 taken (Refused r) = false
+
+-- what is shown of a time to wake: the time, or no number where there is none
+abbrev pub hour : Wake → List ℕ
+hour (At n) = n ∷ []
+hour Never = []

@@ -7,6 +7,8 @@ pub mod Choice
 pub mod Answers
 pub mod Refusals
 pub mod Run
+-- Document 02, K2, as a definition that computes.
+pub mod Waking
 -- What the theorems say of them, in facts that compute nothing.
 pub mod Chosen
 pub mod Arrived
@@ -14,3 +16,4 @@ pub mod Refused
 pub mod Order
 pub mod Turn
 pub mod TurnAt
+pub mod Woken

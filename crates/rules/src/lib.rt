@@ -83,10 +83,17 @@ pub enum Answer {
     Refused(Refusal),
 }
 
-// The gate after a call, and the call's answer.
+// When a tick alone would next send something: at a time, or at none as the tables stand.
+pub enum Wake {
+    At(u64),
+    Never,
+}
+
+// The gate after a call, the call's answer, and when to wake the gate by a tick.
 pub struct Outcome {
     pub gate: Gate,
     pub answer: Answer,
+    pub wake: Wake,
 }
 
 // The paper's number of a refusal.

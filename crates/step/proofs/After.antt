@@ -14,12 +14,13 @@ use Rattle.rules.specs.Run.{step}
 use Rattle.rules.proofs.SameSettings.{SameSettings, choice-settings, step-settings}
 use Rattle.rules.proofs.Facts.{sound-is, is-sound}
 use Rattle.rules.proofs.ChoiceSound.{choice-sound}
+use Rattle.rules.proofs.ChoiceNames.{choice-all}
 use Rattle.rules.proofs.StepSound.{accepted-step, refused-keeps, step-sound}
 use Rattle.rules.specs.declared.Gate.{Gate}
 use Rattle.table.specs.View.{tableOf, Handed, handed, identified, Known}
 use Rattle.table.specs.Does.{does}
 use Rattle.table.proofs.Lens.{written-shown, written-known, known-room}
-use Rattle.enter.proofs.Ids.{Brings, choice-all, enter-all}
+use Rattle.enter.proofs.Ids.{Brings, enter-all}
 use Rattle.enter.proofs.Entering.{narrow}
 
 -- what a call handed back is known

@@ -18,7 +18,8 @@ use Rattle.rules.specs.declared.Gate.{Gate}
 use Rattle.rules.specs.declared.Refusal.{Refusal}
 use Rattle.rules.specs.declared.Outcome.{Outcome}
 use Rattle.rules.specs.declared.Answer.the-variants.{Refused}
-use Rattle.table.specs.View.{outcomeOf, tableOf, Handed, handed, Known}
+use Rattle.rules.specs.Waking.{unsaid}
+use Rattle.table.specs.View.{tableOf, Handed, handed, Known}
 use Rattle.table.specs.Does.{Lent, written, does, refusing}
 use Rattle.table.proofs.Lens.{Room, written-shown, handed-again, known-room, known-written, handed-written}
 use Rattle.step.proofs.After.{KnownAfter, choice-known}
@@ -31,9 +32,9 @@ module _ (g : Gate) (gs ws fs : List ℕ) (k : Known g gs ws fs) (e : Event) whe
   t = tableOf g gs ws fs
 
   -- a refusal leaves the gate and every lent number
-  pub refused-same : (r : Refusal) → verdict t e ≡ refuse r → (outcomeOf g (Refused r), gs, ws, fs) ≡ does (λ t. step t e) g gs ws fs
+  pub refused-same : (r : Refusal) → verdict t e ≡ refuse r → (refusing r g, gs, ws, fs) ≡ does (λ t. step t e) g gs ws fs
   unfolding step decided
-  refused-same r v = rw v (handed-written gs ws fs g gs ws fs (record { table = t; answer = Refused r }) (Refused r) (known-written g gs ws fs k) refl)
+  refused-same r v = rw v (handed-written gs ws fs g gs ws fs (record { table = t; answer = Refused r }) (Refused r) unsaid (known-written g gs ws fs k) refl refl)
 
   -- what the event came to, and the numbers after it
   module _ (x : Entered) (hs vs es : List ℕ) (c : Enters e g gs ws fs x hs vs es) where

@@ -14,6 +14,8 @@ use Rattle.rules.proofs.Facts.{sound-is}
 use Rattle.rules.proofs.SameSettings.{SameSettings, same-count}
 use Rattle.rules.specs.declared.Gate.{Gate}
 use Rattle.rules.specs.declared.Answer.{Answer}
+use Rattle.rules.specs.declared.Wake.{Wake}
+use Rattle.rules.specs.Waking.{told}
 use Rattle.table.specs.View.{gateAt, outcomeOf, guestForm, requestForm, flightForm, guestsOf, tableOf, gateOf, handed, identified, Known}
 use Rattle.table.specs.Does.{written}
 use Rattle.table.specs.ViewLaws.{guest-exact, request-exact, flight-exact}
@@ -70,7 +72,7 @@ module _ (gs ws fs : List ℕ) (u : Table) (room : Room gs ws fs u) (firm : soun
       rw (c .setup) (over-twice requestForm request-exact (u .setup .capacity) (r .table .waiting) (u .waiting) ws (room .waiting)) in
       let pf : overRows flightForm (r .table .setup .depth) (r .table .flight) es ≡ overRows flightForm (r .table .setup .depth) (r .table .flight) fs =
       rw (c .setup) (over-twice flightForm flight-exact (u .setup .depth) (r .table .flight) (u .flight) fs (room .flight)) in
-      λ i. (outcomeOf (gateOf (r .table)) (r .answer), pg i, pw i, pf i)
+      λ i. (outcomeOf (gateOf (r .table)) (r .answer) (told r), pg i, pw i, pf i)
 
 module _ (g : Gate) (gs ws fs : List ℕ) (k : Known g gs ws fs) where
   abbrev t : Table
@@ -96,8 +98,8 @@ module _ (g : Gate) (gs ws fs : List ℕ) (k : Known g gs ws fs) where
       let pf = over-same flightForm flight-exact (g .setup .depth) (g .flight) fs (k .whole .flightUnused) in
       sym (λ i. (gateAt (g .setup) (eg i) (g .time) (ew i) (ef i), pg i, pw i, pf i))
 
--- the numbers that show a table, and an answer, are what is handed back
-pub handed-written : (gs ws fs : List ℕ) (g : Gate) (hs vs es : List ℕ) (r : Result) (a : Answer) → (g, hs, vs, es) ≡ written gs ws fs (r .table) → a ≡ r .answer
-    → (outcomeOf g a, hs, vs, es) ≡ handed gs ws fs r
+-- the numbers that show a table, an answer, and the time to wake, are what is handed back
+pub handed-written : (gs ws fs : List ℕ) (g : Gate) (hs vs es : List ℕ) (r : Result) (a : Answer) (w : Wake) → (g, hs, vs, es) ≡ written gs ws fs (r .table) → a ≡ r .answer → w ≡ told r
+    → (outcomeOf g a w, hs, vs, es) ≡ handed gs ws fs r
 unfolding handed
-handed-written gs ws fs g hs vs es r a p q = λ i. (outcomeOf (p i .0) (q i), p i .1, p i .2, p i .3)
+handed-written gs ws fs g hs vs es r a w p q o = λ i. (outcomeOf (p i .0) (q i) (o i), p i .1, p i .2, p i .3)

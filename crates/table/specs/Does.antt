@@ -1,5 +1,6 @@
 -- What a call over lent numbers hands back: a function of the table that they show, written over them.
 use Prim.Native.Nat.{ℕ, _+_, _-_}
+use mathlib.Core.Path.{_≡_}
 use mathlib.Core.List.{List}
 use lib.ListN.{length}
 use Rattle.lists.specs.Rows.{overRows}
@@ -10,7 +11,9 @@ use Rattle.rules.specs.declared.Phase.{Phase}
 use Rattle.rules.specs.declared.Refusal.{Refusal}
 use Rattle.rules.specs.declared.Answer.the-variants.{Sent, Refused}
 use Rattle.rules.specs.declared.Outcome.{Outcome}
-use Rattle.table.specs.View.{gateAt, outcomeOf, guestForm, requestForm, flightForm, tableOf, gateOf, Handed, handed}
+use Rattle.rules.specs.Waking.{unsaid}
+use Rattle.table.specs.declared.gates.Decision.{Decision}
+use Rattle.table.specs.View.{gateAt, decisionOf, outcomeOf, guestForm, requestForm, flightForm, tableOf, gateOf, Handed, handed}
 
 -- a gate and the three tables
 abbrev pub Lent : Type 0
@@ -28,6 +31,11 @@ written gs ws fs u = (
 -- what a call that does f to the table hands back
 abbrev pub does : (Table → Result) → Gate → (gs ws fs : List ℕ) → Handed
 does f g gs ws fs = handed gs ws fs (f (tableOf g gs ws fs))
+
+-- what a choice that does f to the table leaves: the decision d, and the numbers hs, vs and es
+pub record Leaves (f : Table → Result) (g : Gate) (gs ws fs : List ℕ) (d : Decision) (hs vs es : List ℕ) : Type 0 where
+  pub shows : (d .gate, hs, vs, es) ≡ written gs ws fs (f (tableOf g gs ws fs) .table)
+  pub answers : d .answer ≡ f (tableOf g gs ws fs) .answer
 
 -- the weight phase
 abbrev pub weightPhase : Table → Result
@@ -55,8 +63,8 @@ placedGate now g = gateAt (g .setup) (g .guests) now (g .waiting + 1) (g .flight
 
 -- a refusal, the gate as it stood
 abbrev pub refusing : Refusal → Gate → Outcome
-refusing why g = outcomeOf g (Refused why)
+refusing why g = outcomeOf g (Refused why) unsaid
 
 -- a send, the gate after it
-abbrev pub sending : Phase → (guest id : ℕ) → Gate → Outcome
-sending phase n i g = outcomeOf (sentGate g) (Sent phase n i)
+abbrev pub sending : Phase → (guest id : ℕ) → Gate → Decision
+sending phase n i g = decisionOf (sentGate g) (Sent phase n i)

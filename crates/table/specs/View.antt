@@ -16,7 +16,10 @@ use Rattle.rules.specs.Sound.{counted, sound}
 use Rattle.rules.specs.Choice.{Result}
 use Rattle.rules.specs.declared.Gate.{Gate}
 use Rattle.rules.specs.declared.Answer.{Answer}
+use Rattle.rules.specs.declared.Wake.{Wake}
 use Rattle.rules.specs.declared.Outcome.{Outcome}
+use Rattle.rules.specs.Waking.{told}
+use Rattle.table.specs.declared.gates.Decision.{Decision}
 use Rattle.table.specs.Columns.{RESERVATION, LIMIT, SHARES, RNEXT, LNEXT, SNEXT, GUEST, ID, RTAG, LTAG, STAG, guestWide, settingsWide, waitingWide, flightWide}
 
 -- a guest's settings as numbers
@@ -89,18 +92,22 @@ gateAt s n time w f = record { setup = s; guests = n; time = time; waiting = w; 
 abbrev pub gateOf : Table → Gate
 gateOf t = gateAt (t .setup) (length (t .guests)) (t .time) (length (t .waiting)) (length (t .flight))
 
--- the outcome of a call: the gate after it, and its answer
-abbrev pub outcomeOf : Gate → Answer → Outcome
-outcomeOf g a = record { gate = g; answer = a }
+-- what the choice comes to: the gate after it, and its answer
+abbrev pub decisionOf : Gate → Answer → Decision
+decisionOf g a = record { gate = g; answer = a }
+
+-- the outcome of a call: the gate after it, its answer, and when to wake the gate
+abbrev pub outcomeOf : Gate → Answer → Wake → Outcome
+outcomeOf g a w = record { gate = g; answer = a; wake = w }
 
 -- an outcome and the three lent tables as a call hands them back
 abbrev pub Handed : Type 0
 Handed = Outcome × List ℕ × List ℕ × List ℕ
 
--- THE WAY BACK: a table and an answer written over what was lent; places beyond what the settings need stay as they were
+-- THE WAY BACK: a table and an answer written over what was lent, with the time to wake; places beyond what the settings need stay as they were
 unfoldable pub handed : (gs ws fs : List ℕ) → Result → Handed
 handed gs ws fs r = (
-  outcomeOf (gateOf (r .table)) (r .answer),
+  outcomeOf (gateOf (r .table)) (r .answer) (told r),
   overRows guestForm (length (r .table .guests)) (r .table .guests) gs,
   overRows requestForm (r .table .setup .capacity) (r .table .waiting) ws,
   overRows flightForm (r .table .setup .depth) (r .table .flight) fs,

@@ -1,15 +1,16 @@
-// The gate after each kind of move, and the outcomes of a refusal and of a send. A gate is made from its parts in one place, and so is an
-// outcome. No table is touched here.
+// The gate after each kind of move, the decision of a send, and the outcome of a refusal. A gate is made from its parts in one place, and so are
+// a decision and an outcome. No table is touched here.
 use rules::Answer;
 use rules::Gate;
 use rules::Outcome;
 use rules::Phase;
 use rules::Refusal;
 use rules::Setup;
+use rules::Wake;
 ghost use mathlib.Core.Path.{_≡_};
 ghost use Prim.Native.Nat.{_≤_, _<_};
 ghost use Rattle.table.specs.Columns.{mostDepth, mostCapacity};
-ghost use Rattle.table.specs.View.{gateAt, outcomeOf};
+ghost use Rattle.table.specs.View.{gateAt, decisionOf, outcomeOf};
 ghost use Rattle.table.specs.Does.{timedGate, freedGate, placedGate, refusing, sending};
 
 // The gate of these settings at a time, with so many waiting and so many in flight.
@@ -25,25 +26,42 @@ pub fn gate_at(setup: Setup, guests: u64, time: u64, waiting: u64, flight: u64) 
     }
 }
 
-// The outcome of a call: the gate after it, and its answer.
-pub fn answered(gate: Gate, answer: Answer) -> Outcome
-    ensures { λ r. ⌜ r ≡ outcomeOf gate answer ⌝ }
+// What the choice comes to: the gate after it, and its answer. When to wake the gate is found last, in the tables that it leaves.
+pub struct Decision {
+    pub gate: Gate,
+    pub answer: Answer,
+}
+
+// The decision of these parts.
+pub fn decided(gate: Gate, answer: Answer) -> Decision
+    ensures { λ r. ⌜ r ≡ decisionOf gate answer ⌝ }
 {
-    Outcome {
+    Decision {
         gate: gate,
         answer: answer,
     }
 }
 
-// A refusal leaves the gate as it stood.
+// The outcome of a call: the gate after it, its answer, and when to wake the gate.
+pub fn answered(gate: Gate, answer: Answer, wake: Wake) -> Outcome
+    ensures { λ r. ⌜ r ≡ outcomeOf gate answer wake ⌝ }
+{
+    Outcome {
+        gate: gate,
+        answer: answer,
+        wake: wake,
+    }
+}
+
+// A refusal leaves the gate as it stood, and carries no time to wake: 0 stands in its place.
 pub fn refused(gate: Gate, why: Refusal) -> Outcome
     ensures { λ r. ⌜ r ≡ refusing why gate ⌝ }
 {
-    answered(gate, Answer::Refused(why))
+    answered(gate, Answer::Refused(why), Wake::At(0))
 }
 
 // A request of `guest` with this id went from the waiting to the array.
-pub fn sent(gate: Gate, phase: Phase, guest: u64, id: u32) -> Outcome
+pub fn sent(gate: Gate, phase: Phase, guest: u64, id: u32) -> Decision
     requires { ⌜ (0 < gate .waiting) × (gate .flight < gate .setup .depth) × (gate .setup .depth ≤ mostDepth) ⌝ }
     ensures { λ r. ⌜ r ≡ sending phase guest id gate ⌝ }
 {
@@ -55,7 +73,7 @@ pub fn sent(gate: Gate, phase: Phase, guest: u64, id: u32) -> Outcome
         gate.waiting - 1,
         gate.flight + 1,
     );
-    answered(
+    decided(
         after,
         Answer::Sent {
             phase: phase,

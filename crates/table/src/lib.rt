@@ -3,4 +3,4 @@
 pub mod columns; // where each number stands in its row, how wide rows are, and how many there are at most
 pub mod ranges; // counts and settings in range, on plain numbers
 pub mod numbers; // spacings and tags, on plain numbers
-pub mod gates; // a gate and an outcome from their parts
+pub mod gates; // a gate, a decision and an outcome from their parts

@@ -37,15 +37,15 @@ module _ (ws : List ℕ) where
   stood-later i g s = record { place = s .place; before = omega (arith, s .before); own = s .own }
 
   -- nobody is marked at first
-  marks-start : Marks ws 0 (replicate mostGuests 0)
+  pub marks-start : Marks ws 0 (replicate mostGuests 0)
   marks-start = record { long = length-replicate {A = ℕ} mostGuests 0; stood = λ g h marked. absurd (marked (getD-replicate {A = ℕ} mostGuests g 0 0 h)) }
 
   -- row i is passed over
-  marks-later : (i : ℕ) (seen : List ℕ) → Marks ws i seen → Marks ws (i + 1) seen
+  pub marks-later : (i : ℕ) (seen : List ℕ) → Marks ws i seen → Marks ws (i + 1) seen
   marks-later i seen m = record { long = m .long; stood = λ g h marked. stood-later i g (m .stood g h marked) }
 
   -- the guest of row i is marked
-  marks-mark : (i : ℕ) (seen : List ℕ) → Marks ws i seen → Marks ws (i + 1) (set seen (waitingAt ws i GUEST) 1)
+  pub marks-mark : (i : ℕ) (seen : List ℕ) → Marks ws i seen → Marks ws (i + 1) (set seen (waitingAt ws i GUEST) 1)
   marks-mark i seen m =
       record {
         long = length-set seen (waitingAt ws i GUEST) 1 ∙ m .long;

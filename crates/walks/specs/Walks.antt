@@ -1,5 +1,5 @@
 -- What the walks over the lent rows answer: the place of the request that the choice picks, and the place of a name in flight.
-use Prim.Native.Nat.{ℕ, _≤_, _<_, _/_}
+use Prim.Native.Nat.{ℕ, _≤_, _<_, _/_, min}
 use mathlib.Core.Path.{_≡_}
 use mathlib.Core.Bool.{Bool, true, false}
 use mathlib.Core.List.{List}
@@ -8,7 +8,8 @@ use lib.ListN.{length}
 use Rattle.lists.specs.Words.{if_then_else_, without}
 use Rattle.lists.specs.Tab.{removeAt}
 use Rattle.rules.specs.Numbers.{ceiling}
-use Rattle.rules.specs.Tables.{Request, same, lacks}
+use Rattle.rules.specs.Tables.{Request, settingsOf, same, lacks}
+use Rattle.rules.specs.declared.Guest.{Guest}
 use Rattle.rules.specs.declared.Flight.{Flight}
 use Rattle.rules.specs.Choice.{Pick, nobody, picked, least}
 use Rattle.rules.specs.Chosen.{at}
@@ -28,6 +29,18 @@ Rising ws count = (j k : ℕ) → j < k → k < count → waitingAt ws j GUEST �
 -- every share tag is at most the ceiling
 abbrev pub SharesFit : List ℕ → (count : ℕ) → Type 0
 SharesFit ws count = (k : ℕ) → k < count → waitingAt ws k STAG ≤ ceiling
+
+-- every limit tag is at most the ceiling
+abbrev pub LimitsFit : List ℕ → (count : ℕ) → Type 0
+LimitsFit ws count = (k : ℕ) → k < count → waitingAt ws k LTAG ≤ ceiling
+
+-- the time from which a request could go, by its guest's reservation and its tags, where an unlimited guest's limit tags are 0
+unfoldable pub readyBy : (reservation rtag ltag : ℕ) → ℕ
+readyBy r a l = if ltb 0 r then min l a else l
+
+-- the same, with the settings of its guest among these
+abbrev pub readyByTag : List Guest → Request → ℕ
+readyByTag gs q = readyBy (settingsOf gs q .reservation) (q .rtag) (q .ltag)
 
 -- the place of the row whose numbers begin at `at`, or none where the rows that are used end before it
 unfoldable pub placeIn : (at used : ℕ) → Found

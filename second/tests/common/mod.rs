@@ -3,7 +3,7 @@
 
 use second::sample::Owned;
 use second::tables::{FLIGHT_NUMBERS, GATE_NUMBERS, GUEST_NUMBERS, WAITING_NUMBERS};
-use second::{open, Answer, Phase, Settings, State, Tables};
+use second::{open, Answer, Phase, Reply, Settings, State, Tables};
 
 pub const MS: u64 = 1_000_000;
 
@@ -77,8 +77,8 @@ pub fn opened(depth: u64, capacity: u64, settings: &[Settings]) -> Owned {
         .iter()
         .flat_map(|s| [s.reservation, s.limit, s.shares])
         .collect();
-    let answer = open(depth, guests as u64, capacity, &list, &mut owned.lend());
-    assert_eq!(answer, Answer::Nothing);
+    let reply = open(depth, guests as u64, capacity, &list, &mut owned.lend());
+    assert_eq!(reply.answer, Answer::Nothing);
     owned
 }
 
@@ -89,7 +89,12 @@ pub enum Call {
     Tick(u64),
 }
 
+/// The answer to a call, for tests that do not look at the time to wake.
 pub fn call(lent: &mut Tables, call: Call) -> Answer {
+    reply(lent, call).answer
+}
+
+pub fn reply(lent: &mut Tables, call: Call) -> Reply {
     match call {
         Call::Arrive(guest, id, time) => second::arrive(lent, guest, id, time),
         Call::Complete(guest, id, time) => second::complete(lent, guest, id, time),

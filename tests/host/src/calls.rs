@@ -3,7 +3,7 @@
 use crate::fence::Fenced;
 use second::calls::table_refusal;
 use second::sample::Owned;
-use second::{first_broken, Answer, Phase, Rule};
+use second::{first_broken, Answer, Phase, Reply, Rule};
 use sgq::raw;
 
 #[derive(Clone, Debug)]
@@ -123,9 +123,9 @@ fn of_second(call: &Call, tables: &mut Owned) -> raw::Answer {
     })
 }
 
-/// The second program's answer as the C interface gives it.
-fn in_numbers(answer: Answer) -> raw::Answer {
-    let (kind, guest, id, refusal) = match answer {
+/// The second program's reply as the C interface gives it.
+fn in_numbers(reply: Reply) -> raw::Answer {
+    let (kind, guest, id, refusal) = match reply.answer {
         Answer::Nothing => (raw::NOTHING, 0, 0, 0),
         Answer::Sent { phase, guest, id } => match phase {
             Phase::Reservation => (raw::SENT_BY_RESERVATION, guest, id, 0),
@@ -138,6 +138,7 @@ fn in_numbers(answer: Answer) -> raw::Answer {
         guest,
         id,
         refusal,
+        wake: reply.wake_number(),
     }
 }
 

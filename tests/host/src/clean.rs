@@ -2,13 +2,16 @@
 
 use crate::calls::{hold, Call, Fences, Opening};
 use crate::tally::Seen;
-use second::kinds::trace;
+use second::kinds::{fixed, trace};
 use second::sample::Owned;
 use second::tables::{FLIGHT_NUMBERS, GATE_NUMBERS, GUEST_NUMBERS, WAITING_NUMBERS};
 use second::trace::{Event, EVENT_BYTES, GUEST_BYTES, START_BYTES};
 
 /// Numbers past the need of each table, which must stay as they are.
 const REST: usize = 3;
+
+/// How many requests wait in a fixed trace, where places at the array are free too.
+const WAITING: usize = 1_000;
 
 /// Plays the opening and the first events of a trace; gives the tables then, or what differs first.
 pub fn play(
@@ -18,14 +21,17 @@ pub fn play(
     fences: &mut Fences,
     seen: &mut Seen,
 ) -> Result<Owned, String> {
-    let bytes = trace(kind, seed).ok_or("there is no such kind of trace")?;
+    let bytes = match kind {
+        "fixed" => fixed(WAITING, most as u64),
+        _ => trace(kind, seed).ok_or("there is no such kind of trace")?,
+    };
     let opening = opening(&bytes);
     let events = &bytes[START_BYTES + opening.guests as usize * GUEST_BYTES..];
     let mut tables = dusty(&opening);
     let mut make = |call: &Call, number: usize| {
         let answer =
             hold(call, &mut tables, fences).map_err(|why| format!("event {number}, {why}"))?;
-        seen.note(answer);
+        seen.note(answer, tables.view().gate().time);
         Ok::<(), String>(())
     };
     make(&Call::Open(opening), 0)?;

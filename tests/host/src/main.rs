@@ -23,10 +23,11 @@ const LARGE_SEEDS: usize = 400;
 const LEAST_CALLS: u64 = 20_000;
 
 /// Kinds of traces for clean runs, how many of each, and how many events at most. The large ones come last.
-const RUNS: [(&str, usize, usize); 4] = [
+const RUNS: [(&str, usize, usize); 5] = [
     ("small", 60, 400),
     ("ceiling", 60, 400),
     ("jumps", 30, 400),
+    ("fixed", 1, 2_000),
     ("large", 2, 3_000),
 ];
 
@@ -76,7 +77,9 @@ fn four_calls(
 ) -> Result<(), String> {
     fence::playing(seed);
     for call in damage::calls(rng, tables) {
-        seen.note(hold(&call, &mut tables.clone(), fences)?);
+        let mut tables = tables.clone();
+        let answer = hold(&call, &mut tables, fences)?;
+        seen.note(answer, tables.view().gate().time);
     }
     Ok(())
 }

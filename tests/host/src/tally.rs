@@ -1,6 +1,6 @@
 //! What passed, what failed, and which answers were seen.
 
-use sgq::raw::{Answer, REFUSED};
+use sgq::raw::{Answer, NEVER, REFUSED};
 use sgq::Refusal;
 use std::collections::BTreeMap;
 
@@ -27,19 +27,24 @@ impl Tally {
     }
 }
 
-/// How often each answer was given, by kind, and each refusal, by number.
+/// How often each answer was given, by kind, each refusal, by number, and each time to wake: never, now or later.
 #[derive(Default)]
 pub struct Seen {
     pub calls: u64,
     kinds: [u64; REFUSED as usize],
     refusals: BTreeMap<u64, u64>,
+    wakes: [u64; 3],
 }
 
 impl Seen {
-    pub fn note(&mut self, answer: Answer) {
+    /// An answer, and the gate's time after it.
+    pub fn note(&mut self, answer: Answer, time: u64) {
         self.calls += 1;
         match self.kinds.get_mut(answer.kind as usize) {
-            Some(times) => *times += 1,
+            Some(times) => {
+                *times += 1;
+                self.wakes[when(answer.wake, time)] += 1;
+            }
             None => *self.refusals.entry(answer.refusal).or_default() += 1,
         }
     }
@@ -54,12 +59,18 @@ impl Seen {
         let line = |&refusal: &Refusal| format!("{}: {}", refusal.number(), self.times(refusal));
         let lines: Vec<_> = Refusal::ALL.iter().map(line).collect();
         println!("  refused {}", lines.join(", "));
+        let [never, now, later] = self.wakes;
+        println!("  to wake never {never}, now {now}, later {later}");
     }
 
-    /// Whether an answer of each kind and each refusal was seen.
+    /// Whether an answer of each kind, each refusal and each time to wake was seen.
     pub fn all_seen(&self) -> Result<(), String> {
         if let Some(kind) = self.kinds.iter().position(|&times| times == 0) {
             return Err(format!("no answer was of kind {kind}"));
+        }
+        if let Some(when) = self.wakes.iter().position(|&times| times == 0) {
+            let when = ["never", "now", "later"][when];
+            return Err(format!("no time to wake was {when}"));
         }
         match Refusal::ALL
             .iter()
@@ -68,5 +79,14 @@ impl Seen {
             Some(never) => Err(format!("{} was never given", never.number())),
             None => Ok(()),
         }
+    }
+}
+
+/// The place among the times to wake: never, now or later.
+fn when(wake: u64, time: u64) -> usize {
+    match wake {
+        NEVER => 0,
+        _ if wake <= time => 1,
+        _ => 2,
     }
 }

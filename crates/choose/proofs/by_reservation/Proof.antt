@@ -1,4 +1,3 @@
-use mathlib.Core.Path.{_∙_}
 use native.Mathlib.Omega.{arith}
 use Rattle.choose.proofs.Phases.{line-asks, send-asks, sent-asks}
 use Rattle.choose.proofs.Returns.{narrow-id, due-here, reservation-returns, none-due}
@@ -75,7 +74,7 @@ returns-2 c =
     let s = c .before .before .before .before .before .before .before .before .before .before .before .before .before .before .before .before .before .before in
     let w = c .before .before .before .before .before .before .before .before .before .before .before .before .first-in-line in
     let b = c .before .before .before .before .before .before .by-weight in
-    b .ensures ∙ none-due (s .args .gate) (s .args .guests .now) (s .args .waiting .now) (s .args .flight .now) (s .pre .0) (s .pre .1) (w .result .due) (w .ensures .0) (c .before .before .before .before .before .before .before .before .before .before .enum-told .given .1)
+    none-due (s .args .gate) (s .args .guests .now) (s .args .waiting .now) (s .args .flight .now) (s .pre .0) (s .pre .1) (w .result .due) (w .ensures .0) (c .before .before .before .before .before .before .before .before .before .before .enum-told .given .1) (b .ensures)
 
 pub by-reservation-spec : {M : Type 1} → statement M
 by-reservation-spec =

@@ -1,5 +1,4 @@
 -- `by_weight` meets its contract: what the walk found open goes, and its guest's tags drop. Assumes nothing.
-use mathlib.Core.Path.{_∙_}
 use native.Mathlib.Omega.{arith}
 use Rattle.choose.proofs.Phases.{send-asks, sent-asks}
 use Rattle.choose.proofs.Returns.{narrow-id, open-here, drop-asked, weight-returns, none-open}
@@ -70,14 +69,13 @@ returns c =
     weight-returns (s .args .gate) (s .args .guests .now) (s .args .waiting .now) (s .args .flight .now) (s .pre .0) (s .pre .1 .0) (s .args .found) (f .0 .0) (s .pre .1 .1) (f .1) (n .result) _ _ _ _ _
     (n .ensures .0) (n .ensures .1 .0) (n .ensures .1 .1) (d .ensures .0) (d .ensures .1) (c .sent .ensures)
 
-answered-requires : tie.Need-answered-requires
-answered-requires c κs = search needs
+decided-requires : tie.Need-decided-requires
+decided-requires c κs = search needs
 
 returns-2 : tie.Need-returns-2
 returns-2 c =
     let s = c .before .before .before .before .before .before in
-    (λ i. (c .answered .ensures i, s .args .guests .now, s .args .waiting .now, s .args .flight .now))
-    ∙ none-open (s .args .gate) (s .args .guests .now) (s .args .waiting .now) (s .args .flight .now) (s .pre .0) (s .pre .1 .0) (s .args .found) (s .pre .1 .1) (c .before .enum-told .given .1)
+    none-open (s .args .gate) (s .args .guests .now) (s .args .waiting .now) (s .args .flight .now) (s .pre .0) (s .pre .1 .0) (s .args .found) (s .pre .1 .1) (c .before .enum-told .given .1) _ (c .decided .ensures)
 
 pub by-weight-spec : {M : Type 1} → statement M
 by-weight-spec =
@@ -90,7 +88,7 @@ by-weight-spec =
     drop-tags-requires
     sent-requires
     enum-told
-    answered-requires
+    decided-requires
     same-length
     same-length-2
     same-length-3

@@ -8,8 +8,8 @@ use Rattle.host.proofs.hand_back.Tie as tie
 enum-told : tie.Need-enum-told
 enum-told c = search needs
 
-four-of-requires : tie.Need-four-of-requires
-four-of-requires c κs = search needs
+five-of-requires : tie.Need-five-of-requires
+five-of-requires c κs = search needs
 
 enum-told-2 : tie.Need-enum-told-2
 enum-told-2 c = search needs
@@ -17,8 +17,8 @@ enum-told-2 c = search needs
 gate-over-requires : tie.Need-gate-over-requires
 gate-over-requires c κs = search needs
 
-four-of-requires-2 : tie.Need-four-of-requires-2
-four-of-requires-2 c κs = search needs
+five-of-requires-2 : tie.Need-five-of-requires-2
+five-of-requires-2 c κs = search needs
 
 enum-told-3 : tie.Need-enum-told-3
 enum-told-3 c = search needs
@@ -26,8 +26,8 @@ enum-told-3 c = search needs
 gate-over-requires-2 : tie.Need-gate-over-requires-2
 gate-over-requires-2 c κs = search needs
 
-four-of-requires-3 : tie.Need-four-of-requires-3
-four-of-requires-3 c κs = search needs
+five-of-requires-3 : tie.Need-five-of-requires-3
+five-of-requires-3 c κs = search needs
 
 returns : tie.Need-returns
 returns c = search needs
@@ -35,25 +35,25 @@ returns c = search needs
 returns-2 : tie.Need-returns-2
 returns-2 c =
     let s = c .before .before .before .before .before .before in
-    (c .four-of2 .ensures, c .before .gate-over .ensures ∙ ap (λ (x : Answer). written x (s .args .outcome .gate) (s .args .six .now)) (sym (c .before .before .before .enum-told2 .given .1)))
+    (c .five-of2 .ensures, c .before .gate-over .ensures ∙ ap (λ (x : Answer). written x (s .args .outcome .gate) (s .args .six .now)) (sym (c .before .before .before .enum-told2 .given .1)))
 
 returns-3 : tie.Need-returns-3
 returns-3 c =
     let s = c .before .before .before .before .before .before in
-    (c .four-of3 .ensures, c .before .gate-over2 .ensures ∙ ap (λ (x : Answer). written x (s .args .outcome .gate) (s .args .six .now)) (sym (c .before .before .before .enum-told3 .given .1)))
+    (c .five-of3 .ensures, c .before .gate-over2 .ensures ∙ ap (λ (x : Answer). written x (s .args .outcome .gate) (s .args .six .now)) (sym (c .before .before .before .enum-told3 .given .1)))
 
 pub hand-back-spec : {M : Type 1} → statement M
 hand-back-spec =
     tie.close
     (tie.spec
     enum-told
-    four-of-requires
+    five-of-requires
     enum-told-2
     gate-over-requires
-    four-of-requires-2
+    five-of-requires-2
     enum-told-3
     gate-over-requires-2
-    four-of-requires-3
+    five-of-requires-3
     returns
     returns-2
     returns-3)

@@ -3,7 +3,7 @@ use mathlib.Core.Path.{ap, _∙_}
 use borrow.Author.Needs.{needs}
 use Rattle.rules.specs.declared.Gate.{Gate}
 use Rattle.rules.specs.declared.Answer.the-variants.{Sent}
-use Rattle.table.specs.View.{outcomeOf}
+use Rattle.table.specs.View.{decisionOf}
 use Rattle.table.proofs.gates.sent.Statement.{statement}
 use Rattle.table.proofs.gates.sent.Tie as tie
 
@@ -16,13 +16,13 @@ add-gate-at c = search needs
 gate-at-requires : tie.Need-gate-at-requires
 gate-at-requires c κs = search needs
 
-answered-requires : tie.Need-answered-requires
-answered-requires c κs = search needs
+decided-requires : tie.Need-decided-requires
+decided-requires c κs = search needs
 
 returns : tie.Need-returns
 returns c =
     let a = c .before .before .before .before .before .args in
-    c .answered .ensures ∙ ap (λ (g : Gate). outcomeOf g (Sent (a .phase) (a .guest) (a .id))) (c .before .gate-at .ensures)
+    c .decided .ensures ∙ ap (λ (g : Gate). decisionOf g (Sent (a .phase) (a .guest) (a .id))) (c .before .gate-at .ensures)
 
 pub sent-spec : {M : Type 1} → statement M
-sent-spec = tie.close (tie.spec sub-gate-at add-gate-at gate-at-requires answered-requires returns)
+sent-spec = tie.close (tie.spec sub-gate-at add-gate-at gate-at-requires decided-requires returns)

@@ -1,0 +1,136 @@
+-- When to wake the gate, from what the walk finds; and the tables that the choice leaves are known, so that it may be asked of them. Assumes nothing.
+use Prim.Native.Nat.{ℕ, _*_, _≤_, _<_, max, min}
+use mathlib.Core.Path.{_≡_, refl, sym, ap, _∙_, subst}
+use mathlib.Core.Bool.{Bool, true, false, not, _&&_}
+use mathlib.Core.List.{List, [], _∷_, map}
+use native.Mathlib.Omega.{arith}
+use lib.Dec.{ltb}
+use lib.ListN.{length}
+use borrow.Author.Tests.{lt-ltb, le-ltb}
+use Rattle.lists.specs.Words.{if_then_else_, empty, lowest}
+use Rattle.lists.specs.WordsLaws.{map-places}
+use Rattle.lists.specs.RowsLaws.{length-rows}
+use Rattle.rules.specs.Numbers.{ceiling}
+use Rattle.rules.specs.Tables.{Request, Table, reserved, limited, settingsOf}
+use Rattle.rules.specs.declared.Settings.{Settings}
+use Rattle.rules.specs.Sound.{sound}
+use Rattle.rules.specs.Choice.{Result, room, choice}
+use Rattle.rules.specs.Chosen.{blank, at}
+use Rattle.rules.specs.Waking.{readyAt, readyIn, wake, told}
+use Rattle.rules.proofs.SameSettings.{choice-settings}
+use Rattle.rules.proofs.Facts.{sound-is, is-sound}
+use Rattle.rules.proofs.Chosen.{chosen}
+use Rattle.rules.proofs.ChoiceSound.{choice-sound}
+use Rattle.rules.proofs.ChoiceNames.{choice-all}
+use Rattle.rules.proofs.WakeFits.{told-chosen}
+use Rattle.rules.specs.declared.Gate.{Gate}
+use Rattle.rules.specs.declared.Answer.the-variants.{Nothing}
+use Rattle.rules.specs.declared.Wake.{Wake}
+use Rattle.rules.specs.declared.Wake.the-variants.{At, Never}
+use Rattle.rules.specs.declared.Outcome.{Outcome}
+use Rattle.table.specs.Columns.{guestWide, waitingWide, mostGuests, mostCapacity}
+use Rattle.table.specs.declared.gates.Decision.{Decision}
+use Rattle.table.specs.View.{outcomeOf, requestForm, flightForm, guestsOf, waitingOf, tableOf, handed, Known}
+use Rattle.table.specs.Does.{Lent, written, does, Leaves, reservationPhase}
+use Rattle.table.proofs.Lens.{Room, written-shown, written-known, known-room, known-written, handed-written}
+use Rattle.table.proofs.Facts.{facts, row-is}
+use Rattle.walks.specs.Walks.{Owned, Rising, LimitsFit, readyBy, readyByTag}
+use Rattle.choose.proofs.Phases.{line-asks, limit-zero}
+
+-- where an unlimited guest's limit tags are 0, the limit is told by the tag
+ready-by-tag : (s : Settings) (q : Request) → (limited s ≡ false → q .ltag ≡ 0) → readyBy (s .reservation) (q .rtag) (q .ltag) ≡ readyAt s q
+unfolding readyAt readyBy
+ready-by-tag s q zero = go (limited s) refl (reserved s)
+  where
+    go : (l : Bool) → limited s ≡ l → (r : Bool) → (if r then min (q .ltag) (q .rtag) else q .ltag) ≡ (if l then (if r then min (q .ltag) (q .rtag) else q .ltag) else 0)
+    go true e r = refl
+    go false e true = omega (arith, zero e)
+    go false e false = zero e
+
+-- whether a list has no entry is told by its length
+some-left : (l : List Request) → 0 < length l → empty l ≡ false
+some-left [] h = absurd (omega arith)
+some-left (q ∷ l) h = refl
+
+none-left : (l : List Request) → length l ≡ 0 → empty l ≡ true
+none-left [] h = refl
+none-left (q ∷ l) h = absurd (omega arith)
+
+-- THE WALK, of a gate that some flight table makes known
+
+module _ (g : Gate) (gs ws : List ℕ) (k : (fs : List ℕ) × Known g gs ws fs) where
+  -- what it asks
+  pub wake-asks : 0 < g .waiting
+      → ((0 < g .waiting) × (g .waiting ≤ mostCapacity) × (g .waiting * waitingWide ≤ length ws) × (g .guests ≤ mostGuests) × (g .guests * guestWide ≤ length gs))
+      × ((Owned ws (g .waiting) (g .guests) × Rising ws (g .waiting) × LimitsFit ws (g .waiting)) × (g .time ≤ ceiling))
+  wake-asks some =
+      let l = line-asks g gs ws (k .0) (k .1) in
+      let f = facts g gs ws (k .0) (k .1) in
+      ((some, l .0 .0, l .0 .1, l .0 .2, l .0 .3), ((l .1 .0 .0, l .1 .0 .1, λ j h. omega (arith, f .lawfuls j h .limit, ap Request.ltag (row-is g gs ws (k .0) (k .1) j h))), l .1 .1))
+
+  -- whatever is in flight
+  module _ (fs : List ℕ) where
+    abbrev t : Table
+    t = tableOf g gs ws fs
+
+    -- no place is free
+    pub wake-full : g .setup .depth ≤ g .flight → Never ≡ wake t
+    unfolding wake room
+    wake-full h = rw (length-rows flightForm fs (g .flight), le-ltb (g .flight) (g .setup .depth) h)
+
+    -- nothing waits
+    pub wake-dry : g .waiting ≡ 0 → Never ≡ wake t
+    unfolding wake
+    wake-dry h = rw (none-left (t .waiting) (length-rows requestForm ws (g .waiting) ∙ h)) (elim (room t) as (λ b. Never ≡ (if b && false then At (max (t .time) (lowest (map (readyIn (t .guests)) (t .waiting)))) else Never)) [ true ↦ refl | false ↦ refl ])
+
+    -- else what the walk finds
+    pub wake-found : g .flight < g .setup .depth → 0 < g .waiting → (r : ℕ) → r ≡ max (g .time) (lowest (map (readyByTag (guestsOf gs (g .guests))) (waitingOf ws (g .waiting)))) → At r ≡ wake t
+    unfolding wake room
+    wake-found h some r e =
+        let same : map (readyByTag (t .guests)) (t .waiting) ≡ map (readyIn (t .guests)) (t .waiting) =
+        map-places (readyByTag (t .guests)) (readyIn (t .guests)) (t .waiting) blank (λ j i. ready-by-tag (settingsOf (t .guests) (at (t .waiting) j)) (at (t .waiting) j) (limit-zero g gs ws (k .0) (k .1) j i)) in
+        rw (length-rows flightForm fs (g .flight), lt-ltb (g .flight) (g .setup .depth) h, some-left (t .waiting) (omega (arith, length-rows requestForm ws (g .waiting))))
+        (ap At (e ∙ ap (λ (l : List ℕ). max (g .time) (lowest l)) same))
+
+-- THE CHOICE
+
+module _ (g : Gate) (gs ws fs : List ℕ) (k : Known g gs ws fs) where
+  abbrev now : Table
+  now = tableOf g gs ws fs
+
+  abbrev after : Table
+  after = choice now .table
+
+  firm : sound after ≡ true
+  firm = is-sound after (choice-sound now (sound-is now (k .isSound)))
+
+  large : Room gs ws fs after
+  large = known-room g gs ws fs k after (choice-settings now)
+
+  -- no place is free: nothing goes, and no tick would send
+  pub choice-full : g .setup .depth ≤ g .flight → (o : Outcome) → o ≡ outcomeOf g Nothing Never → (o, gs, ws, fs) ≡ does choice g gs ws fs
+  unfolding choice room
+  choice-full h o e =
+      (λ i. (e i, gs, ws, fs))
+      ∙ rw (length-rows flightForm fs (g .flight), le-ltb (g .flight) (g .setup .depth) h)
+      (handed-written gs ws fs g gs ws fs (record { table = now; answer = Nothing }) Nothing Never (known-written g gs ws fs k) refl (wake-full g gs ws (fs, k) fs h))
+
+  module _ (free : g .flight < g .setup .depth) (d : Decision) (hs vs es : List ℕ) (l : Leaves reservationPhase g gs ws fs d hs vs es) where
+    -- a place is free: the reservation phase is the choice
+    is-choice : reservationPhase now ≡ choice now
+    unfolding choice room
+    is-choice = rw (length-rows flightForm fs (g .flight), lt-ltb (g .flight) (g .setup .depth) free)
+
+    left : (d .gate, hs, vs, es) ≡ written gs ws fs after
+    left = l .shows ∙ ap (λ (r : Result). written gs ws fs (r .table)) is-choice
+
+    -- what it leaves is known
+    pub left-known : Known (d .gate) hs vs es
+    left-known = subst (λ (x : Lent). Known (x .0) (x .1) (x .2) (x .3)) (sym left) (written-known gs ws fs after large firm (choice-all (λ f. ltb (f .id) 4294967296) now (k .isIdentified)))
+
+    -- and with the time to wake it is what the choice hands back
+    pub choice-made : (w : Wake) → w ≡ wake (tableOf (d .gate) hs vs es) → (o : Outcome) → o ≡ outcomeOf (d .gate) (d .answer) w → (o, hs, vs, es) ≡ does choice g gs ws fs
+    choice-made w q o e =
+        (λ i. (e i, hs, vs, es))
+        ∙ handed-written gs ws fs (d .gate) hs vs es (choice now) (d .answer) w left (l .answers ∙ ap Result.answer is-choice)
+        (q ∙ ap (λ (x : Lent). wake (tableOf (x .0) (x .1) (x .2) (x .3))) left ∙ ap wake (written-shown gs ws fs after large firm) ∙ sym (told-chosen now (choice now) (chosen now)))
