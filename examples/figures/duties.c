@@ -121,7 +121,7 @@ void gates_figures(void)
 
 void refusals_figures(void)
 {
-    const sgq_settings settings[1] = {{0, 0, 1}};
+    const sgq_settings settings[1] = {{0, 1000000, 1}};
     sgq_gate gate = {0, 0, 0, 0, 0, 0};
     sgq_guest guests[1];
     sgq_request waiting[1];

@@ -120,8 +120,7 @@ void ahead_figures(void)
     at_the_ceiling();
 }
 
-/* A guest runs alone, pauses for a second, and comes back beside another of the same shares. It waits no longer than it ran
- * alone, and that is played out. */
+/* A guest runs alone, pauses for a second, and comes back beside another of the same shares. */
 static void come_back(uint64_t alone, uint64_t shares)
 {
     const sgq_settings settings[2] = {{0, 0, shares}, {0, 0, shares}};

@@ -82,7 +82,7 @@ impl State {
         }
         // Judged before anything is changed: 9 is the last refusal.
         let from = self.adjusted_from(guest);
-        let tags = stamp(&self.guests[guest as usize], t);
+        let tags = stamp(&self.guests[guest as usize], self.idle(guest), t);
         if self.would_pass(from, tags, t) {
             return Err(9);
         }
@@ -277,8 +277,10 @@ impl State {
     }
 }
 
-/// Each tag the guest has is the larger of its next number and t.
-fn stamp(guest: &Guest, t: u64) -> Tags {
+/// Each tag the guest has is the larger of its next number and t; but at an
+/// idle guest the share tag is t itself (document 02, K3), so that a guest
+/// that comes back does not pay for what it got while it was alone.
+fn stamp(guest: &Guest, idle: bool, t: u64) -> Tags {
     let s = guest.settings;
     Tags {
         rtag: if s.has_reservation() {
@@ -287,7 +289,7 @@ fn stamp(guest: &Guest, t: u64) -> Tags {
             0
         },
         ltag: if s.has_limit() { guest.lnext.max(t) } else { 0 },
-        stag: guest.snext.max(t),
+        stag: if idle { t } else { guest.snext.max(t) },
     }
 }
 

@@ -143,7 +143,7 @@ fn short_tables_and_counts_out_of_range() {
 
 /// One guest waits with id 1 and has id 0 in flight; capacity 1.
 fn busy() -> Owned {
-    let mut t = opened(1, 1, &[guest(0, 0, 1), guest(0, 0, 1)]);
+    let mut t = opened(1, 1, &[guest(0, 0, 1), guest(0, 1, 1)]);
     call(&mut t.lend(), Call::Arrive(0, 0, 10));
     call(&mut t.lend(), Call::Arrive(0, 1, 10));
     t
@@ -161,8 +161,8 @@ fn answer_of(t: &Owned, c: Call) -> second::Answer {
 fn refusals_come_in_order() {
     let t = busy();
     let mut high = t.clone();
-    // Guest 1's next number lies past the ceiling: 9 for any arrival.
-    high.guests[guest_at(1, SNEXT)] = CEILING + SECOND;
+    // Guest 1's next limit number lies past the ceiling: 9 for any arrival.
+    high.guests[guest_at(1, LNEXT)] = CEILING + SECOND;
     let mut unsound = high.clone();
     unsound.gate[TIME] = CEILING + 1;
     let past = CEILING + 1;

@@ -160,6 +160,10 @@ impl Mirror {
             self.adjust(t)?;
         }
         let lane = &mut self.lanes[number];
+        if lane.queue.is_empty() {
+            // Forgotten, so that the larger of it and t is t.
+            lane.next[S] = 0;
+        }
         let mut tags = [None; 3];
         for kind in [R, L, S] {
             if let Some(spacing) = lane.spacing[kind] {

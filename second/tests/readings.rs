@@ -1,11 +1,12 @@
-//! The example, the edge readings and the plausible errors of document 01.
+//! The example, the edge readings and the plausible errors of document 01,
+//! with the share tags of document 02, K3.
 
 mod common;
 use common::*;
 use second::numbers::SECOND;
 use second::trace::{header_bytes, run, Event};
 use second::Answer::{Nothing, Refused};
-use second::{Flight, State, CEILING};
+use second::{Answer, Flight, State, Waiting, CEILING};
 
 fn printed(bytes: &[u8]) -> String {
     let mut out = Vec::new();
@@ -67,21 +68,50 @@ fn spacings() {
     assert_eq!(guest(1, 1_000_000, 1).limit_spacing(), 1_000);
 }
 
+/// Next numbers 10 of a guest, and a full array, so that a request stays to
+/// be looked at.
+fn next_is_10() -> State {
+    let mut state = State::fresh(1, 2, &[guest(3, 3, 300)]);
+    state.guests[0].rnext = 10;
+    state.guests[0].lnext = 10;
+    state.guests[0].snext = 10;
+    state.flight.push(Flight { guest: 0, id: 9 });
+    state
+}
+
+/// The last request's tags are these, and the next numbers follow.
+fn last_tags(state: &State, tags: [u64; 3]) {
+    let w = state.waiting[state.waiting.len() - 1];
+    assert_eq!([w.rtag, w.ltag, w.stag], tags);
+    let g = state.guests[0];
+    let [r, l, s] = tags;
+    let spaced = [r + 333_333_333, l + 333_333_334, s + 3_333_333];
+    assert_eq!([g.rnext, g.lnext, g.snext], spaced);
+}
+
 #[test]
 fn a_tag_is_the_larger_of_next_number_and_time() {
     for (time, tag) in [(10, 10), (9, 10), (11, 11)] {
-        let mut state = State::fresh(1, 2, &[guest(3, 3, 300)]);
-        state.guests[0].rnext = 10;
-        state.guests[0].lnext = 10;
-        state.guests[0].snext = 10;
-        // The array is full, so the request stays to be looked at.
-        state.flight.push(Flight { guest: 0, id: 9 });
+        let mut state = next_is_10();
+        // It makes the guest busy.
+        state.waiting.push(Waiting {
+            guest: 0,
+            id: 8,
+            rtag: 0,
+            ltag: 0,
+            stag: 0,
+        });
         assert_eq!(state.arrive(0, 1, time), Nothing);
-        let w = state.waiting[0];
-        assert_eq!([w.rtag, w.ltag, w.stag], [tag; 3]);
-        let g = state.guests[0];
-        let spaced = [tag + 333_333_333, tag + 333_333_334, tag + 3_333_333];
-        assert_eq!([g.rnext, g.lnext, g.snext], spaced);
+        last_tags(&state, [tag; 3]);
+    }
+}
+
+#[test]
+fn at_an_idle_guest_the_share_tag_is_the_time() {
+    for (time, tag) in [(10, 10), (9, 10), (11, 11)] {
+        let mut state = next_is_10();
+        assert_eq!(state.arrive(0, 1, time), Nothing);
+        last_tags(&state, [tag, tag, time]);
     }
 }
 
@@ -91,7 +121,8 @@ fn two_guests() -> State {
     assert_eq!(state.arrive(0, 1, 0), weight(0, 1));
     assert_eq!(state.arrive(0, 2, 0), Nothing);
     assert_eq!(state.arrive(0, 3, 0), Nothing);
-    assert_eq!(share_tags(&state), [1_000 * MS, 2_000 * MS]);
+    // A was idle when its id 2 came: id 1 was sent.
+    assert_eq!(share_tags(&state), [0, 1_000 * MS]);
     state
 }
 
@@ -120,15 +151,35 @@ fn times_at_the_ceiling() {
     assert_eq!(state.arrive(0, 1, CEILING + 1), Refused(5));
     assert_eq!(state.arrive(0, 1, CEILING), weight(0, 1));
     assert_eq!(state.guests[0].snext, CEILING + SECOND);
-    assert_eq!(state.arrive(0, 2, CEILING), Refused(9));
+    // The first was sent, so the second has the time as its tag; it waits,
+    // so a third is refused.
+    assert_eq!(state.arrive(0, 2, CEILING), Nothing);
+    assert_eq!(share_tags(&state), [CEILING]);
+    assert_eq!(state.arrive(0, 3, CEILING), Refused(9));
     assert_eq!(state.tick(CEILING), Nothing);
     assert_eq!(state.tick(CEILING + 1), Refused(5));
     assert_eq!(state.complete(0, 1, u64::MAX), Refused(5));
-    assert_eq!(state.complete(0, 1, CEILING), Nothing);
+    assert_eq!(state.complete(0, 1, CEILING), weight(0, 2));
+    assert_eq!(state.arrive(0, 3, CEILING), Nothing);
 }
 
 #[test]
-fn a_second_arrival_at_the_ceiling_is_refused_also_while_the_first_waits() {
+fn with_a_reservation_or_a_limit_it_is_refused_though_the_first_was_sent() {
+    for settings in [
+        guest(1_000_000, 0, 1),
+        guest(0, 1_000_000, 1),
+        guest(1, 1, 1),
+    ] {
+        let mut state = State::fresh(1, 4, &[settings]);
+        assert!(matches!(state.arrive(0, 1, CEILING), Answer::Sent { .. }));
+        let before = state.clone();
+        assert_eq!(state.arrive(0, 2, CEILING), Refused(9));
+        assert_eq!(state, before);
+    }
+}
+
+#[test]
+fn a_second_arrival_at_the_ceiling_is_refused_while_the_first_waits() {
     for settings in [
         guest(0, 0, 1),
         guest(1, 0, 1_000_000),
@@ -149,7 +200,7 @@ fn a_share_tag_moved_past_the_ceiling_is_refused() {
     for id in 1..=3 {
         state.arrive(0, id, 0);
     }
-    // Tags 1 s and 2 s: the second lands 1 s after the time.
+    // Tags 0 and 1 s: the second lands 1 s after the time.
     let before = state.clone();
     assert_eq!(state.arrive(1, 1, CEILING - SECOND + 1), Refused(9));
     assert_eq!(state, before);
@@ -229,9 +280,10 @@ fn requests_in_flight_do_not_make_a_guest_busy() {
     state.arrive(0, 1, 0);
     state.arrive(1, 1, 0);
     state.arrive(1, 2, 0);
-    // Guest 0 has one in flight and none waiting: idle, so tags move.
+    // Guest 0 has one in flight and none waiting: idle, so tags move, and
+    // its own is the time.
     state.arrive(0, 2, 10 * MS);
-    assert_eq!(share_tags(&state), [10 * MS, SECOND]);
+    assert_eq!(share_tags(&state), [10 * MS, 10 * MS]);
 }
 
 #[test]
@@ -239,9 +291,65 @@ fn an_arrival_at_a_busy_guest_moves_nothing() {
     let mut state = State::fresh(1, 8, &[guest(0, 0, 1), guest(0, 0, 1)]);
     state.arrive(0, 1, 0);
     state.arrive(0, 2, 0);
-    // Guest 0 waits itself, so a third arrival moves nothing.
+    // Guest 0 waits itself, so a third arrival moves nothing, and its tag
+    // is a spacing further on.
     state.arrive(0, 3, 10 * MS);
-    assert_eq!(share_tags(&state), [SECOND, 2 * SECOND]);
+    assert_eq!(share_tags(&state), [0, SECOND]);
+}
+
+/// K3: the guest that ran alone, paused and came back.
+#[test]
+fn a_guest_that_comes_back_has_its_share_at_once() {
+    let mut state = State::fresh(1, 64, &[guest(0, 0, 1), guest(0, 0, 1)]);
+    // All morning ten wait: its next share number runs far ahead.
+    for id in 0..10 {
+        state.arrive(0, id, 0);
+    }
+    for id in 10..1_000 {
+        let t = id as u64 * MS;
+        state.complete(0, id - 10, t);
+        state.arrive(0, id, t);
+    }
+    for id in 990..1_000 {
+        state.complete(0, id, 1_000 * MS);
+    }
+    assert!(state.waiting.is_empty() && state.flight.is_empty());
+    assert!(state.guests[0].snext > 900 * SECOND);
+    // In the afternoon the archive waits, then the guest comes back.
+    for id in 0..20 {
+        state.arrive(1, id, 2_000 * MS);
+    }
+    let t = 2_001 * MS;
+    for id in 0..4 {
+        state.arrive(0, id, t);
+    }
+    assert_eq!(state.waiting[19].stag, t);
+    let sent = |(guest, id)| weight(guest, id);
+    // Equal shares: they take turns from the start.
+    let turns = [
+        (1, 1),
+        (0, 0),
+        (1, 2),
+        (0, 1),
+        (1, 3),
+        (0, 2),
+        (1, 4),
+        (0, 3),
+    ];
+    let mut flies = (1, 0);
+    for turn in turns {
+        assert_eq!(state.complete(flies.0, flies.1, t), sent(turn));
+        flies = (turn.0, turn.1 as u32);
+    }
+}
+
+#[test]
+fn reservation_and_limit_tags_of_an_idle_guest_keep_the_old_rule() {
+    let mut state = State::fresh(1, 4, &[guest(2, 2, 2)]);
+    state.arrive(0, 1, 0);
+    state.arrive(0, 2, 100 * MS);
+    let w = state.waiting[0];
+    assert_eq!([w.rtag, w.ltag, w.stag], [500 * MS, 500 * MS, 100 * MS]);
 }
 
 #[test]

@@ -79,7 +79,7 @@ fn two_guests() -> Gate {
     assert_eq!(gate.arrive(0, 1, 0), by_weight(0, 1));
     assert_eq!(gate.arrive(0, 2, 0), NOTHING);
     assert_eq!(gate.arrive(0, 3, 0), NOTHING);
-    assert_eq!(share_tags(&gate), [1_000 * MS, 2_000 * MS]);
+    assert_eq!(share_tags(&gate), [0, 1_000 * MS]);
     gate
 }
 
@@ -126,10 +126,25 @@ fn ceiling() {
         gate.tick(CEILING + 1)
     });
     assert_eq!(gate.arrive(0, 1, CEILING), by_weight(0, 1));
+    assert_eq!(gate.arrive(0, 2, CEILING), NOTHING);
     refused(&mut gate, Refusal::TagAboveCeiling, |gate| {
-        gate.arrive(0, 2, CEILING)
+        gate.arrive(0, 3, CEILING)
     });
     assert_eq!(gate.time(), CEILING);
+}
+
+#[test]
+fn ceiling_with_a_reservation_or_a_limit() {
+    for (guest, first) in [
+        (settings(1, 0, 1), by_reservation(0, 1)),
+        (settings(0, 1, 1), by_weight(0, 1)),
+    ] {
+        let mut gate = open(2, 8, &[guest]);
+        assert_eq!(gate.arrive(0, 1, CEILING), first);
+        refused(&mut gate, Refusal::TagAboveCeiling, |gate| {
+            gate.arrive(0, 2, CEILING)
+        });
+    }
 }
 
 #[test]

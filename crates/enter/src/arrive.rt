@@ -35,7 +35,7 @@ pub struct Stamp {
     pub stag: u64,
 }
 
-// The tags of a request of `guest`: of each kind it has, the larger of the next number and the time.
+// The tags of a request of `guest`: of each kind it has, the larger of the next number and the time; the share tag of an idle guest is the time.
 fn tags_of(guests: &[u64], guest: u64, time: u64, idle: bool) -> Stamp
     requires { ⌜ guest * guestWide + guestWide ≤ length (now guests) ⌝ }
     ensures { λ r. ⌜ r ≡ stampOf idle time (guestForm .read (lineAt guestWide (now (guests .entry)) guest)) ⌝ }

@@ -51,6 +51,11 @@ map-empty : (f : Request → Request) (l : List Request) → empty l ≡ true �
 map-empty f [] e = refl
 map-empty f (q ∷ l) e = absurd (false≢true e)
 
+-- and something waits where something did
+empty-map : (f : Request → Request) (l : List Request) → empty (map f l) ≡ empty l
+empty-map f [] = refl
+empty-map f (q ∷ l) = refl
+
 -- no share tag that waits is below the smallest
 pub smallest-all : (t : Table) → all (λ q. leb (smallest t) (q .stag)) (t .waiting) ≡ true
 smallest-all t = sym (all-of-map (leb (smallest t)) Request.stag (t .waiting)) ∙ lowest-all (map Request.stag (t .waiting)) (smallest t) (omega arith)
@@ -83,6 +88,12 @@ module _ (t : Table) (now : ℕ) where
   unfolding adjusted
   adjusted-owner false g e h = refl
   adjusted-owner true g e h = getD-each moved 0 (t .guests) g nobodys h ∙ rw (zero-add g, e)
+
+  -- a guest is as idle as before
+  adjusted-idle : (b : Bool) (g : ℕ) → idle (adjusted b now t) g ≡ idle t g
+  unfolding adjusted idle shifted
+  adjusted-idle false g = refl
+  adjusted-idle true g = ap empty (filter-map (of g) (shifted now (smallest t)) (λ q. refl) (t .waiting)) ∙ empty-map (shifted now (smallest t)) (mine g (t .waiting))
 
   -- the numbers of guest g, moved, are in order
   moved-order : Sound t → (g : ℕ) → g < length (t .guests) → orderly (moved g (owner (t .guests) g)) (map (shifted now (smallest t)) (mine g (t .waiting))) ≡ true
@@ -117,46 +128,48 @@ module _ (t : Table) (now : ℕ) where
         guests-orderly = λ g h. adjusted-order s b g (rw n at h);
       }
 
--- q may be the next request of the guest h: each tag that h has is at least its next number, and each that it lacks is 0
-record Next (h : Guest) (q : Request) : Type 0 where
+-- q may be the next request of the guest h, idle or not: each tag that h has is at least its next number, the share tag where h is not idle, and each
+-- that it lacks is 0
+record Next (idle : Bool) (h : Guest) (q : Request) : Type 0 where
   reservation : reserved (h .settings) ≡ true → h .rnext ≤ q .rtag
   limit : limited (h .settings) ≡ true → h .lnext ≤ q .ltag
-  share : h .snext ≤ q .stag
+  share : idle ≡ false → h .snext ≤ q .stag
   no-reservation : reserved (h .settings) ≡ false → q .rtag ≡ 0
   no-limit : limited (h .settings) ≡ false → q .ltag ≡ 0
 
 -- a stamped request may be the next
-stamped-next : (b : Bool) (now : ℕ) (a : Arriving) (h : Guest) → Next h (stamped b now a h)
+stamped-next : (b : Bool) (now : ℕ) (a : Arriving) (h : Guest) → Next b h (stamped b now a h)
 unfolding stamped shareTag
 stamped-next b now a h =
     record {
       reservation = λ e. rw e (omega arith);
       limit = λ e. rw e (omega arith);
-      share = omega arith;
+      share = λ e. rw e (omega arith);
       no-reservation = λ e. rw e;
       no-limit = λ e. rw e;
     }
 
 -- a guest with its next request placed has its numbers in order
-following-order : (h : Guest) (q : Request) (l : List Request) → Next h q → orderly h l ≡ true → orderly (following q h) (l ++ (q ∷ [])) ≡ true
+following-order : (h : Guest) (q : Request) (l : List Request) → Next (empty l) h q → orderly h l ≡ true → orderly (following q h) (l ++ (q ∷ [])) ≡ true
 unfolding following
 following-order h q l n e =
     let s = h .settings in
     let o = orderly-is h l e in
     is-orderly (following q h) (l ++ (q ∷ []))
     (record {
-      reservations = kept-snoc Request.rtag (rspacing s) (rspacing s) (λ p. omega arith) (reserved s) l (h .rnext) q (n .reservation)
+      reservations = kept-snoc Request.rtag (rspacing s) (rspacing s) (λ p. omega arith) (reserved s) l (h .rnext) q (λ z w. n .reservation z)
           (λ z. (n .no-reservation z, no-down (s .reservation) z)) (o .reservations);
-      limits = kept-snoc Request.ltag (lspacing s) (lspacing s) (λ p. omega arith) (limited s) l (h .lnext) q (n .limit)
+      limits = kept-snoc Request.ltag (lspacing s) (lspacing s) (λ p. omega arith) (limited s) l (h .lnext) q (λ z w. n .limit z)
           (λ z. (n .no-limit z, no-up (s .limit) z)) (o .limits);
       shares = kept-snoc Request.stag (sspacing s) (sspacing s) (λ p. omega arith) true l (h .snext) q (λ z. n .share)
           (λ z. absurd (true≢false z)) (o .shares);
     })
 
-module _ (u : Table) (c : Firm u) (now : ℕ) (q : Request) (known : q .guest < length (u .guests)) (n : Next (owner (u .guests) (q .guest)) q) where
+module _ (u : Table) (c : Firm u) (now : ℕ) (q : Request) (known : q .guest < length (u .guests))
+    (n : Next (idle u (q .guest)) (owner (u .guests) (q .guest)) q) where
   -- so they are in the table, and other guests are as they were
   placed-order : (g : ℕ) → g < length (u .guests) → orderly (owner ((placed now q u) .guests) g) (mine g ((placed now q u) .waiting)) ≡ true
-  unfolding placed
+  unfolding placed idle
   placed-order g h = rw (filter-append (of g) (u .waiting) (q ∷ [])) (go (eqb g (q .guest)) refl)
     where
       next : Guest
@@ -193,7 +206,7 @@ module _ (t : Table) (s : Sound t) (now : ℕ) (a : Arriving) (known : a .guest 
   arriveAs-firm b e =
       placed-firm (adjusted b now t) (adjusted-firm t now s b) now (stampedFor b now a t)
       (rw (same-count (adjusted b now t) t (adjusted-settings b now t)) known)
-      (rw (adjusted-owner t now b (a .guest) e known) (stamped-next b now a (owner (t .guests) (a .guest))))
+      (rw (adjusted-owner t now b (a .guest) e known, adjusted-idle t now b (a .guest) ∙ e) (stamped-next b now a (owner (t .guests) (a .guest))))
       (rw (adjusted-names t now b) new)
 
   -- and sound where its tests passed

@@ -61,13 +61,13 @@ taken-is (suc i) (x ∷ l) = ap (x ∷_) (taken-is i l)
 
 module _ (t : Table) where
   -- the test says which of the two a guest is
-  idle-is : (g : ℕ) → idle t g ≡ true → Idle t g
+  pub idle-is : (g : ℕ) → idle t g ≡ true → Idle t g
   unfolding idle
   idle-is g e i h o =
       eqb-false ((at (t .waiting) i) .guest) g
       (not-true (of g (at (t .waiting) i)) (all-at (λ q. not (of g q)) (t .waiting) blank (sym (none-left (of g) (t .waiting)) ∙ e) i h)) o
 
-  busy-is : (g : ℕ) → idle t g ≡ false → Busy t g
+  pub busy-is : (g : ℕ) → idle t g ≡ false → Busy t g
   unfolding idle
   busy-is g e =
       let (i, h, n) = some-not (λ q. not (of g q)) (t .waiting) blank (sym (none-left (of g) (t .waiting)) ∙ e) in
@@ -77,14 +77,14 @@ module _ (t : Table) where
   not-both : (g : ℕ) → Idle t g → Busy t g → ⊥
   not-both g i b = i (b .place) (b .inside) (b .its-own)
 
-  is-idle : (g : ℕ) → Idle t g → idle t g ≡ true
+  pub is-idle : (g : ℕ) → Idle t g → idle t g ≡ true
   is-idle g i = go (idle t g) refl
     where
       go : (b : Bool) → idle t g ≡ b → b ≡ true
       go true e = refl
       go false e = absurd (not-both g i (busy-is g e))
 
-  is-busy : (g : ℕ) → Busy t g → idle t g ≡ false
+  pub is-busy : (g : ℕ) → Busy t g → idle t g ≡ false
   is-busy g b = go (idle t g) refl
     where
       go : (c : Bool) → idle t g ≡ c → c ≡ false
@@ -92,7 +92,7 @@ module _ (t : Table) where
       go false e = refl
 
   -- where something waits there is a smallest share tag
-  smallest-is : 0 < length (t .waiting) → Smallest t (smallest t)
+  pub smallest-is : 0 < length (t .waiting) → Smallest t (smallest t)
   smallest-is h =
       let (i, k, e) = lowest-of Request.stag (t .waiting) blank h in
       record { place = i; inside = k; its-tag = e; none-smaller = λ j l. lowest-under Request.stag (t .waiting) blank j l }
@@ -242,7 +242,8 @@ arrived t a now h =
       share-nexts-stay = nexts-stay t now a b refl;
       reservation-tag = given-is (reserved (x .settings)) now (x .rnext) ((lastOf t (arriveAs b now a t)) .rtag) (ap Request.rtag last);
       limit-tag = given-is (limited (x .settings)) now (x .lnext) ((lastOf t (arriveAs b now a t)) .ltag) (ap Request.ltag last);
-      share-tag = ap Request.stag last;
+      share-tag = λ u. ap Request.stag last ∙ rw (is-busy t (a .guest) u);
+      share-tag-idle = λ d. ap Request.stag last ∙ rw (is-idle t (a .guest) d);
       reservation-next = ap Guest.rnext own ∙ ap (λ (q : Request). q .rtag + rspacing (x .settings) q) (sym last);
       limit-next = ap Guest.lnext own ∙ ap (λ (q : Request). q .ltag + lspacing (x .settings) q) (sym last);
       share-next = ap Guest.snext own ∙ ap (λ (q : Request). q .stag + sspacing (x .settings) q) (sym last);
@@ -282,13 +283,18 @@ module _ (t : Table) (a : Arriving) (now : ℕ) (u v : Table) (x : Arrived t a n
       omega (arith, x .share-tags-move d (smallest t) m i h, y .share-tags-move d (smallest t) m i h)
   same-tags false e i h = let d = busy-is t (a .guest) e in x .share-tags-stay d i h ∙ sym (y .share-tags-stay d i h)
 
+  -- the same share tag of the new one
+  same-share : (b : Bool) → idle t (a .guest) ≡ b → (lastOf t u) .stag ≡ (lastOf t v) .stag
+  same-share true e = let d = idle-is t (a .guest) e in x .share-tag-idle d ∙ sym (y .share-tag-idle d)
+  same-share false e = let d = busy-is t (a .guest) e in x .share-tag d ∙ sym (y .share-tag d)
+
   -- and the same request at each place
   same-last : lastOf t u ≡ lastOf t v
   same-last =
       request-same (lastOf t u) (lastOf t v) (x .placed-last ∙ sym (y .placed-last))
       (given-once (reserved ((arrivesAt t a) .settings)) now ((arrivesAt t a) .rnext) ((lastOf t u) .rtag) ((lastOf t v) .rtag) (x .reservation-tag) (y .reservation-tag))
       (given-once (limited ((arrivesAt t a) .settings)) now ((arrivesAt t a) .lnext) ((lastOf t u) .ltag) ((lastOf t v) .ltag) (x .limit-tag) (y .limit-tag))
-      (x .share-tag ∙ sym (y .share-tag))
+      (same-share (idle t (a .guest)) refl)
 
   same-request : (i : ℕ) → i < length (u .waiting) → at (u .waiting) i ≡ at (v .waiting) i
   same-request i h = ⊎-elim before (λ l. let e : i ≡ length (t .waiting) = omega (arith, x .one-more) in rw e same-last) (lt-or-le i (length (t .waiting)))

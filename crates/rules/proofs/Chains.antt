@@ -7,7 +7,7 @@ use Prim.Native.Nat.{ℕ, _≤_, _+_, _-_}
 use native.Mathlib.Omega.{arith}
 use lib.Dec.{leb, eqb}
 use borrow.Author.Tests.{leb-true, le-leb, eqb-true, eq-eqb}
-use Rattle.lists.specs.Words.{all}
+use Rattle.lists.specs.Words.{all, empty}
 use Rattle.lists.specs.WordsLaws.{both, join, all-append, all-map, all-same}
 use Rattle.rules.specs.Numbers.{idleBound}
 use Rattle.rules.specs.Tables.{Request}
@@ -72,15 +72,15 @@ module _ (tag gap spacing : Request → ℕ) where
   kept-rising true l n h e = apart-rising l (both (apart tag gap l) (follows tag spacing l n) h .0)
   kept-rising false l n h e = absurd (false≢true e)
 
-  -- a last request may stand where its tag is at least the next number
-  apart-snoc : ((p : Request) → gap p ≤ spacing p) → (l : List Request) (n : ℕ) (q : Request) → n ≤ tag q → apart tag gap l ≡ true → follows tag spacing l n ≡ true
+  -- a last request may stand where its tag is at least the next number, or nothing stands before it
+  apart-snoc : ((p : Request) → gap p ≤ spacing p) → (l : List Request) (n : ℕ) (q : Request) → (empty l ≡ false → n ≤ tag q) → apart tag gap l ≡ true → follows tag spacing l n ≡ true
       → apart tag gap (l ++ (q ∷ [])) ≡ true
   apart-snoc w [] n q h a f = refl
   apart-snoc w (p ∷ []) n q h a f =
-      join (le-leb (tag p + gap p) (tag q) (omega (arith, w p, eqb-true n (tag p + spacing p) f))) refl
+      join (le-leb (tag p + gap p) (tag q) (omega (arith, w p, h refl, eqb-true n (tag p + spacing p) f))) refl
   apart-snoc w (p ∷ r ∷ l) n q h a f =
       let c = both (leb (tag p + gap p) (tag r)) (apart tag gap (r ∷ l)) a in
-      join (c .0) (apart-snoc w (r ∷ l) n q h (c .1) f)
+      join (c .0) (apart-snoc w (r ∷ l) n q (λ e. h refl) (c .1) f)
 
   -- the next number after a last request
   follows-snoc : (l : List Request) (q : Request) → follows tag spacing (l ++ (q ∷ [])) (tag q + spacing q) ≡ true
@@ -88,8 +88,8 @@ module _ (tag gap spacing : Request → ℕ) where
   follows-snoc (p ∷ []) q = eq-eqb (tag q + spacing q) (tag q + spacing q) refl
   follows-snoc (p ∷ r ∷ l) q = follows-snoc (r ∷ l) q
 
-  -- one kind where a request has been added whose tag is at least the next number; of a kind that the guest lacks it has none
-  pub kept-snoc : ((p : Request) → gap p ≤ spacing p) → (has : Bool) (l : List Request) (n : ℕ) (q : Request) → (has ≡ true → n ≤ tag q)
+  -- one kind where a request has been added whose tag is at least the next number, if something waits; of a kind that the guest lacks it has none
+  pub kept-snoc : ((p : Request) → gap p ≤ spacing p) → (has : Bool) (l : List Request) (n : ℕ) (q : Request) → (has ≡ true → empty l ≡ false → n ≤ tag q)
       → (has ≡ false → (tag q ≡ 0) × (spacing q ≡ 0)) → kept has tag gap spacing l n ≡ true
       → kept has tag gap spacing (l ++ (q ∷ [])) (tag q + spacing q) ≡ true
   unfolding kept

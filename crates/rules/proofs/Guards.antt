@@ -1,6 +1,7 @@
--- More readings, as one table under a single statement: document 01's unmarked ones, and small runs that shut out its plausible errors.
+-- More readings, as one table under a single statement: document 01's unmarked ones, and small runs that shut out its plausible errors; share tags at
+-- an idle guest by document 02, K3.
 -- Assumes nothing.
-use mathlib.Core.Path.{_≡_, refl}
+use mathlib.Core.Path.{_≡_, refl, ap, _∙_}
 use mathlib.Core.List.{List, [], _∷_, map}
 use Prim.Native.Nat.{ℕ, suc}
 use lib.ListN.{replicate}
@@ -8,7 +9,7 @@ use Rattle.rules.specs.Numbers.{ceiling}
 use Rattle.rules.specs.Tables.{Settings, Guest, Request, Table}
 use Rattle.rules.specs.Events.{Event, Arrival, Tick}
 use Rattle.rules.specs.Answers.{hour}
-use Rattle.rules.specs.Run.{fresh}
+use Rattle.rules.specs.Run.{after, fresh}
 use Rattle.rules.specs.Waking.{readyAt, wake, wakes}
 use Rattle.rules.proofs.Readings.{one, ten}
 use Rattle.rules.proofs.Trials.{ms, settings, comes, ends, three, -, R, W, X, lines, waitingAfter, guestsAfter, flightAfter, named}
@@ -24,6 +25,10 @@ owed = settings 1 0 1
 -- an arrival at a time in nanoseconds
 abbrev comesAt : (g i : ℕ) → ℕ → Event
 comesAt g i n = Arrival (record { guest = g; id = i }) n
+
+-- guest 0's ids 1, 2, 3 at the last time there is
+abbrev lastly : List Event
+lastly = comesAt 0 1 ceiling ∷ comesAt 0 2 ceiling ∷ comesAt 0 3 ceiling ∷ []
 
 -- a fresh table with one place at the array and eight to wait; so of three arrivals of one guest at 0 one is in flight and two wait
 abbrev gate : List Settings → Table
@@ -69,8 +74,12 @@ wakings t es = map hour (wakes t es)
 pub record Guards : Type 0 where
   -- "Time 2^62 − 1 is accepted, 2^62 is refused 5."
   pub last-time : lines (gate (free ∷ [])) (Tick ceiling ∷ Tick (suc ceiling) ∷ []) ≡ - ∷ X 5 ∷ []
-  -- "A second arrival of one guest at 2^62 − 1, with a new id and room to wait, is refused 9": a tag given passes the ceiling
-  pub last-arrival : lines (gate (free ∷ [])) (comesAt 0 1 ceiling ∷ comesAt 0 2 ceiling ∷ []) ≡ W 0 1 ∷ X 9 ∷ []
+  -- Document 02, K3: "The 2^62 − 1 case of 01 is refused 9 only while the first request still waits or the guest has a reservation or a limit." Without them
+  -- the second arrival is accepted where the first is sent, and the one behind it is refused while it waits
+  pub last-arrival : lines (fresh 1 8 (free ∷ [])) lastly ≡ W 0 1 ∷ - ∷ X 9 ∷ []
+  pub last-arrivals : lines (fresh 2 8 (free ∷ [])) lastly ≡ W 0 1 ∷ W 0 2 ∷ - ∷ []
+  pub last-reserved : lines (fresh 2 8 (owed ∷ [])) lastly ≡ R 0 1 ∷ X 9 ∷ X 9 ∷ []
+  pub last-limited : lines (fresh 2 8 (settings 0 1 1 ∷ [])) lastly ≡ W 0 1 ∷ X 9 ∷ X 9 ∷ []
   -- a share tag moved passes the ceiling: that of id 3, one second behind the smallest
   pub moved-past : lines (gate (free ∷ free ∷ [])) (three (comesAt 1 1 ceiling ∷ [])) ≡ W 0 1 ∷ - ∷ - ∷ X 9 ∷ []
   -- "Capacity 1, depth 1, one unlimited guest, three ids: first arrival sent, second waits, third refused 8; after a completion the third is accepted."
@@ -88,18 +97,19 @@ pub record Guards : Type 0 where
   pub tie-by-weight : lines (gate (free ∷ free ∷ free ∷ [])) (comes 2 1 0 ∷ comes 1 1 0 ∷ comes 0 1 0 ∷ ends 2 1 0 ∷ []) ≡ W 2 1 ∷ - ∷ - ∷ W 1 1 ∷ []
   -- of equal reservation tags likewise
   pub tie-by-reservation : lines (gate (owed ∷ owed ∷ owed ∷ [])) (comes 2 1 0 ∷ comes 1 1 0 ∷ comes 0 1 0 ∷ ends 2 1 0 ∷ []) ≡ R 2 1 ∷ - ∷ - ∷ R 1 1 ∷ []
-  -- a tag is never below the time: the next numbers 4,000, 2,000 and a second give 9,000, 9,000 and a second at 9,000, and the next after them count from there
+  -- a tag is never below the time: the next numbers 4,000 and 2,000 give 9,000 and 9,000 at 9,000, and the next after them count from there; the share tag is
+  -- the time, whatever the next number, a second here
   pub tags-from-now : waitingAfter Request.rtag brisk later ≡ 9000 ∷ 13000 ∷ []
   pub limits-from-now : waitingAfter Request.ltag brisk later ≡ 9000 ∷ 11000 ∷ []
-  pub shares-from-now : waitingAfter Request.stag brisk later ≡ ms 1000 ∷ ms 2000 ∷ []
+  pub shares-from-now : waitingAfter Request.stag brisk later ≡ 9000 ∷ 1000009000 ∷ []
   -- the arrival of an idle guest moves the share tags and next share numbers of those that wait, down here, and nothing else
   pub moved-shares : waitingAfter Request.stag bound joined ≡ ms 100 ∷ ms 1100 ∷ ms 100 ∷ ms 2100 ∷ []
   pub unmoved-reservations : waitingAfter Request.rtag bound joined ≡ ms 1000 ∷ ms 2000 ∷ 0 ∷ ms 3000 ∷ []
   pub unmoved-limits : waitingAfter Request.ltag bound joined ≡ ms 1000 ∷ ms 2000 ∷ 0 ∷ ms 3000 ∷ []
   -- the arrival of a guest that has something waiting moves nothing
-  pub not-idle : waitingAfter Request.stag bound (three (comes 0 4 100 ∷ [])) ≡ ms 1000 ∷ ms 2000 ∷ ms 3000 ∷ []
-  -- a guest with requests in flight only is idle: its arrival moves the others' tags, 0 and 1,000 ms, and not its own next number, 500 ms
-  pub idle-in-flight : waitingAfter Request.stag (gate (free ∷ settings 0 0 2 ∷ [])) returned ≡ ms 100 ∷ ms 1100 ∷ ms 500 ∷ []
+  pub not-idle : waitingAfter Request.stag bound (three (comes 0 4 100 ∷ [])) ≡ 0 ∷ ms 1000 ∷ ms 2000 ∷ []
+  -- a guest with requests in flight only is idle: its arrival moves the others' tags, 0 and 1,000 ms, and its own tag is the time, not its next number, 500 ms
+  pub idle-in-flight : waitingAfter Request.stag (gate (free ∷ settings 0 0 2 ∷ [])) returned ≡ ms 100 ∷ ms 1100 ∷ ms 100 ∷ []
   -- a weight send drops the reservation tags that wait of that guest, and its next number, and no other guest's
   pub spare : lines (gate (owed ∷ owed ∷ [])) spared ≡ R 0 1 ∷ - ∷ - ∷ - ∷ - ∷ R 1 1 ∷ W 0 2 ∷ []
   pub spare-tags : waitingAfter Request.rtag (gate (owed ∷ owed ∷ [])) spared ≡ ms 1000 ∷ ms 1000 ∷ []
@@ -109,7 +119,7 @@ pub record Guards : Type 0 where
   -- the spacings of reservations and shares are rounded down, those of limits up
   pub thirds-reserved : waitingAfter Request.rtag third (three []) ≡ 333333333 ∷ 666666666 ∷ []
   pub thirds-limited : waitingAfter Request.ltag third (three []) ≡ 333333334 ∷ 666666668 ∷ []
-  pub thirds-shared : waitingAfter Request.stag third (three []) ≡ 333333333 ∷ 666666666 ∷ []
+  pub thirds-shared : waitingAfter Request.stag third (three []) ≡ 0 ∷ 333333333 ∷ []
   -- when to wake after each event of the example: at the limit tag; after the drops of two weight sends at the reservation tag, which is then the earlier; at
   -- none where nothing waits; and 0 in a refusal
   pub ten-wakes :
@@ -118,6 +128,36 @@ pub record Guards : Type 0 where
   pub late-wakes : wakings one (three (Tick (ms 20) ∷ [])) ≡ [] ∷ (ms 4 ∷ []) ∷ (ms 4 ∷ []) ∷ (ms 20 ∷ []) ∷ []
   pub full-wakes : wakings (gate (free ∷ [])) (three []) ≡ [] ∷ [] ∷ [] ∷ []
 
+-- guest 0 of `bound`, its three requests accepted: named, since what comes after it would compute it over and over
+abbrev between : Table
+between =
+    record {
+      setup = record { depth = 1; capacity = 8 };
+      time = 0;
+      guests =
+          record { settings = settings 1 1 1; rnext = ms 3000; lnext = ms 3000; snext = ms 2000 }
+          ∷ record { settings = settings 0 0 2; rnext = 0; lnext = 0; snext = 0 }
+          ∷ [];
+      waiting =
+          record { guest = 0; id = 2; rtag = ms 1000; ltag = ms 1000; stag = 0 }
+          ∷ record { guest = 0; id = 3; rtag = ms 2000; ltag = ms 2000; stag = ms 1000 }
+          ∷ [];
+      flight = named 0 1 ∷ [];
+    }
+
+between-is : after bound (three []) ≡ between
+unfolding lines
+between-is = refl
+
+-- what comes behind them
+behind-them : (f : Table → List ℕ) → f (after bound joined) ≡ f (after between (comes 1 1 100 ∷ comes 0 4 100 ∷ []))
+unfolding after
+behind-them f = ap (λ (t : Table). f (after t (comes 1 1 100 ∷ comes 0 4 100 ∷ []))) between-is
+
+tags-behind : waitingAfter Request.stag between (comes 1 1 100 ∷ comes 0 4 100 ∷ []) ≡ ms 100 ∷ ms 1100 ∷ ms 100 ∷ ms 2100 ∷ []
+unfolding lines
+tags-behind = refl
+
 -- they all hold
 pub guards : Guards
 unfolding lines readyAt wake wakes
@@ -125,6 +165,9 @@ guards =
     record {
       last-time = refl;
       last-arrival = refl;
+      last-arrivals = refl;
+      last-reserved = refl;
+      last-limited = refl;
       moved-past = refl;
       one-place = refl;
       last-guest = refl;
@@ -135,7 +178,7 @@ guards =
       tags-from-now = refl;
       limits-from-now = refl;
       shares-from-now = refl;
-      moved-shares = refl;
+      moved-shares = behind-them (λ t. map Request.stag (t .waiting)) ∙ tags-behind;
       unmoved-reservations = refl;
       unmoved-limits = refl;
       not-idle = refl;

@@ -36,5 +36,6 @@ pub mod Answered
 pub mod Guards
 pub mod InFlight
 pub mod Arrived
+pub mod LastTime
 pub mod Soundness
 pub mod WakeFits

@@ -1,6 +1,6 @@
--- Document 01's marked edge readings, as one table under a single statement. Assumes nothing.
+-- Document 01's marked edge readings, as one table under a single statement; those of share tags as document 02, K3 has them. Assumes nothing.
 use mathlib.Core.Path.{_≡_, refl}
-use mathlib.Core.Bool.{Bool}
+use mathlib.Core.Bool.{Bool, true, false}
 use mathlib.Core.List.{List, [], _∷_}
 use Prim.Native.Nat.{ℕ}
 use Rattle.rules.specs.Tables.{Guest, Request, Table, rspacing, lspacing, sspacing}
@@ -39,17 +39,19 @@ two = fresh 1 8 (settings 0 0 1 ∷ settings 0 0 2 ∷ [])
 abbrev tags : Table → List Event → List ℕ
 tags t es = waitingAfter Request.stag t es
 
--- the readings that document 01 marks with a star, in its order
+-- the readings that document 01 marks with a star, in its order. Document 02, K3: "the share tag of a request arriving at an idle guest is t itself", so the
+-- next number 10 of shares is not read there; and "In 01's depth 1 reading A's ids 2 and 3 first get 0 and 1,000 ms; what follows there stays."
 pub record Readings : Type 0 where
   pub reservation-3 : (l w : ℕ) (q : Request) → rspacing (settings 3 l w) q ≡ 333333333
   pub limit-3 : (r w : ℕ) (q : Request) → lspacing (settings r 3 w) q ≡ 333333334
   pub shares-300 : (r l : ℕ) (q : Request) → sspacing (settings r l 300) q ≡ 3333333
   pub shares-1000000 : (r l : ℕ) (q : Request) → sspacing (settings r l 1000000) q ≡ 1000
   pub next-at : (idle : Bool) → given idle 10 ≡ 10 ∷ 10 ∷ 10 ∷ []
-  pub next-before : (idle : Bool) → given idle 9 ≡ 10 ∷ 10 ∷ 10 ∷ []
+  pub next-before : given false 9 ≡ 10 ∷ 10 ∷ 10 ∷ []
+  pub next-before-idle : given true 9 ≡ 10 ∷ 10 ∷ 9 ∷ []
   pub next-after : (idle : Bool) → given idle 11 ≡ 11 ∷ 11 ∷ 11 ∷ []
   pub ten-answers : lines one ten ≡ R 0 1 ∷ - ∷ - ∷ - ∷ W 0 2 ∷ W 0 3 ∷ R 0 4 ∷ X 6 ∷ - ∷ X 10 ∷ []
-  pub first-tags : tags two (three []) ≡ ms 1000 ∷ ms 2000 ∷ []
+  pub first-tags : tags two (three []) ≡ 0 ∷ ms 1000 ∷ []
   pub moved-down : tags two (three (comes 1 1 100 ∷ [])) ≡ ms 100 ∷ ms 1100 ∷ ms 100 ∷ []
   pub tie-to-the-earlier : lines two (three (comes 1 1 100 ∷ ends 0 1 100 ∷ ends 0 2 100 ∷ [])) ≡ W 0 1 ∷ - ∷ - ∷ - ∷ W 0 2 ∷ W 1 1 ∷ []
   pub moved-up : tags two (three (comes 1 1 1500 ∷ [])) ≡ ms 1500 ∷ ms 2500 ∷ ms 1500 ∷ []
@@ -63,9 +65,10 @@ readings =
       limit-3 = λ r w q. refl;
       shares-300 = λ r l q. refl;
       shares-1000000 = λ r l q. refl;
-      next-at = λ idle. refl;
-      next-before = λ idle. refl;
-      next-after = λ idle. refl;
+      next-at = λ idle. elim idle as (λ b. given b 10 ≡ 10 ∷ 10 ∷ 10 ∷ []) [ true ↦ refl | false ↦ refl ];
+      next-before = refl;
+      next-before-idle = refl;
+      next-after = λ idle. elim idle as (λ b. given b 11 ≡ 11 ∷ 11 ∷ 11 ∷ []) [ true ↦ refl | false ↦ refl ];
       ten-answers = refl;
       first-tags = refl;
       moved-down = refl;

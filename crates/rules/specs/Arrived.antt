@@ -1,5 +1,5 @@
 -- What an event does before the choice is made, described without computing it: document 01, "Arrival at time t", with completion and tick,
--- as facts about places.
+-- as facts about places; the share tag at an idle guest by document 02, K3.
 use mathlib.Core.Path.{_≡_}
 use mathlib.Core.Bool.{Bool, true, false}
 use mathlib.Core.Logic.{_⊎_}
@@ -56,10 +56,11 @@ pub record Arrived (t : Table) (a : Arriving) (now : ℕ) (u : Table) : Type 0 w
   pub share-tags-stay : Busy t (a .guest) → (i : ℕ) → i < length (t .waiting) → (at (u .waiting) i) .stag ≡ (at (t .waiting) i) .stag
   pub share-nexts-stay : (g : ℕ) → g < length (t .guests) → (g ≡ a .guest → ⊥) → Busy t (a .guest) ⊎ Idle t g
       → (owner (u .guests) g) .snext ≡ (owner (t .guests) g) .snext
-  -- 2. "Each tag it has is the larger of the next number and t."
+  -- 2. "Each tag it has is the larger of the next number and t", but, document 02, K3: "the share tag of a request arriving at an idle guest is t itself"
   pub reservation-tag : Given (reserved ((arrivesAt t a) .settings)) now ((arrivesAt t a) .rnext) ((lastOf t u) .rtag)
   pub limit-tag : Given (limited ((arrivesAt t a) .settings)) now ((arrivesAt t a) .lnext) ((lastOf t u) .ltag)
-  pub share-tag : (lastOf t u) .stag ≡ max ((arrivesAt t a) .snext) now
+  pub share-tag : Busy t (a .guest) → (lastOf t u) .stag ≡ max ((arrivesAt t a) .snext) now
+  pub share-tag-idle : Idle t (a .guest) → (lastOf t u) .stag ≡ now
   -- 3. "Each next number becomes that tag plus the spacing."
   pub reservation-next : (owner (u .guests) (a .guest)) .rnext ≡ (lastOf t u) .rtag + rspacing ((arrivesAt t a) .settings) (lastOf t u)
   pub limit-next : (owner (u .guests) (a .guest)) .lnext ≡ (lastOf t u) .ltag + lspacing ((arrivesAt t a) .settings) (lastOf t u)

@@ -51,11 +51,12 @@ adjusted true now t =
 abbrev pub tagIf : (has : Bool) (now next : ℕ) → ℕ
 tagIf has now next = if has then tagAt now next else 0
 
--- the share tag of a request of the guest h, idle or not: "Document 000's algorithm takes the larger of the two for every arrival, and so do we."
+-- the share tag of a request of the guest h. Document 02, K3: "the share tag of a request arriving at an idle guest is t itself; busy guests keep the
+-- old rule", which is the larger of the next number and t
 unfoldable pub shareTag : (idle : Bool) (now : ℕ) → Guest → ℕ
-shareTag idle now h = tagAt now (h .snext)
+shareTag idle now h = if idle then now else tagAt now (h .snext)
 
--- the request with its tags: "Each tag it has is the larger of the next number and t."
+-- the request with its tags: "Each tag it has is the larger of the next number and t", but for the share tag at an idle guest
 unfoldable pub stamped : (idle : Bool) (now : ℕ) → Arriving → Guest → Request
 stamped idle now a h =
     record {

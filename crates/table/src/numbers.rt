@@ -38,11 +38,11 @@ pub fn tag_if(has: bool, time: u64, next: u64) -> u64
     if has { tag_at(time, next) } else { 0 }
 }
 
-// The share tag of an arriving request. Whether its guest is idle makes no difference to it.
+// The share tag of an arriving request: at an idle guest the time itself.
 pub fn share_tag(idle: bool, time: u64, next: u64) -> u64
     ensures { λ r. ⌜ ((h : Guest) → h .snext ≡ next → r ≡ shareTag idle time h) ⌝ }
 {
-    tag_at(time, next)
+    if idle { time } else { tag_at(time, next) }
 }
 
 // Whether no tag passes the ceiling.

@@ -10,7 +10,11 @@ tag-at-requires c κs = search needs
 
 returns : tie.Need-returns
 unfolding shareTag
-returns c h e = c .tag-at .ensures ∙ ap (tagAt (c .before .args .time)) (sym e)
+returns c h e = rw (c .if1 .taken)
+
+returns-2 : tie.Need-returns-2
+unfolding shareTag
+returns-2 c h e = rw (c .before .if1 .left) (c .tag-at .ensures ∙ ap (tagAt (c .before .before .args .time)) (sym e))
 
 pub share-tag-spec : {M : Type 1} → statement M
-share-tag-spec = tie.close (tie.spec tag-at-requires returns)
+share-tag-spec = tie.close (tie.spec tag-at-requires returns returns-2)
