@@ -1,11 +1,12 @@
 /* host.c: a small host around the gate. It plays the day of lot 214 (samples/lot214.txt) against an array that is only
- * simulated, and prints what the requests of each guest waited, from arrival to send, and how many ticks the day took.
+ * simulated, and prints what the requests of each guest waited, from arrival to send, and how many calls and ticks the
+ * day took.
  *
  *     cc -std=c99 -Iinclude examples/host.c target/staticlib/libhost.a -o host && ./host
  *
- * A host does three things: it hands every event to the gate, it sends what the answer names, and with nothing else to do
- * it sleeps until the time to wake that the gate said last, and then ticks. Here time is simulated too: where a host
- * sleeps, this one jumps to the next event.
+ * A host does three things: it hands every event to the gate, those of one interrupt in one call; it sends what the
+ * answers name; and with nothing else to do it sleeps until the time to wake that the gate said last, and then ticks.
+ * Here time is simulated too: where a host sleeps, this one jumps to the next event.
  */
 #include "sgq.h"
 
@@ -90,13 +91,17 @@ struct host {
     size_t row; /* of the day, and how many ids of that row have arrived */
     uint32_t within;
     uint64_t wake; /* when to tick, as the gate said last */
-    uint64_t ticks;
+    /* The events of one interrupt, and room for their answers. */
+    sgq_event events[SGQ_MOST_EVENTS];
+    sgq_answer answers[SGQ_MOST_EVENTS];
+    /* What the day took. */
+    uint64_t calls, told, ticks;
     struct waits waits[GUESTS][PHASES];
 };
 
-static void stop(const char *what, sgq_answer answer)
+static void stop(const char *what, uint64_t refusal)
 {
-    fprintf(stderr, "host: %s was refused, %" PRIu64 ": %s\n", what, answer.refusal, sgq_refusal_text(answer.refusal));
+    fprintf(stderr, "host: %s was refused, %" PRIu64 ": %s\n", what, refusal, sgq_refusal_text(refusal));
     exit(1);
 }
 
@@ -105,7 +110,7 @@ static void open_gate(struct host *host)
     host->lent = (sgq_tables)SGQ_TABLES(host->gate, host->guests, host->waiting, host->flight);
     sgq_answer answer = sgq_tables_open_all(&host->lent, settings, GUESTS);
     if (answer.kind == SGQ_REFUSED)
-        stop("opening", answer);
+        stop("opening", answer.refusal);
     host->wake = answer.wake;
 }
 
@@ -147,44 +152,41 @@ static void send_one(struct host *host, sgq_answer answer, uint64_t now)
     host->busy[host->busy_count++] = job;
 }
 
-static sgq_answer tick(struct host *host, uint64_t now)
-{
-    host->ticks += 1;
-    return sgq_tables_tick(&host->lent, now);
-}
-
-/* An event sends at most one request. As long as the gate says to wake now, a tick sends another; then it has said until
- * when the host may sleep. */
+/* What the answer to an accepted event asks of the host: at most one request goes, and so long it may sleep. */
 static void follow(struct host *host, sgq_answer answer, uint64_t now)
 {
-    while (answer.kind != SGQ_REFUSED) {
-        if (sgq_sent(answer))
-            send_one(host, answer, now);
-        host->wake = answer.wake;
-        if (host->wake > now)
-            return;
-        answer = tick(host, now);
-    }
-    stop("an event", answer);
+    if (sgq_sent(answer))
+        send_one(host, answer, now);
+    host->wake = answer.wake;
 }
 
-static void arrive(struct host *host, uint64_t now)
+/* As long as the gate says to wake now, a tick sends another; then it has said until when the host may sleep. */
+static void tick_while_due(struct host *host, uint64_t now)
+{
+    while (host->wake <= now) {
+        sgq_answer answer = sgq_tables_tick(&host->lent, now);
+        if (answer.kind == SGQ_REFUSED)
+            stop("a tick", answer.refusal);
+        host->ticks += 1;
+        follow(host, answer, now);
+    }
+}
+
+static uint64_t next_arrival(const struct host *host)
+{
+    return host->row < ROWS ? day[host->row].ms * MS : SGQ_NEVER;
+}
+
+static sgq_event arrive(struct host *host, uint64_t now)
 {
     const struct arrivals *row = &day[host->row];
-    struct job job = {row->guest, row->first + host->within, now};
+    sgq_event event = sgq_arrival(row->guest, row->first + host->within, now);
     host->within += 1;
     if (host->within == row->count) {
         host->row += 1;
         host->within = 0;
     }
-    sgq_answer answer = sgq_tables_arrive(&host->lent, job.guest, (uint32_t)job.id, now);
-    if (answer.kind == SGQ_REFUSED) { /* nothing has changed, nor when to wake, so the host goes on */
-        printf("refused: %s, id %" PRIu64 " at %" PRIu64 " ms: %" PRIu64 ", %s\n\n", guest_name[job.guest], job.id,
-               now / MS, answer.refusal, sgq_refusal_text(answer.refusal));
-        return;
-    }
-    host->asked[host->asked_count++] = job;
-    follow(host, answer, now);
+    return event;
 }
 
 /* The place at the array of the request that is done first. */
@@ -197,10 +199,53 @@ static size_t first_done(const struct host *host)
     return first;
 }
 
-static void complete(struct host *host, uint64_t now)
+static uint64_t next_done(const struct host *host)
+{
+    return host->busy_count > 0 ? host->busy[first_done(host)].time : SGQ_NEVER;
+}
+
+static sgq_event complete(struct host *host, uint64_t now)
 {
     struct job job = take_out(host->busy, &host->busy_count, first_done(host));
-    follow(host, sgq_tables_complete(&host->lent, job.guest, (uint32_t)job.id, now), now);
+    return sgq_completion(job.guest, (uint32_t)job.id, now);
+}
+
+/* All that is done now, then all that arrives now, as far as one call takes them. */
+static size_t gather(struct host *host, uint64_t now)
+{
+    size_t count = 0;
+    while (count < SGQ_MOST_EVENTS && next_done(host) == now)
+        host->events[count++] = complete(host, now);
+    while (count < SGQ_MOST_EVENTS && next_arrival(host) == now)
+        host->events[count++] = arrive(host, now);
+    return count;
+}
+
+static void note_answer(struct host *host, sgq_event event, sgq_answer answer)
+{
+    if (answer.kind == SGQ_REFUSED) { /* nothing has changed, nor when to wake, so the host goes on */
+        printf("refused: %s, id %" PRIu64 " at %" PRIu64 " ms: %" PRIu64 ", %s\n\n", guest_name[event.guest], event.id,
+               event.time / MS, answer.refusal, sgq_refusal_text(answer.refusal));
+        return;
+    }
+    if (event.kind == SGQ_ARRIVAL)
+        host->asked[host->asked_count++] = (struct job){event.guest, event.id, event.time};
+    follow(host, answer, event.time);
+}
+
+/* The array or a guest interrupts the host: all events of now in one call, answered as if they came one by one. */
+static void interrupt(struct host *host, uint64_t now)
+{
+    size_t count = gather(host, now);
+    if (count == 0)
+        return;
+    uint64_t refusal = sgq_tables_batch(&host->lent, host->events, count, host->answers, SGQ_COUNT(host->answers));
+    if (refusal != 0)
+        stop("an interrupt", refusal);
+    for (size_t place = 0; place < count; place++)
+        note_answer(host, host->events[place], host->answers[place]);
+    host->calls += 1;
+    host->told += count;
 }
 
 static uint64_t sooner(uint64_t a, uint64_t b)
@@ -208,21 +253,15 @@ static uint64_t sooner(uint64_t a, uint64_t b)
     return a < b ? a : b;
 }
 
-/* Plays the day to its end. At equal times what is done goes first, then what arrives. */
+/* Plays the day to its end. */
 static void play(struct host *host)
 {
     for (;;) {
-        uint64_t done = host->busy_count > 0 ? host->busy[first_done(host)].time : SGQ_NEVER;
-        uint64_t arrival = host->row < ROWS ? day[host->row].ms * MS : SGQ_NEVER;
-        uint64_t now = sooner(done, sooner(arrival, host->wake));
+        uint64_t now = sooner(next_done(host), sooner(next_arrival(host), host->wake));
         if (now == SGQ_NEVER)
             return;
-        if (now == done)
-            complete(host, now);
-        else if (now == arrival)
-            arrive(host, now);
-        else
-            follow(host, tick(host, now), now);
+        interrupt(host, now);
+        tick_while_due(host, now);
     }
 }
 
@@ -250,7 +289,8 @@ static void print_waits(const struct host *host)
 /* The day ends with its last event, whose time the gate has. */
 static void print_ticks(const struct host *host)
 {
-    printf("\nticks: before, one each ms, %" PRIu64 "; now, when the gate says, %" PRIu64 "\n", host->gate.time / MS,
+    printf("\nevents: %" PRIu64 ", handed over in %" PRIu64 " calls\n", host->told, host->calls);
+    printf("ticks: before, one each ms, %" PRIu64 "; now, when the gate says, %" PRIu64 "\n", host->gate.time / MS,
            host->ticks);
 }
 

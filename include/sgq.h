@@ -1,9 +1,9 @@
 /* sgq.h: the proved disc gate, for a host in C99 or C++11.
  *
  * The gate holds the requests of 1 to 64 guests for one disc array and decides, after each event, whether one goes to
- * the array: at most one. Events are an arrival (guest, id, time), a completion (guest, id, time) and a tick (time).
- * Each answer also says when to tick. The rules are document 01's; words in quotes are that document's own, where no
- * other is named.
+ * the array: at most one. Events are an arrival (guest, id, time), a completion (guest, id, time) and a tick (time),
+ * one in a call or up to 256. Each answer also says when to tick. The rules are document 01's; words in quotes are that
+ * document's own, where no other is named.
  *
  * The library keeps nothing between calls. The host lends it the gate and three tables at each call, and must not
  * change them in between: every call tests that they are sound and refuses with a number where they are not. "Every
@@ -12,8 +12,8 @@
  * What the host owes, since C does not check it:
  * - A pointer is never NULL, points to 64-bit numbers, and the length beside it is true. A length is a count of numbers
  *   in the calls, and a count of records in the helpers below, where a table of no records may be NULL.
- * - The gate and the tables do not overlap, and nobody else reads or writes them during a call. Calls on different
- *   gates may run at the same time.
+ * - The gate, the tables, events and answers do not overlap, and nobody else reads or writes them during a call. Calls
+ *   on different gates may run at the same time.
  *
  * The library is for x86-64 Linux. Link the archive where it is built, or what 'make install' installs:
  *   cc -Iinclude host.c target/staticlib/libhost.a
@@ -28,7 +28,7 @@
 /* The version of this header and of the library that it belongs to. While the major number is 0, another minor number
  * means other calls or other rows. SGQ_VERSION is the text "MAJOR.MINOR.PATCH". */
 #define SGQ_VERSION_MAJOR 0
-#define SGQ_VERSION_MINOR 2
+#define SGQ_VERSION_MINOR 3
 #define SGQ_VERSION_PATCH 0
 #define SGQ_VERSION \
     SGQ_TEXT_OF(SGQ_VERSION_MAJOR) "." SGQ_TEXT_OF(SGQ_VERSION_MINOR) "." SGQ_TEXT_OF(SGQ_VERSION_PATCH)
@@ -57,6 +57,9 @@ extern "C" {
 #define SGQ_MOST_GUESTS 64
 #define SGQ_MOST_CAPACITY 1024
 
+/* The most events of one call. Document 02, K5: "up to 256 events at a time". */
+#define SGQ_MOST_EVENTS 256
+
 /* "reservation 0 to 1,000,000 per second, 0 meaning none; limit 0 to 1,000,000 per second, 0 meaning unlimited; shares
  * 1 to 1,000,000." */
 #define SGQ_MOST_RATE 1000000
@@ -67,6 +70,7 @@ extern "C" {
 #define SGQ_GUEST_NUMBERS 6
 #define SGQ_REQUEST_NUMBERS 5
 #define SGQ_FLIGHT_NUMBERS 2
+#define SGQ_EVENT_NUMBERS 4
 #define SGQ_ANSWER_NUMBERS 5
 
 /* The gate: what it was opened with, the time and the counts. "A fresh table has time 0, nothing waiting or in
@@ -114,6 +118,21 @@ typedef struct sgq_flight {
     uint64_t id;
 } sgq_flight;
 
+/* An event of a batch. A tick has guest 0 and id 0. */
+typedef struct sgq_event {
+    uint64_t kind; /* enum sgq_event_kind */
+    uint64_t guest;
+    uint64_t id;   /* 32 bits */
+    uint64_t time; /* in nanoseconds */
+} sgq_event;
+
+/* The kinds of event, as a trace has them. */
+enum sgq_event_kind {
+    SGQ_ARRIVAL = 0,
+    SGQ_COMPLETION = 1,
+    SGQ_TICK = 2
+};
+
 /* What a call answers. Guest and id name the request sent and are 0 where none was; refusal is 0 where nothing was
  * refused.
  *
@@ -145,6 +164,7 @@ enum sgq_kind {
  *   arrival     2, 3, 4, 5, 6, 7, 8, 9
  *   completion  2, 3, 4, 5, 6, 10
  *   tick        2, 3, 5, 6
+ *   batch       16, 17; then each event by itself: 14, and then as the call of its kind
  * "Settings inside an open table are judged by 3; to know the lengths needed, guests, depth and capacity out of range
  * give 3 at once." */
 enum sgq_refusal {
@@ -160,12 +180,17 @@ enum sgq_refusal {
     SGQ_REFUSED_TAG_ABOVE_CEILING = 9,  /* "arrival: a tag given, or a share tag moved, would pass the ceiling" */
     SGQ_REFUSED_NOT_IN_FLIGHT = 10,     /* "completion: guest has no such id in flight" */
 
-    /* Only the program that reads a trace gives the rest; no call does. */
+    /* Only the program that reads a trace gives those named so; no call does. */
     SGQ_REFUSED_TRACE_MARK = 11,       /* "trace mark" */
     SGQ_REFUSED_TRACE_VERSION = 12,    /* "trace version" */
     SGQ_REFUSED_TRACE_HEADER_CUT = 13, /* "trace header cut short" */
-    SGQ_REFUSED_TRACE_EVENT_KIND = 14, /* "event kind above 2, or a tick with non-zero guest or id" */
-    SGQ_REFUSED_TRACE_EVENT_CUT = 15   /* "last event cut short" */
+    SGQ_REFUSED_EVENT_KIND = 14,       /* "event kind above 2, or a tick with non-zero guest or id"; in a batch also an
+                                        * id of more than 32 bits */
+    SGQ_REFUSED_TRACE_EVENT_CUT = 15,  /* "last event cut short" */
+
+    /* Of a whole batch; document 02, K5. */
+    SGQ_REFUSED_SHORT_ANSWERS = 16,  /* "answer buffer short" */
+    SGQ_REFUSED_TOO_MANY_EVENTS = 17 /* "more than 256 events" */
 };
 
 /* The calls. A table is a pointer to numbers and how many there are; it may be longer than the settings need: "Places
@@ -204,6 +229,19 @@ SGQ_MUST_USE sgq_answer sgq_tick(uint64_t *gate,
                                  uint64_t *waiting, size_t waiting_length,
                                  uint64_t *flight, size_t flight_length,
                                  uint64_t time);
+
+/* Up to SGQ_MOST_EVENTS events at once, SGQ_EVENT_NUMBERS each, answered by SGQ_ANSWER_NUMBERS each in the same order.
+ * Document 02, K5: "exactly as if they came one by one, a bad kind being 14, refused ones passed over", but that the
+ * tables are tested once for all. Gives 0, and then every event has its answer, refused ones too; or
+ * SGQ_REFUSED_SHORT_ANSWERS or SGQ_REFUSED_TOO_MANY_EVENTS, and then nothing was done: no number of the gate, of a
+ * table or of the answers has changed. Numbers behind the last whole event are no event; answer places past the last
+ * event stay as they are. When to tick is in the answer to the last event that was accepted. */
+SGQ_MUST_USE uint64_t sgq_batch(uint64_t *gate,
+                                uint64_t *guest_table, size_t guest_table_length,
+                                uint64_t *waiting, size_t waiting_length,
+                                uint64_t *flight, size_t flight_length,
+                                const uint64_t *events, size_t events_length,
+                                uint64_t *answers, size_t answers_length);
 
 /* What a host lends, in records: the helpers take this and turn counts of records into lengths. A count says how many
  * records the table has room for, not how many it holds; a table of no records may be NULL. */
@@ -306,6 +344,38 @@ SGQ_MUST_USE static inline sgq_answer sgq_tables_tick(const sgq_tables *lent, ui
                     time);
 }
 
+/* sgq_batch over records: so many events, and room for so many answers. Either may be NULL where its count is 0. */
+SGQ_MUST_USE static inline uint64_t sgq_tables_batch(const sgq_tables *lent, const sgq_event *events,
+                                                     size_t event_count, sgq_answer *answers, size_t answer_count)
+{
+    uint64_t spare = 0;
+    return sgq_batch(&lent->gate->depth,
+                     sgq_guest_numbers(lent, &spare), lent->guest_count * SGQ_GUEST_NUMBERS,
+                     sgq_waiting_numbers(lent, &spare), lent->waiting_count * SGQ_REQUEST_NUMBERS,
+                     sgq_flight_numbers(lent, &spare), lent->flight_count * SGQ_FLIGHT_NUMBERS,
+                     event_count == 0 ? &spare : &events->kind, event_count * SGQ_EVENT_NUMBERS,
+                     answer_count == 0 ? &spare : &answers->kind, answer_count * SGQ_ANSWER_NUMBERS);
+}
+
+/* Events for a batch. */
+static inline sgq_event sgq_arrival(uint64_t guest, uint32_t id, uint64_t time)
+{
+    const sgq_event event = {SGQ_ARRIVAL, guest, id, time};
+    return event;
+}
+
+static inline sgq_event sgq_completion(uint64_t guest, uint32_t id, uint64_t time)
+{
+    const sgq_event event = {SGQ_COMPLETION, guest, id, time};
+    return event;
+}
+
+static inline sgq_event sgq_tick_at(uint64_t time)
+{
+    const sgq_event event = {SGQ_TICK, 0, 0, time};
+    return event;
+}
+
 /* The next four read an open gate, and its tables, that no call has refused as not sound. */
 
 /* How many places at the array are free. Where none is, no call sends anything. */
@@ -344,7 +414,7 @@ static inline int sgq_sent(sgq_answer answer)
     return answer.kind == SGQ_SENT_BY_RESERVATION || answer.kind == SGQ_SENT_BY_WEIGHT;
 }
 
-/* A refusal in document 01's words, for logs; a number that it does not have is "no refusal". */
+/* A refusal in the documents' words, for logs; a number that they do not have is "no refusal". */
 static inline const char *sgq_refusal_text(uint64_t refusal)
 {
     switch (refusal) {
@@ -361,8 +431,10 @@ static inline const char *sgq_refusal_text(uint64_t refusal)
     case SGQ_REFUSED_TRACE_MARK: return "trace mark";
     case SGQ_REFUSED_TRACE_VERSION: return "trace version";
     case SGQ_REFUSED_TRACE_HEADER_CUT: return "trace header cut short";
-    case SGQ_REFUSED_TRACE_EVENT_KIND: return "event kind above 2, or a tick with non-zero guest or id";
+    case SGQ_REFUSED_EVENT_KIND: return "event kind above 2, or a tick with non-zero guest or id";
     case SGQ_REFUSED_TRACE_EVENT_CUT: return "last event cut short";
+    case SGQ_REFUSED_SHORT_ANSWERS: return "answer buffer short";
+    case SGQ_REFUSED_TOO_MANY_EVENTS: return "more than 256 events";
     default: return "no refusal";
     }
 }
@@ -373,6 +445,7 @@ typedef char sgq_settings_is_its_row[sizeof(sgq_settings) == SGQ_SETTINGS_NUMBER
 typedef char sgq_guest_is_its_row[sizeof(sgq_guest) == SGQ_GUEST_NUMBERS * sizeof(uint64_t) ? 1 : -1];
 typedef char sgq_request_is_its_row[sizeof(sgq_request) == SGQ_REQUEST_NUMBERS * sizeof(uint64_t) ? 1 : -1];
 typedef char sgq_flight_is_its_row[sizeof(sgq_flight) == SGQ_FLIGHT_NUMBERS * sizeof(uint64_t) ? 1 : -1];
+typedef char sgq_event_is_its_row[sizeof(sgq_event) == SGQ_EVENT_NUMBERS * sizeof(uint64_t) ? 1 : -1];
 typedef char sgq_answer_is_its_row[sizeof(sgq_answer) == SGQ_ANSWER_NUMBERS * sizeof(uint64_t) ? 1 : -1];
 
 #ifdef __cplusplus

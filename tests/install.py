@@ -107,7 +107,7 @@ def test_symbols(tally, house, prefix):
     """The shared object shows the calls that the header declares, and nothing else."""
     ended = house.sh(f"nm -D --defined-only {prefix}/lib/libsgq.so")
     shown = sorted(line.split()[-1] for line in ended.stdout.splitlines())
-    declared = sorted(re.findall(r"^SGQ_MUST_USE sgq_answer (\w+)\(", HEADER, re.MULTILINE))
+    declared = sorted(re.findall(r"^SGQ_MUST_USE \w+ (\w+)\(", HEADER, re.MULTILINE))
     tally.add("what the shared object shows", why_not(ended, shown == declared and len(declared) > 0))
 
 
@@ -195,7 +195,7 @@ def test_pages(tally):
     for declaration, name in declared:
         if not name.endswith("_numbers"):  # the helpers' own
             tally.add(f"the page of {name}", None if plain(declaration) + ";" in words else "no page has it as it is declared")
-    for call in re.findall(r"^SGQ_MUST_USE sgq_answer (\w+)\(", HEADER, re.MULTILINE):
+    for call in re.findall(r"^SGQ_MUST_USE \w+ (\w+)\(", HEADER, re.MULTILINE):
         tally.add(f"{call}.3", None if f"{call}.3" in pages else "there is no such page")
     for name, number in re.findall(r"^    (SGQ_REFUSED_(?!TRACE)\w+) = (\d+)", HEADER, re.MULTILINE):
         tally.add(f"{name} in sgq.3", None if f"\n.B {number} {name}\n" in pages["sgq.3"] else "it is not there")

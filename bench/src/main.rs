@@ -1,15 +1,17 @@
 //! Times the library's calls and the second program's on the same events of a bench trace. Each call of either tests
 //! the soundness of its tables first.
 //!
-//!     bench-calls WHICH TRACE SKIP COUNT ROUNDS
+//!     bench-calls WHICH TRACE SKIP COUNT ROUNDS [BATCH [CAPACITY]]
 //!
 //! WHICH is library, second or both. The first SKIP events fill the tables; the COUNT after them are played from there,
-//! ROUNDS times, in turn where it is both. Prints for each round the name and the nanoseconds that the COUNT calls took.
+//! ROUNDS times, in turn where it is both. The library takes BATCH events in one call; with 0, and where it is not named,
+//! each is a call of its own, as it always is of the second program. CAPACITY stands in for the trace's. Prints for each
+//! round the name and the nanoseconds that the COUNT events took.
 
 mod players;
 mod trace;
 
-use players::{after, Library, Player, Second};
+use players::{after, Batches, Library, Player, Second};
 use std::process::ExitCode;
 use std::time::Instant;
 use trace::Trace;
@@ -19,22 +21,26 @@ fn main() -> ExitCode {
     match run(&words) {
         Some(()) => ExitCode::SUCCESS,
         None => {
-            eprintln!("bench-calls library|second|both TRACE SKIP COUNT ROUNDS, TRACE one of 'traces fixed'");
+            eprintln!("bench-calls library|second|both TRACE SKIP COUNT ROUNDS [BATCH [CAPACITY]], TRACE one of 'traces fixed'");
             ExitCode::FAILURE
         }
     }
 }
 
 fn run(words: &[String]) -> Option<()> {
-    let [which, file, skip, count, rounds] = words else {
+    let [which, file, skip, count, rounds, more @ ..] = words else {
         return None;
     };
+    let batch: usize = more.first().map_or(Some(0), |word| word.parse().ok())?;
     let (skip, count): (usize, usize) = (skip.parse().ok()?, count.parse().ok()?);
     let rounds: usize = rounds.parse().ok()?;
-    let trace = Trace::read(file, skip + count)?;
+    let mut trace = Trace::read(file, skip + count)?;
+    if let Some(capacity) = more.get(1) {
+        trace.capacity = capacity.parse().ok()?;
+    }
     let (first, timed) = trace.events.split_at(skip);
     let start = after(&trace, first);
-    let library = (which != "second").then(|| Library(start.clone()));
+    let library = (which != "second").then(|| Batches::new(Library(start.clone()), batch));
     let second = (which != "library").then_some(Second(start));
     for _ in 0..rounds {
         let ours = library
@@ -52,11 +58,8 @@ fn run(words: &[String]) -> Option<()> {
 /// Plays the events from the same start and prints how long it took. Gives the answers folded into one number.
 fn time<P: Player + Clone>(name: &str, start: &P, events: &[second::trace::Event]) -> u64 {
     let mut player = start.clone();
-    let mut folded = 0u64;
     let begun = Instant::now();
-    for event in events {
-        folded = folded.wrapping_mul(31).wrapping_add(player.play(event));
-    }
+    let folded = player.play_all(events);
     println!("{name} {}", begun.elapsed().as_nanos());
     folded
 }

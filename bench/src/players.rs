@@ -10,6 +10,17 @@ use sgq::raw;
 pub trait Player {
     /// Plays one event. The number stands for the answer, the same for both players.
     fn play(&mut self, event: &Event) -> u64;
+
+    /// Plays all events. Gives the answers folded into one number.
+    fn play_all(&mut self, events: &[Event]) -> u64 {
+        events
+            .iter()
+            .fold(0, |so_far, event| join(so_far, self.play(event)))
+    }
+}
+
+fn join(so_far: u64, answer: u64) -> u64 {
+    so_far.wrapping_mul(31).wrapping_add(answer)
 }
 
 /// A number for each answer: kind, guest and id, or the refusal; and the time to wake.
@@ -72,9 +83,92 @@ impl Player for Library {
                 _ => raw::sgq_tick(gate, guests, g, waiting, w, flight, f, time),
             }
         };
-        let named = answer.id | answer.refusal;
-        folded(answer.kind, answer.guest, named, answer.wake)
+        of_library(answer)
     }
+}
+
+/// The library with so many events in one call, or each in its own where that is 0.
+#[derive(Clone)]
+pub struct Batches {
+    library: Library,
+    size: usize,
+    events: Vec<raw::Event>,
+    answers: Vec<raw::Answer>,
+}
+
+impl Batches {
+    pub fn new(library: Library, size: usize) -> Batches {
+        Batches {
+            library,
+            size,
+            events: Vec::with_capacity(size),
+            answers: vec![raw::Answer::default(); size],
+        }
+    }
+
+    /// The rows as a driver fills them, then one call.
+    fn play_batch(&mut self, events: &[Event]) {
+        self.events.clear();
+        self.events.extend(events.iter().map(|event| raw::Event {
+            kind: event.kind as u64,
+            guest: event.guest as u64,
+            id: event.id as u64,
+            time: event.time,
+        }));
+        let Owned {
+            gate,
+            guests,
+            waiting,
+            flight,
+        } = &mut self.library.0;
+        let (g, w, f) = (guests.len(), waiting.len(), flight.len());
+        let (gate, guests) = (gate.as_mut_ptr(), guests.as_mut_ptr());
+        let (waiting, flight) = (waiting.as_mut_ptr(), flight.as_mut_ptr());
+        let e = self.events.len() * raw::EVENT_NUMBERS;
+        let a = self.answers.len() * raw::ANSWER_NUMBERS;
+        let (events, answers) = (self.events.as_ptr(), self.answers.as_mut_ptr());
+        // SAFETY: all numbers of the gate, and all else as long as it is, each in memory of its own.
+        let found = unsafe {
+            raw::sgq_batch(
+                gate,
+                guests,
+                g,
+                waiting,
+                w,
+                flight,
+                f,
+                events.cast(),
+                e,
+                answers.cast(),
+                a,
+            )
+        };
+        assert_eq!(found, 0, "the batch was refused");
+    }
+}
+
+impl Player for Batches {
+    fn play(&mut self, event: &Event) -> u64 {
+        self.library.play(event)
+    }
+
+    fn play_all(&mut self, events: &[Event]) -> u64 {
+        if self.size == 0 {
+            return self.library.play_all(events);
+        }
+        let mut so_far = 0;
+        for part in events.chunks(self.size) {
+            self.play_batch(part);
+            let answers = self.answers[..part.len()].iter();
+            so_far = answers.fold(so_far, |so_far, &answer| join(so_far, of_library(answer)));
+        }
+        so_far
+    }
+}
+
+fn of_library(answer: raw::Answer) -> u64 {
+    let named = answer.id | answer.refusal;
+    folded(answer.kind, answer.guest, named, answer.wake)
 }
 
 #[derive(Clone)]

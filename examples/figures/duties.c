@@ -1,4 +1,4 @@
-/* duties.c: what a host does: the clock, ticks, requests that nobody wants any more, refusals, opening again. */
+/* duties.c: what a host does: clock, ticks, batches, requests that nobody wants any more, refusals, opening again. */
 #include "figures.h"
 
 #include <inttypes.h>
@@ -60,6 +60,35 @@ void ticks_figures(void)
 {
     one_by_one();
     when_woken();
+}
+
+/* Many events in one call. */
+
+static void print_whole(const char *what, uint64_t refusal)
+{
+    if (refusal != 0)
+        printf("%s: refused %" PRIu64 ", %s; nothing was done\n", what, refusal, sgq_refusal_text(refusal));
+    else
+        printf("%s: done\n", what);
+}
+
+void batch_figures(void)
+{
+    const sgq_settings settings[1] = {{0, 0, 1}};
+    static const char *const what[] = {"  guest 0, id 1", "  the same again", "  kind 3", "  guest 0, id 2",
+                                       "  the end of id 1"};
+    static sgq_event events[SGQ_MOST_EVENTS + 1];
+    static sgq_answer answers[SGQ_MOST_EVENTS + 1];
+    house_open(&house, 1, 8, settings, 1, 1, MS);
+    events[0] = events[1] = sgq_arrival(0, 1, 5);
+    events[2].kind = 3;
+    events[3] = sgq_arrival(0, 2, 6);
+    events[4] = sgq_completion(0, 1, 7);
+    print_whole("five events, room for five answers", sgq_tables_batch(&house.lent, events, 5, answers, 5));
+    for (size_t place = 0; place < SGQ_COUNT(what); place++)
+        print_answer(what[place], answers[place]);
+    print_whole("five events, room for four", sgq_tables_batch(&house.lent, events, 5, answers, 4));
+    print_whole("257 events, room for 257", sgq_tables_batch(&house.lent, events, 257, answers, 257));
 }
 
 /* A client with a limit of two a second asks for 32 and goes away; the next client asks for one. What the gate sends is

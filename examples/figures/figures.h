@@ -20,6 +20,7 @@ void limit_figures(void);
 /* duties.c */
 void clock_figures(void);
 void ticks_figures(void);
+void batch_figures(void);
 void withdrawn_figures(void);
 void gates_figures(void);
 void refusals_figures(void);

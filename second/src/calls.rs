@@ -3,7 +3,7 @@
 //! event says when to wake the host.
 
 use crate::numbers::counts_good;
-use crate::rules::{Answer, State};
+use crate::rules::{Answer, Phase, State};
 use crate::sound::first_broken;
 use crate::tables::{
     settings_at, Gate, Guest, Tables, View, FLIGHT_NUMBERS, GATE_NUMBERS, GUEST_NUMBERS,
@@ -23,7 +23,7 @@ pub struct Reply {
 pub const NEVER: u64 = u64::MAX;
 
 impl Reply {
-    fn refused(number: u8) -> Reply {
+    pub(crate) fn refused(number: u8) -> Reply {
         Reply {
             answer: Answer::Refused(number),
             wake: None,
@@ -36,6 +36,21 @@ impl Reply {
         match self.answer {
             Answer::Refused(_) => 0,
             _ => self.wake.unwrap_or(NEVER),
+        }
+    }
+
+    /// The reply as numbers: kind (0 nothing, 1 sent by reservation, 2 sent
+    /// by weight, 3 refused), guest and id sent, refusal, time to wake. What
+    /// an answer does not have is 0.
+    pub fn numbers(self) -> [u64; 5] {
+        let wake = self.wake_number();
+        match self.answer {
+            Answer::Nothing => [0, 0, 0, 0, wake],
+            Answer::Sent { phase, guest, id } => match phase {
+                Phase::Reservation => [1, guest, id, 0, wake],
+                Phase::Weight => [2, guest, id, 0, wake],
+            },
+            Answer::Refused(number) => [3, 0, 0, number as u64, wake],
         }
     }
 }

@@ -6,11 +6,13 @@
 //! - `rules`:   the events, the adjustment, the stamping, the choice, the drop
 //! - `wake`:    when a tick alone would next send something
 //! - `calls`:   the library calls on lent tables
+//! - `batch`:   many events in one call
 //! - `trace`:   the trace and the program that prints it
 //! - `sheet`:   the sale-day sheet of a trace
 //! - `sample`:  random numbers and random tables, for tests
 //! - `kinds`:   random traces, for tests and benchmarks
 
+pub mod batch;
 pub mod calls;
 pub mod kinds;
 pub mod numbers;
@@ -22,6 +24,7 @@ pub mod tables;
 pub mod trace;
 pub mod wake;
 
+pub use batch::batch;
 pub use calls::{arrive, complete, open, tick, Reply, NEVER};
 pub use numbers::{Settings, CEILING};
 pub use rules::{Answer, Phase, State};

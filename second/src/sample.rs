@@ -1,7 +1,12 @@
-//! Random numbers, settings and tables, for tests and for the traces.
+//! Random numbers, settings, tables and batches, for tests and for the
+//! traces.
 
+use crate::batch::{ANSWER_NUMBERS, EVENT_NUMBERS, MOST_EVENTS};
+use crate::calls::{read, table_refusal};
 use crate::numbers::{Settings, CEILING, MOST_RATE, SECOND};
+use crate::rules::State;
 use crate::tables::{Flight, Gate, Guest, Tables, View, Waiting, FLIGHT_NUMBERS, WAITING_NUMBERS};
+use crate::trace::{ARRIVAL, COMPLETION, TICK};
 
 /// A small generator of numbers (splitmix64): the same seed, the same run.
 #[derive(Clone)]
@@ -316,5 +321,131 @@ pub fn spoil(rng: &mut Prng, tables: &mut Owned) {
         5 => table[at] = old | 1 << 32,
         6 => table[at] = rng.pick(&[CEILING, CEILING + 1, CEILING + SECOND, CEILING + SECOND + 1]),
         _ => table[at] = rng.sized(64),
+    }
+}
+
+/// A batch of events for some tables, and room for its answers.
+#[derive(Clone, Debug, PartialEq, Eq)]
+pub struct Batch {
+    pub events: Vec<u64>,
+    pub answers: Vec<u64>,
+}
+
+/// A random batch of 0 to 300 events that mean something to these tables,
+/// some of them damaged, sometimes with numbers behind the last; the room
+/// for answers is now and then too short, often longer than needed, and
+/// holds any numbers.
+pub fn batch(rng: &mut Prng, tables: &Owned) -> Batch {
+    let count = batch_length(rng);
+    let mut events = batch_events(rng, tables, count);
+    if rng.chance(30) {
+        for _ in 0..rng.between(1, EVENT_NUMBERS as u64 - 1) {
+            events.push(rng.sized(64));
+        }
+    }
+    let room = batch_room(rng, count);
+    let answers = (0..room).map(|_| rng.pick(&[77, 0, u64::MAX])).collect();
+    Batch { events, answers }
+}
+
+fn batch_length(rng: &mut Prng) -> u64 {
+    let most = MOST_EVENTS as u64;
+    match rng.below(20) {
+        0 => 0,
+        1 => 1,
+        2 => most,
+        3 => most + 1,
+        4 => rng.between(most + 1, 300),
+        5..=6 => rng.below(301),
+        _ => rng.between(2, 40),
+    }
+}
+
+fn batch_room(rng: &mut Prng, count: u64) -> usize {
+    let (row, most) = (ANSWER_NUMBERS as u64, MOST_EVENTS as u64);
+    let needed = count * row;
+    let room = match rng.below(20) {
+        0 => needed.saturating_sub(1),
+        1 => rng.below(needed + 1),
+        // Enough for as many as a batch may have.
+        2 => most * row,
+        3..=5 => needed + rng.between(1, 3 * row),
+        _ => needed,
+    };
+    room as usize
+}
+
+/// The events are played along where the tables are sound, so that they go
+/// on from each other.
+fn batch_events(rng: &mut Prng, tables: &Owned, count: u64) -> Vec<u64> {
+    let mut state = match table_refusal(&tables.view()) {
+        None => read(&tables.view()),
+        Some(_) => State::fresh(2, 4, &[any_settings(rng), any_settings(rng)]),
+    };
+    let damaged = rng.pick(&[0, 0, 5, 20]);
+    let mut events = Vec::new();
+    for _ in 0..count {
+        let mut event = batch_event(rng, &state);
+        let [kind, guest, id, time] = event;
+        if rng.chance(damaged) {
+            damage(rng, &mut event);
+        } else if kind == ARRIVAL as u64 {
+            state.arrive(guest, id as u32, time);
+        } else if kind == COMPLETION as u64 {
+            state.complete(guest, id as u32, time);
+        } else {
+            state.tick(time);
+        }
+        events.extend(event);
+    }
+    events
+}
+
+/// An event that is most often accepted.
+fn batch_event(rng: &mut Prng, state: &State) -> [u64; EVENT_NUMBERS] {
+    let time = batch_time(rng, state);
+    let guests = state.guests.len() as u64;
+    let guest = match rng.below(30) {
+        0 => rng.pick(&[guests, 64, 1 << 32, u64::MAX]),
+        _ => rng.below(guests),
+    };
+    let (arrival, completion) = (ARRIVAL as u64, COMPLETION as u64);
+    match rng.below(10) {
+        0..=4 => [arrival, guest, some_id(rng), time],
+        5..=7 if !state.flight.is_empty() => {
+            let f = rng.pick(&state.flight);
+            [completion, f.guest, f.id, time]
+        }
+        8 => [completion, guest, some_id(rng), time],
+        _ => [TICK as u64, 0, 0, time],
+    }
+}
+
+fn batch_time(rng: &mut Prng, state: &State) -> u64 {
+    let last = state.time;
+    match rng.below(20) {
+        0 => last.saturating_sub(rng.between(1, 3)),
+        1 if rng.chance(30) => rng.pick(&[CEILING, CEILING + 1, u64::MAX]),
+        2..=4 if !state.waiting.is_empty() => {
+            let w = rng.pick(&state.waiting);
+            rng.pick(&[w.rtag, w.ltag, w.rtag, w.ltag, w.stag])
+                .max(last)
+        }
+        5..=8 => (last + rng.sized(34)).min(CEILING),
+        _ => last,
+    }
+}
+
+/// An event that is often none.
+fn damage(rng: &mut Prng, event: &mut [u64; EVENT_NUMBERS]) {
+    let tick = TICK as u64;
+    let time = event[3];
+    match rng.below(6) {
+        0 => event[0] = rng.pick(&[3, 4, 255, 256, 257, 258, 1 << 32, u64::MAX]),
+        1 => event[2] |= 1 << 32,
+        2 => event[2] = rng.pick(&[1 << 32, (1 << 32) + 1, u64::MAX]),
+        3 => *event = [tick, rng.pick(&[1, 64, 256, 1 << 32]), 0, time],
+        4 => *event = [tick, 0, rng.pick(&[1, 256, 1 << 32, u64::MAX]), time],
+        _ => *event = [rng.sized(3), rng.sized(64), rng.sized(64), rng.sized(64)],
     }
 }

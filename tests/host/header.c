@@ -10,7 +10,7 @@
 
 /* A field stands at its place in the row, or this does not compile. */
 #define AT(record, field, place) \
-    typedef char record##_##field[offsetof(record, field) == (place) * sizeof(uint64_t) ? 1 : -1]
+    typedef char record##_##field##_stands[offsetof(record, field) == (place) * sizeof(uint64_t) ? 1 : -1]
 
 AT(sgq_gate, depth, 0);
 AT(sgq_gate, guests, 1);
@@ -34,6 +34,10 @@ AT(sgq_request, ltag, 3);
 AT(sgq_request, stag, 4);
 AT(sgq_flight, guest, 0);
 AT(sgq_flight, id, 1);
+AT(sgq_event, kind, 0);
+AT(sgq_event, guest, 1);
+AT(sgq_event, id, 2);
+AT(sgq_event, time, 3);
 AT(sgq_answer, kind, 0);
 AT(sgq_answer, guest, 1);
 AT(sgq_answer, id, 2);

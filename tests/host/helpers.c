@@ -1,5 +1,6 @@
 /* What header.c does not try of sgq.h: tables of no records, counts taken from arrays, free places and waiting counts,
- * and when to wake. C99 and C++ alike; prints a line for each thing that is not as it should be. */
+ * when to wake, and many events in one call. C99 and C++ alike; prints a line for each thing that is not as it should
+ * be. */
 #include "sgq.h"
 
 #include <inttypes.h>
@@ -39,6 +40,12 @@ static void no_records(void)
     refused("arrival", sgq_tables_arrive(&lent, 0, 1, 0), SGQ_REFUSED_SHORT_TABLE);
     refused("completion", sgq_tables_complete(&lent, 0, 1, 0), SGQ_REFUSED_SHORT_TABLE);
     refused("tick", sgq_tables_tick(&lent, 0), SGQ_REFUSED_SHORT_TABLE);
+    same("no events", sgq_tables_batch(&lent, NULL, 0, NULL, 0), 0);
+    const sgq_event tick = sgq_tick_at(0);
+    same("no room", sgq_tables_batch(&lent, &tick, 1, NULL, 0), SGQ_REFUSED_SHORT_ANSWERS);
+    sgq_answer answer;
+    same("no tables", sgq_tables_batch(&lent, &tick, 1, &answer, 1), 0);
+    refused("a tick of a batch", answer, SGQ_REFUSED_SHORT_TABLE);
 }
 
 /* Two guests, five arrivals: two are sent, the others wait; the sixth finds no place. */
@@ -100,6 +107,40 @@ static void wakes(void)
     same("never is all bits one", ~SGQ_NEVER, 0);
 }
 
+/* Four events in one call, one of them refused and one that is none; the place past their answers stays as it is. Then
+ * one event more than a call takes. */
+static void batches(void)
+{
+    static const sgq_settings settings[] = {{0, 0, 1}};
+    static sgq_gate gate;
+    static sgq_guest guests[1];
+    static sgq_request waiting[CAPACITY];
+    static sgq_flight flight[1];
+    static const sgq_tables lent = SGQ_TABLES(gate, guests, waiting, flight);
+    static sgq_event many[SGQ_MOST_EVENTS + 1];
+    static sgq_answer answers[SGQ_MOST_EVENTS + 1];
+
+    same("open", sgq_tables_open_all(&lent, settings, SGQ_COUNT(settings)).kind, SGQ_NOTHING);
+    many[0] = sgq_arrival(0, 1, 5);
+    many[1] = sgq_arrival(0, 1, 5);
+    many[2] = sgq_tick_at(6);
+    many[2].guest = 1;
+    many[3] = sgq_completion(0, 1, 7);
+    answers[4].kind = 77;
+    same("four events", sgq_tables_batch(&lent, many, 4, answers, SGQ_COUNT(answers)), 0);
+    same("the first is sent", (uint64_t)sgq_sent(answers[0]), 1);
+    refused("the second is there", answers[1], SGQ_REFUSED_ID_IN_USE);
+    refused("the third is none", answers[2], SGQ_REFUSED_EVENT_KIND);
+    same("the fourth", answers[3].kind, SGQ_NOTHING);
+    same("a spare place", answers[4].kind, 77);
+    same("time", gate.time, 7);
+    same("one too many", sgq_tables_batch(&lent, many, SGQ_COUNT(many), answers, SGQ_COUNT(answers)),
+         SGQ_REFUSED_TOO_MANY_EVENTS);
+    same("short before that", sgq_tables_batch(&lent, many, SGQ_COUNT(many), answers, SGQ_MOST_EVENTS),
+         SGQ_REFUSED_SHORT_ANSWERS);
+    same("time after them", gate.time, 7);
+}
+
 int main(void)
 {
     char version[32];
@@ -108,5 +149,6 @@ int main(void)
     no_records();
     counts();
     wakes();
+    batches();
     return wrong;
 }

@@ -60,7 +60,7 @@ pub enum Phase {
     Weight,
 }
 
-/// Why a call was refused, with the number of document 01. "Every refusal changes no lent number and not the time."
+/// Why a call or an event of a batch was refused, with the documents' number. "Every refusal changes no lent number and not the time."
 ///
 /// The numbers of those that the calls give need not follow each other, and more may come.
 #[derive(Clone, Copy, Debug, PartialEq, Eq, Hash)]
@@ -88,6 +88,13 @@ pub enum Refusal {
     TagAboveCeiling = 9,
     /// "completion: guest has no such id in flight".
     NotInFlight = 10,
+    /// "event kind above 2, or a tick with non-zero guest or id", or an id of more than 32 bits: an event of a batch
+    /// that is none. The makers of [`crate::Event`] make no such one.
+    EventKind = 14,
+    /// Of a whole batch; document 02, K5: "answer buffer short".
+    ShortAnswers = 16,
+    /// Of a whole batch; document 02, K5: "more than 256 events".
+    TooManyEvents = 17,
 }
 
 impl Refusal {
@@ -103,6 +110,9 @@ impl Refusal {
         Refusal::WaitingFull,
         Refusal::TagAboveCeiling,
         Refusal::NotInFlight,
+        Refusal::EventKind,
+        Refusal::ShortAnswers,
+        Refusal::TooManyEvents,
     ];
 
     /// The refusal of this number, if the calls give it.
@@ -112,13 +122,13 @@ impl Refusal {
         all.into_iter().find(|refusal| refusal.number() == number)
     }
 
-    /// Document 01's number.
+    /// The documents' number.
     #[must_use]
     pub fn number(self) -> u64 {
         self as u64
     }
 
-    /// Document 01's words.
+    /// The documents' words.
     #[must_use]
     pub fn words(self) -> &'static str {
         match self {
@@ -132,6 +142,9 @@ impl Refusal {
             Refusal::WaitingFull => "waiting count equals capacity",
             Refusal::TagAboveCeiling => "a tag given, or a share tag moved, would pass the ceiling",
             Refusal::NotInFlight => "guest has no such id in flight",
+            Refusal::EventKind => "event kind above 2, or a tick with non-zero guest or id",
+            Refusal::ShortAnswers => "answer buffer short",
+            Refusal::TooManyEvents => "more than 256 events",
         }
     }
 }
@@ -179,13 +192,15 @@ pub(crate) fn named(given: raw::Answer) -> Result<Outcome, Refusal> {
         raw::NOTHING => Answer::Nothing,
         raw::SENT_BY_RESERVATION => sent(Phase::Reservation, given),
         raw::SENT_BY_WEIGHT => sent(Phase::Weight, given),
-        _ => {
-            let refusal = Refusal::of(given.refusal);
-            return Err(refusal.expect("library and wrapper are of one version"));
-        }
+        _ => return Err(refusal(given.refusal)),
     };
     let wake = (given.wake != raw::NEVER).then_some(given.wake);
     Ok(Outcome { answer, wake })
+}
+
+/// The refusal of a number that the library gives.
+pub(crate) fn refusal(number: u64) -> Refusal {
+    Refusal::of(number).expect("library and wrapper are of one version")
 }
 
 fn sent(phase: Phase, answer: raw::Answer) -> Answer {

@@ -1,8 +1,9 @@
 //! A gate that owns its tables.
 
-use crate::answer::{named, Outcome, Refusal};
-use crate::raw::{self, Flight, Guest, Numbers, Request, Settings};
+use crate::answer::{named, refusal, Outcome, Refusal};
+use crate::raw::{self, Event, Flight, Guest, Numbers, Request, Settings};
 use crate::{MOST_CAPACITY, MOST_DEPTH};
+use std::slice;
 
 /// An open gate with its tables.
 #[derive(Clone, Debug, PartialEq, Eq)]
@@ -132,6 +133,42 @@ impl Gate {
         })
     }
 
+    /// Up to [`crate::MOST_EVENTS`] events in one call. Document 02, K5: "exactly as if they came one by one, a bad kind
+    /// being 14, refused ones passed over". The answers stand in the room that is lent, one for each event from its
+    /// front on, and are given by name; places past them stay as they are. When to tick is in the last that was accepted.
+    ///
+    /// # Errors
+    ///
+    /// [`Refusal::ShortAnswers`] where there is no room for as many answers as events, or else
+    /// [`Refusal::TooManyEvents`]: the whole call. Gate and room are then as they were.
+    pub fn batch<'a>(
+        &mut self,
+        events: &[Event],
+        room: &'a mut [raw::Answer],
+    ) -> Result<Answers<'a>, Refusal> {
+        let lent = self.lend();
+        // SAFETY: see `lend`; events and answers are rows of numbers too, and the answers' memory is lent to us alone.
+        let found = unsafe {
+            raw::sgq_batch(
+                lent.gate,
+                lent.guests,
+                lent.guests_length,
+                lent.waiting,
+                lent.waiting_length,
+                lent.flight,
+                lent.flight_length,
+                events.as_ptr().cast(),
+                numbers_in(events),
+                room.as_mut_ptr().cast(),
+                numbers_in(room),
+            )
+        };
+        match found {
+            0 => Ok(Answers(room[..events.len()].iter())),
+            number => Err(refusal(number)),
+        }
+    }
+
     /// Places at the array.
     #[must_use]
     pub fn depth(&self) -> u64 {
@@ -208,6 +245,25 @@ impl Gate {
         }
     }
 }
+
+/// The answers to a batch, in the order of its events.
+#[must_use = "an answer may name a request that now goes to the array"]
+#[derive(Clone, Debug)]
+pub struct Answers<'a>(slice::Iter<'a, raw::Answer>);
+
+impl Iterator for Answers<'_> {
+    type Item = Result<Outcome, Refusal>;
+
+    fn next(&mut self) -> Option<Self::Item> {
+        self.0.next().copied().map(named)
+    }
+
+    fn size_hint(&self) -> (usize, Option<usize>) {
+        self.0.size_hint()
+    }
+}
+
+impl ExactSizeIterator for Answers<'_> {}
 
 /// Pointers and lengths, in the order of the calls.
 struct Lent {

@@ -1,7 +1,7 @@
 //! The proved disc gate, for a host in Rust.
 //!
 //! The gate holds the requests of 1 to 64 guests for one disc array and decides, after each event, whether one goes to
-//! the array: at most one. Each answer also says when to tick. [`Gate`] owns the tables that the library is lent; its
+//! the array: at most one. Up to 256 events go in one call. Each answer also says when to tick. [`Gate`] owns the tables that the library is lent; its
 //! methods are the library's calls. The rules are document 01's; words in quotes are that document's own, where no other
 //! is named.
 //!
@@ -50,6 +50,22 @@
 //! }
 //! ```
 //!
+//! The events of one interrupt go in one call, [`Gate::batch`], each answered as if it had come alone:
+//!
+//! ```
+//! use sgq::{raw, Event, Gate, Refusal, Settings};
+//!
+//! # fn main() -> Result<(), Refusal> {
+//! let mut gate = Gate::open(1, 8, &[Settings { reservation: 0, limit: 0, shares: 1 }])?;
+//! let mut room = [raw::Answer::default(); 3];
+//! let events = [Event::arrival(0, 1, 5), Event::arrival(0, 2, 5), Event::completion(0, 1, 9)];
+//! for outcome in gate.batch(&events, &mut room)? {
+//!     println!("{}", outcome?); // id 1 goes, nothing goes, id 2 goes
+//! }
+//! # Ok(())
+//! # }
+//! ```
+//!
 //! # Linking
 //!
 //! The build script links the archive that the environment variable `SGQ_LIB` names, or else target/staticlib/libhost.a
@@ -59,7 +75,7 @@
 //! # What is proved
 //!
 //! The library's calls are. This wrapper is not: it keeps the tables, passes them on as pointers and lengths, and gives
-//! the answers names. Its `unsafe` blocks are those four calls.
+//! the answers names. Its `unsafe` blocks are those five calls.
 
 #![deny(missing_docs, unsafe_op_in_unsafe_fn)]
 
@@ -68,8 +84,8 @@ mod gate;
 pub mod raw;
 
 pub use answer::{Answer, Outcome, Phase, Refusal};
-pub use gate::Gate;
-pub use raw::{Flight, Guest, Request, Settings};
+pub use gate::{Answers, Gate};
+pub use raw::{Event, Flight, Guest, Request, Settings};
 
 /// "Time and tags are whole nanoseconds, 0 to 4,611,686,018,427,387,903 (2^62 − 1, the ceiling)."
 pub const CEILING: u64 = (1 << 62) - 1;
@@ -82,6 +98,9 @@ pub const MOST_GUESTS: u64 = 64;
 
 /// "Capacity (waiting places) 1 to 1,024."
 pub const MOST_CAPACITY: u64 = 1_024;
+
+/// The most events of one call. Document 02, K5: "up to 256 events at a time".
+pub const MOST_EVENTS: u64 = 256;
 
 /// The largest reservation, limit and number of shares.
 pub const MOST_RATE: u64 = 1_000_000;

@@ -14,6 +14,8 @@ pub const GUEST_NUMBERS: usize = 6;
 pub const REQUEST_NUMBERS: usize = 5;
 /// How many numbers a request in flight is.
 pub const FLIGHT_NUMBERS: usize = 2;
+/// How many numbers an event of a batch is.
+pub const EVENT_NUMBERS: usize = 4;
 /// How many numbers an answer is.
 pub const ANSWER_NUMBERS: usize = 5;
 
@@ -23,6 +25,7 @@ const _: () = assert!(numbers_of::<Settings>() == SETTINGS_NUMBERS);
 const _: () = assert!(numbers_of::<Guest>() == GUEST_NUMBERS);
 const _: () = assert!(numbers_of::<Request>() == REQUEST_NUMBERS);
 const _: () = assert!(numbers_of::<Flight>() == FLIGHT_NUMBERS);
+const _: () = assert!(numbers_of::<Event>() == EVENT_NUMBERS);
 const _: () = assert!(numbers_of::<Answer>() == ANSWER_NUMBERS);
 
 const fn numbers_of<T>() -> usize {
@@ -102,6 +105,61 @@ pub struct Flight {
     pub guest: u64,
     /// The id, 32 bits.
     pub id: u64,
+}
+
+/// The kind of an event: a request arrives.
+pub const ARRIVAL: u64 = 0;
+/// The kind of an event: a request in flight is done.
+pub const COMPLETION: u64 = 1;
+/// The kind of an event: time has gone on.
+pub const TICK: u64 = 2;
+
+/// An event of a batch. Any numbers may be handed over; what is no event is refused, number 14.
+#[repr(C)]
+#[derive(Clone, Copy, Debug, Default, PartialEq, Eq)]
+pub struct Event {
+    /// [`ARRIVAL`], [`COMPLETION`] or [`TICK`].
+    pub kind: u64,
+    /// The guest's number, from 0; 0 in a tick.
+    pub guest: u64,
+    /// The id, 32 bits; 0 in a tick.
+    pub id: u64,
+    /// In nanoseconds.
+    pub time: u64,
+}
+
+impl Event {
+    /// A request of a guest arrives.
+    #[must_use]
+    pub fn arrival(guest: u64, id: u32, time: u64) -> Event {
+        Event {
+            kind: ARRIVAL,
+            guest,
+            id: id.into(),
+            time,
+        }
+    }
+
+    /// A request in flight is done.
+    #[must_use]
+    pub fn completion(guest: u64, id: u32, time: u64) -> Event {
+        Event {
+            kind: COMPLETION,
+            guest,
+            id: id.into(),
+            time,
+        }
+    }
+
+    /// Time has gone on.
+    #[must_use]
+    pub fn tick(time: u64) -> Event {
+        Event {
+            kind: TICK,
+            time,
+            ..Event::default()
+        }
+    }
 }
 
 /// The kind of an answer: accepted (at opening: opened), and nothing is sent.
@@ -189,4 +247,21 @@ extern "C" {
         flight_length: usize,
         time: u64,
     ) -> Answer;
+
+    /// Up to [`crate::MOST_EVENTS`] events, [`EVENT_NUMBERS`] each, answered by [`ANSWER_NUMBERS`] each. Gives 0, or 16
+    /// or 17 with nothing done.
+    #[must_use]
+    pub fn sgq_batch(
+        gate: *mut u64,
+        guest_table: *mut u64,
+        guest_table_length: usize,
+        waiting: *mut u64,
+        waiting_length: usize,
+        flight: *mut u64,
+        flight_length: usize,
+        events: *const u64,
+        events_length: usize,
+        answers: *mut u64,
+        answers_length: usize,
+    ) -> u64;
 }

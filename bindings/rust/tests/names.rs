@@ -103,6 +103,57 @@ fn short_tables() {
     }
 }
 
+/// A batch on the tables of one guest, depth 1 and capacity 1 that `SOUND` is the gate of; its answers, and the number
+/// of the whole call.
+fn batch(gate: raw::Numbers, events: &[u64], room: &mut [u64]) -> u64 {
+    let mut gate = gate;
+    let mut guests = [Guest {
+        shares: 1,
+        ..Guest::default()
+    }];
+    let mut waiting = [Request::default()];
+    let mut flight = [Flight::default()];
+    // SAFETY: the tables, the events and the room are each their own memory, lent whole.
+    unsafe {
+        raw::sgq_batch(
+            (&raw mut gate).cast(),
+            guests.as_mut_ptr().cast(),
+            GUEST_NUMBERS,
+            waiting.as_mut_ptr().cast(),
+            REQUEST_NUMBERS,
+            flight.as_mut_ptr().cast(),
+            FLIGHT_NUMBERS,
+            events.as_ptr(),
+            events.len(),
+            room.as_mut_ptr(),
+            room.len(),
+        )
+    }
+}
+
+/// Numbers behind the last whole row are no event, and take no room.
+#[test]
+fn rows_of_a_batch() {
+    let tick = [raw::TICK, 0, 0, 7];
+    let events: Vec<u64> = tick.into_iter().chain([raw::TICK, 0, 0]).collect();
+    let mut room = [77; 9];
+    assert_eq!(batch(SOUND, &events, &mut room[..4]), 16);
+    assert_eq!(room, [77; 9]);
+    assert_eq!(batch(SOUND, &events, &mut room), 0);
+    assert_eq!(room, [0, 0, 0, 0, raw::NEVER, 77, 77, 77, 77]);
+    assert_eq!(batch(SOUND, &events[4..], &mut []), 0);
+}
+
+/// What is no event is 14 before the tables are looked at; what is one is refused for them.
+#[test]
+fn a_batch_on_unsound_tables() {
+    let unsound = raw::Numbers { depth: 0, ..SOUND };
+    let mut room = [77; 10];
+    assert_eq!(batch(unsound, &[3, 0, 0, 0, 2, 0, 0, 0], &mut room), 0);
+    assert_eq!(room, [3, 0, 0, 14, 0, 3, 0, 0, 3, 0]);
+    assert_eq!(batch(unsound, &[], &mut room), 0);
+}
+
 #[test]
 fn unsound_tables() {
     let no_depth = raw::Numbers { depth: 0, ..SOUND };

@@ -1,9 +1,9 @@
-//! Document 01's example and edge readings, each refusal, and when to tick, through the wrapper.
+//! Document 01's example and edge readings, each refusal, when to tick, and many events in one call, through the wrapper.
 
 #![allow(clippy::unnecessary_wraps)] // what a call must give is compared as it is given
 
-use sgq::{Answer, Flight, Gate, Guest, Outcome, Phase, Refusal, Settings};
-use sgq::{CEILING, MOST_CAPACITY, MOST_DEPTH, MOST_GUESTS, MOST_RATE};
+use sgq::{raw, Answer, Event, Flight, Gate, Guest, Outcome, Phase, Refusal, Settings};
+use sgq::{CEILING, MOST_CAPACITY, MOST_DEPTH, MOST_EVENTS, MOST_GUESTS, MOST_RATE};
 
 const MS: u64 = 1_000_000;
 
@@ -286,4 +286,112 @@ fn every_tick_sends() {
         ticks += 1;
     }
     assert_eq!((ticks, gate.waiting().len()), (6, 0));
+}
+
+/// What a batch answers, with room for just as many answers.
+fn batch(gate: &mut Gate, events: &[Event]) -> Vec<Result<Outcome, Refusal>> {
+    let mut room = vec![raw::Answer::default(); events.len()];
+    let answers = gate.batch(events, &mut room).expect("there is room");
+    assert_eq!(answers.len(), events.len());
+    answers.collect()
+}
+
+/// Document 01's example in one call.
+#[test]
+fn example_in_one_call() {
+    let mut gate = open(4, 8, &[settings(100, 250, 1)]);
+    let arrivals = (1..=4).map(|id| Event::arrival(0, id, 0));
+    let ticks = [4, 8, 10, 9].map(|time| Event::tick(time * MS));
+    let ends = [Event::completion(0, 1, 10 * MS); 2];
+    let events: Vec<_> = arrivals.chain(ticks).chain(ends).collect();
+    let answers = batch(&mut gate, &events);
+    let expected = [
+        by_reservation(0, 1),
+        until(4 * MS, NOTHING),
+        until(4 * MS, NOTHING),
+        until(4 * MS, NOTHING),
+        until(8 * MS, by_weight(0, 2)),
+        until(10 * MS, by_weight(0, 3)),
+        by_reservation(0, 4),
+        Err(Refusal::TimeBeforeLast),
+        NOTHING,
+        Err(Refusal::NotInFlight),
+    ];
+    assert_eq!(answers, expected);
+    assert_eq!((gate.time(), gate.flight().len()), (10 * MS, 3));
+}
+
+/// A batch leaves what the same events leave one by one.
+#[test]
+fn one_by_one() {
+    let mut gate = limited(2, 10, 3);
+    let mut alone = gate.clone();
+    let events = [
+        Event::arrival(0, 9, 7),
+        Event::arrival(1, 9, 7),
+        Event::completion(0, 1, 100 * MS),
+        Event::tick(100 * MS),
+    ];
+    let single = vec![
+        alone.arrive(0, 9, 7),
+        alone.arrive(1, 9, 7),
+        alone.complete(0, 1, 100 * MS),
+        alone.tick(100 * MS),
+    ];
+    assert_eq!(batch(&mut gate, &events), single);
+    assert_eq!(gate, alone);
+}
+
+#[test]
+fn what_is_no_event() {
+    let mut gate = limited(2, 10, 3);
+    let before = gate.clone();
+    let event = |kind, guest, id| Event {
+        kind,
+        guest,
+        id,
+        time: 0,
+    };
+    let none = [
+        event(3, 0, 0),
+        event(u64::MAX, 0, 0),
+        event(raw::TICK, 1, 0),
+        event(raw::TICK, 0, 1),
+        event(raw::ARRIVAL, 0, 1 << 32),
+        event(raw::COMPLETION, 9, u64::MAX),
+    ];
+    let answers = batch(&mut gate, &none);
+    assert_eq!(answers, vec![Err(Refusal::EventKind); none.len()]);
+    let far = event(raw::ARRIVAL, u64::MAX, 1);
+    let answers = batch(&mut gate, &[far]);
+    assert_eq!(answers, [Err(Refusal::UnknownGuest)]);
+    assert_eq!(gate, before);
+}
+
+/// 16 before 17, nothing done; room past the answers stays.
+#[test]
+fn room_for_answers() {
+    let mut gate = open(1, 1, &[settings(0, 0, 1)]);
+    let before = gate.clone();
+    let most = usize::try_from(MOST_EVENTS).expect("it fits");
+    let events = vec![Event::tick(1); most + 1];
+    let dust = raw::Answer {
+        kind: 77,
+        ..raw::Answer::default()
+    };
+    let mut room = vec![dust; most + 2];
+    for (events, places, refusal) in [
+        (&events[..2], 1, Refusal::ShortAnswers),
+        (&events[..], most, Refusal::ShortAnswers),
+        (&events[..], most + 1, Refusal::TooManyEvents),
+    ] {
+        let found = gate.batch(events, &mut room[..places]).map(|_| ());
+        assert_eq!(found, Err(refusal));
+        assert_eq!(gate, before);
+        assert!(room.iter().all(|&answer| answer == dust));
+    }
+    let answers = gate.batch(&events[..most], &mut room).expect("just enough");
+    assert!(answers.eq(vec![NOTHING; most]));
+    assert_eq!(room[most..], [dust, dust]);
+    assert_eq!(gate.batch(&[], &mut []).expect("no event").len(), 0);
 }

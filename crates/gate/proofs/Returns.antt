@@ -59,3 +59,13 @@ module _ (g : Gate) (gs ws fs : List ℕ) where
       bad-returns r p o q =
           let c : called e g gs ws fs ≡ unchanged g gs ws fs (Refused r) = subst (Judges g gs ws fs) p found e in
           ap (λ (x : Outcome). seen (x, gs, ws, fs)) q ∙ sym (ap seen c)
+
+    -- WHAT WAS FOUND STAYS TRUE
+
+    -- of known tables, after a step
+    pub good-stays : j ≡ Good → (h : Gate) (hs vs es : List ℕ) → Known h hs vs es → Judges h hs vs es j
+    good-stays p h hs vs es k = subst (Judges h hs vs es) (sym p) k
+
+    -- of others, which a refusal leaves
+    pub bad-stays : (r : Refusal) (o : Outcome) → o ≡ refusing r g → Judges (o .gate) gs ws fs j
+    bad-stays r o q = subst (λ (x : Outcome). Judges (x .gate) gs ws fs j) (sym q) found

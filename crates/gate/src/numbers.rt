@@ -29,7 +29,7 @@ pub enum Judged {
 }
 
 // The lent tables judged, 2 before 3; counts out of range give 3 at once.
-fn judge(gate: Gate, guests: &[u64], waiting: &[u64], flight: &[u64]) -> Judged
+pub fn judge(gate: Gate, guests: &[u64], waiting: &[u64], flight: &[u64]) -> Judged
     ensures { λ r. ⌜ Judges gate (now (guests .entry)) (now (waiting .entry)) (now (flight .entry)) r ⌝ }
 {
     if !is_countable(gate) {
@@ -44,6 +44,26 @@ fn judge(gate: Gate, guests: &[u64], waiting: &[u64], flight: &[u64]) -> Judged
     Judged::Good
 }
 
+// One event on lent tables of which `found` is true: no public call, but what one is made of. `found` stays true of what is handed back, so that a run
+// of events needs one judgement of the tables.
+pub fn follow(
+    gate: Gate,
+    guests: &mut [u64],
+    waiting: &mut [u64],
+    flight: &mut [u64],
+    found: Judged,
+    event: Event,
+) -> Outcome
+    requires { ⌜ Judges gate (now guests) (now waiting) (now flight) found ⌝ }
+    ensures { λ r. ⌜ seen (r, now (guests .exit), now (waiting .exit), now (flight .exit)) ≡ seen (called event gate (now (guests .entry)) (now (waiting .entry)) (now (flight .entry))) ⌝ }
+    ensures { λ r. ⌜ Judges (r .gate) (now (guests .exit)) (now (waiting .exit)) (now (flight .exit)) found ⌝ }
+{
+    match found {
+        Judged::Bad(why) => gates::refused(gate, why),
+        Judged::Good => step::step(gate, guests, waiting, flight, event),
+    }
+}
+
 // One event: the lent tables are judged, then the event itself.
 pub fn call(
     gate: Gate,
@@ -55,10 +75,7 @@ pub fn call(
     ensures { λ r. ⌜ seen (r, now (guests .exit), now (waiting .exit), now (flight .exit)) ≡ seen (called event gate (now (guests .entry)) (now (waiting .entry)) (now (flight .entry))) ⌝ }
 {
     let found = judge(gate, &guests[..], &waiting[..], &flight[..]);
-    match found {
-        Judged::Bad(why) => gates::refused(gate, why),
-        Judged::Good => step::step(gate, guests, waiting, flight, event),
-    }
+    follow(gate, guests, waiting, flight, found, event)
 }
 
 // A tick: the time is set, and the choice made.

@@ -2,3 +2,4 @@ pub mod Once
 pub mod Returns
 pub mod Runs
 pub mod Wakes
+pub mod Batches

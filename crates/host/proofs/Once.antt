@@ -16,8 +16,9 @@ use Rattle.rules.specs.declared.Wake.{Wake}
 use Rattle.rules.specs.declared.Wake.the-variants.{At, Never}
 use Rattle.rules.specs.Numbers.{ceiling}
 use Rattle.gate.specs.Promise.{called, opened}
-use Rattle.host.specs.declared.Reply.{Reply}
-use Rattle.host.specs.Host.{kindOf, Four, fourOf, fifthOf, gateIn, hosted}
+use Rattle.gate.specs.declared.replies.Reply.{Reply}
+use Rattle.gate.specs.Replies.{kindOf, Four, fourOf, fifthOf}
+use Rattle.host.specs.Host.{gateIn, hosted}
 
 -- ANSWERS
 

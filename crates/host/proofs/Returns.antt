@@ -7,8 +7,9 @@ use Rattle.table.specs.View.{Handed}
 use Rattle.rules.specs.declared.Event.{Event}
 use Rattle.gate.specs.Promise.{seen, called}
 use Rattle.gate.proofs.Once.{seen-once}
-use Rattle.host.specs.declared.Reply.{Reply}
-use Rattle.host.specs.Host.{gateIn, replyOf, written, hosted}
+use Rattle.gate.specs.declared.replies.Reply.{Reply}
+use Rattle.gate.specs.Replies.{replyOf}
+use Rattle.host.specs.Host.{gateIn, written, hosted}
 
 -- what was handed back, with the six numbers written and the answer as five
 pub returned : (v v′ : List ℕ) (r : Reply) (h k : Handed) → seen h ≡ seen k → r ≡ replyOf (h .0 .answer) (h .0 .wake) → v′ ≡ written (h .0 .answer) (h .0 .gate) v → (r, v′, h .1, h .2, h .3) ≡ hosted v k

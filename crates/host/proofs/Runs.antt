@@ -30,7 +30,8 @@ use Rattle.gate.proofs.Opened.{opened-firm}
 use Rattle.gate.proofs.Order.{calls-in-order}
 use Rattle.gate.proofs.Demand3.{calls-demand-3-places}
 use Rattle.gate.proofs.Refusing.{refusal-keeps, called-exactly, open-exactly}
-use Rattle.host.specs.Host.{fourOf, fifthOf, four, gateIn, gateOver, replyOf, written, hosted}
+use Rattle.gate.specs.Replies.{fourOf, fifthOf, four, replyOf}
+use Rattle.host.specs.Host.{gateIn, gateOver, written, hosted}
 use Rattle.host.specs.Calls.{Lent, inside, shownBy, through, kept, heldBy, fours, fifths, Refuses, Takes, takes, freeFours}
 
 -- THE SIX NUMBERS
@@ -48,6 +49,10 @@ six-back g (a ∷ b ∷ c ∷ d ∷ e ∷ f ∷ v) l = (refl, l)
 -- What is written over the gate's numbers reads back as that gate.
 pub gate-back : (g : Gate) (v : List ℕ) → length v ≡ 6 → gateIn (gateOver g v) ≡ g
 gate-back g v l = six-back g v l .0
+
+-- and it is six numbers
+pub six-over : (g : Gate) (v : List ℕ) → length v ≡ 6 → length (gateOver g v) ≡ 6
+six-over g v l = six-back g v l .1
 
 -- they stay six
 six-stay : (a : Answer) (g : Gate) (v : List ℕ) → length v ≡ 6 → length (written a g v) ≡ 6

@@ -20,7 +20,8 @@ use Rattle.gate.specs.Calls.{Host, shows, call, firm}
 use Rattle.gate.proofs.Lending.{numbers-lawful}
 use Rattle.gate.proofs.Refusing.{refusal-keeps, opening-keeps}
 use Rattle.gate.proofs.Wakes.{calls-wake, opening-wakes}
-use Rattle.host.specs.Host.{fifthOf, never, replyOf, gateIn, hosted}
+use Rattle.gate.specs.Replies.{fifthOf, never, replyOf}
+use Rattle.host.specs.Host.{gateIn, hosted}
 use Rattle.host.specs.Calls.{Lent, inside, shownBy, through, kept, Refuses, Takes}
 use Rattle.host.proofs.Once.{Timely}
 use Rattle.host.proofs.Runs.{call-back, takes-is}

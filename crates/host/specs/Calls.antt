@@ -9,8 +9,10 @@ use Rattle.rules.specs.Tables.{Table}
 use Rattle.rules.specs.declared.Event.{Event}
 use Rattle.gate.specs.Promise.{numbers, called}
 use Rattle.gate.specs.Calls.{Host, shows, finds}
-use Rattle.host.specs.declared.Reply.{Reply}
-use Rattle.host.specs.Host.{Four, four, gateIn, hosted}
+use Rattle.gate.specs.declared.replies.Reply.{Reply}
+use Rattle.gate.specs.Replies.{Four, four}
+use Rattle.batch.specs.Batches.{Batch, batch}
+use Rattle.host.specs.Host.{gateIn, hosted, batchHosted}
 
 -- what a host in C holds between calls: the gate's six numbers, and its three tables
 pub record Lent : Type 0 where
@@ -69,3 +71,30 @@ freeFours h (e ∷ es) =
     if takes (through e h .0) && finds e (gateIn (h .six))
     then four (through e h .0) ∷ freeFours (kept (through e h)) es
     else freeFours (kept (through e h)) es
+
+-- BATCHES (document 02, K5)
+
+-- what a batch hands back through C: 0 or the number of the refusal, the six numbers, the three tables and the answers
+abbrev pub BackBatch : Type 0
+BackBatch = ℕ × List ℕ × List ℕ × List ℕ × List ℕ × List ℕ
+
+-- a batch through C on what a host holds
+abbrev pub throughBatch : Batch → Lent → BackBatch
+throughBatch b h = batchHosted (h .six) (batch numbers b (inside h))
+
+-- what a host holds after it
+abbrev pub keptBatch : BackBatch → Lent
+keptBatch b = record { six = b .1; guests = b .2; waiting = b .3; flight = b .4 }
+
+-- what it holds after a run of batches
+unfoldable pub heldByBatches : Lent → List Batch → Lent
+heldByBatches h [] = h
+heldByBatches h (b ∷ bs) = heldByBatches (keptBatch (throughBatch b h)) bs
+
+-- a batch is refused as a whole with number n
+abbrev pub RefusesBatch : BackBatch → ℕ → Type 0
+RefusesBatch b n = (b .0 ≡ n) × (n ≡ 0 → ⊥)
+
+-- it is not
+abbrev pub TakesBatch : BackBatch → Type 0
+TakesBatch b = b .0 ≡ 0

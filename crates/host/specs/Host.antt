@@ -2,48 +2,16 @@
 use Prim.Native.Nat.{ℕ}
 use mathlib.Core.List.{List}
 use lib.ListN.{getD, set}
-use Rattle.rules.specs.Answers.{numberOf}
 use Rattle.rules.specs.declared.Gate.{Gate}
-use Rattle.rules.specs.declared.Phase.{Phase}
-use Rattle.rules.specs.declared.Phase.the-variants.{Reservation, Weight}
 use Rattle.rules.specs.declared.Answer.{Answer}
 use Rattle.rules.specs.declared.Answer.the-variants.{Nothing, Sent, Refused}
-use Rattle.rules.specs.declared.Wake.{Wake}
-use Rattle.rules.specs.declared.Wake.the-variants.{At, Never}
 use Rattle.table.specs.View.{gateAt, Handed}
-use Rattle.host.specs.declared.Reply.{Reply}
-
--- the kind of a send: 1 by reservation, 2 by weight
-abbrev pub kindOf : Phase → ℕ
-kindOf Reservation = 1
-kindOf Weight = 2
-
--- four numbers: kind, guest, id, refusal
-abbrev pub Four : Type 0
-Four = ℕ × ℕ × ℕ × ℕ
-
--- an answer as four numbers: kind (0 nothing, 1 sent by reservation, 2 by weight, 3 refused), guest, id, and the paper's number of a refusal
-abbrev pub fourOf : Answer → Four
-fourOf Nothing = (0, 0, 0, 0)
-fourOf (Sent p g i) = (kindOf p, g, i, 0)
-fourOf (Refused r) = (3, 0, 0, numberOf r)
-
--- where there is no time to wake: all bits one
-abbrev pub never : ℕ
-never = 18446744073709551615
-
--- a time to wake as the fifth number
-abbrev pub fifthOf : Wake → ℕ
-fifthOf (At n) = n
-fifthOf Never = never
-
--- an answer and a time to wake as five numbers
-abbrev pub replyOf : Answer → Wake → Reply
-replyOf a w = record { kind = fourOf a .0; guest = fourOf a .1; id = fourOf a .2; refusal = fourOf a .3; wake = fifthOf w }
-
--- the first four of the five
-abbrev pub four : Reply → Four
-four r = (r .kind, r .guest, r .id, r .refusal)
+use Rattle.gate.specs.Promise.{numbers}
+use Rattle.gate.specs.Replies.{replyOf}
+use Rattle.gate.specs.declared.numbers.Judged.{Judged}
+use Rattle.gate.specs.declared.numbers.Judged.the-variants.{Good, Bad}
+use Rattle.batch.specs.Promise.{foundOf, BatchIn}
+use Rattle.gate.specs.declared.replies.Reply.{Reply}
 
 -- the gate that six numbers are: depth, guests, capacity, time, waiting, flight
 abbrev pub gateIn : List ℕ → Gate
@@ -62,3 +30,14 @@ written (Refused r) g v = v
 -- THE PROMISE: the answer, the six numbers and the three tables after a call that hands back h
 abbrev pub hosted : List ℕ → Handed → Reply × List ℕ × List ℕ × List ℕ × List ℕ
 hosted v h = (replyOf (h .0 .answer) (h .0 .wake), written (h .0 .answer) (h .0 .gate) v, h .1, h .2, h .3)
+
+-- A BATCH (document 02, K5)
+
+-- the six numbers after a batch: one that is refused as a whole leaves them as they stood
+abbrev pub foundWritten : Judged → Gate → List ℕ → List ℕ
+foundWritten Good g v = gateOver g v
+foundWritten (Bad r) g v = v
+
+-- THE PROMISE: 0 or the number of the refusal, the six numbers, the three tables and the answers after a batch that hands back b
+abbrev pub batchHosted : List ℕ → BatchIn numbers → ℕ × List ℕ × List ℕ × List ℕ × List ℕ × List ℕ
+batchHosted v b = (foundOf (b .0 .found), foundWritten (b .0 .found) (b .0 .gate) v, b .1, b .2, b .3, b .4)

@@ -1,88 +1,22 @@
-// What a C or Rust host links: the four calls over numbers, under the names of include/sgq.h. The gate is six numbers (depth, guests,
+// What a C or Rust host links: the calls over numbers, under the names of include/sgq.h. The gate is six numbers (depth, guests,
 // capacity, time, waiting, flight), the answer five (kind, guest, id, refusal, wake). Each call takes whatever it is handed.
+use batch::numbers::Batched;
+use gate::numbers::Judged;
+use gate::replies::Reply;
+use gate::replies::five_of;
 use rules::Answer;
 use rules::Arriving;
 use rules::Flight;
 use rules::Gate;
 use rules::Outcome;
-use rules::Phase;
 use rules::Setup;
-use rules::Wake;
 use table::gates::gate_at;
 ghost use mathlib.Core.Path.{_≡_};
 ghost use Rattle.rules.specs.declared.Event.the-variants.{Arrival, Completion, Tick};
 ghost use Rattle.gate.specs.Promise.{called, opened};
-ghost use Rattle.host.specs.Host.{kindOf, fifthOf, gateIn, gateOver, replyOf, written, hosted};
-
-// The time to wake where there is none: all bits one.
-const NEVER: u64 = 18446744073709551615;
-
-// An answer as five numbers: the kind (0 nothing, 1 sent by reservation, 2 sent by weight, 3 refused), the guest and id sent, the refusal's
-// number, and when to wake the gate by a tick. What an answer does not have is 0, in a refusal the time to wake too.
-#[repr(C)]
-pub struct Reply {
-    pub kind: u64,
-    pub guest: u64,
-    pub id: u64,
-    pub refusal: u64,
-    pub wake: u64,
-}
-
-// The kind of a send by a phase.
-fn kind_of(phase: Phase) -> u64
-    ensures { λ n. ⌜ n ≡ kindOf phase ⌝ }
-{
-    match phase {
-        Phase::Reservation => 1,
-        Phase::Weight => 2,
-    }
-}
-
-// A time to wake as a number.
-fn fifth_of(wake: Wake) -> u64
-    ensures { λ n. ⌜ n ≡ fifthOf wake ⌝ }
-{
-    match wake {
-        Wake::At(time) => time,
-        Wake::Never => NEVER,
-    }
-}
-
-// An answer and a time to wake as their five numbers.
-fn five_of(answer: Answer, wake: Wake) -> Reply
-    ensures { λ r. ⌜ r ≡ replyOf answer wake ⌝ }
-{
-    let fifth = fifth_of(wake);
-    match answer {
-        Answer::Nothing => Reply {
-            kind: 0,
-            guest: 0,
-            id: 0,
-            refusal: 0,
-            wake: fifth,
-        },
-        Answer::Sent { phase, guest, id } => {
-            let kind = kind_of(phase);
-            Reply {
-                kind: kind,
-                guest: guest,
-                id: id as u64,
-                refusal: 0,
-                wake: fifth,
-            }
-        }
-        Answer::Refused(why) => {
-            let n = rules::number(why);
-            Reply {
-                kind: 3,
-                guest: 0,
-                id: 0,
-                refusal: n,
-                wake: fifth,
-            }
-        }
-    }
-}
+ghost use Rattle.gate.specs.Replies.{replyOf};
+ghost use Rattle.batch.specs.Promise.{foundOf, batched};
+ghost use Rattle.host.specs.Host.{gateIn, gateOver, written, hosted, foundWritten, batchHosted};
 
 // The gate that six numbers are.
 fn gate_in(six: &[u64; 6]) -> Gate
@@ -209,4 +143,37 @@ pub extern "C" fn sgq_tick(
     let gate = gate_in(six);
     let outcome = gate::numbers::tick(gate, guests, waiting, flight, time);
     hand_back(six, outcome)
+}
+
+// Writes the gate after a batch over the six numbers and gives the number of what was found; a refused batch leaves the six numbers as they stood.
+fn hand_over(six: &mut [u64; 6], done: Batched) -> u64
+    ensures { λ n. ⌜ (n ≡ foundOf (done .found)) × (now (six .exit) ≡ foundWritten (done .found) (done .gate) (now (six .entry))) ⌝ }
+{
+    let found = done.found;
+    let gate = done.gate;
+    match found {
+        Judged::Bad(why) => rules::number(why),
+        Judged::Good => {
+            gate_over(six, gate);
+            0
+        }
+    }
+}
+
+// Up to 256 events, four numbers each, at the gate that the six numbers are; each answer goes into its place of `answers`, five numbers each. Gives 0, or 16
+// or 17 with nothing done.
+#[no_mangle]
+pub extern "C" fn sgq_batch(
+    six: &mut [u64; 6],
+    guests: &mut [u64],
+    waiting: &mut [u64],
+    flight: &mut [u64],
+    events: &[u64],
+    answers: &mut [u64],
+) -> u64
+    ensures { λ n. ⌜ (n, now (six .exit), now (guests .exit), now (waiting .exit), now (flight .exit), now (answers .exit)) ≡ batchHosted (now (six .entry)) (batched (now (events .entry)) (gateIn (now (six .entry))) (now (guests .entry)) (now (waiting .entry)) (now (flight .entry)) (now (answers .entry))) ⌝ }
+{
+    let gate = gate_in(six);
+    let done = batch::numbers::call(gate, guests, waiting, flight, events, answers);
+    hand_over(six, done)
 }

@@ -25,11 +25,16 @@ use Rattle.trace.proofs.HeaderExactly.{header-exactly}
 use Rattle.trace.proofs.LineExactly.{line-exactly, line-numbers, table-sound}
 use Rattle.trace.proofs.Order.{trace-in-order}
 use Rattle.trace.proofs.Demand3.{trace-demand-3-places}
+use Rattle.batch.proofs.Exactly.{batch-exactly}
+use Rattle.batch.proofs.Kept.{batch-refusal-keeps, answers-past}
+use Rattle.batch.proofs.Once.{batch-once}
+use Rattle.batch.proofs.OneByOne.{batch-as-calls}
+use Rattle.batch.proofs.Demand3.{batches-firm, batches-demand-3}
 use Rattle.book.proofs.Balance.{balance, fresh-arrivals, fresh-covered}
 use Rattle.book.proofs.Waits.{fresh-book, sent-waited}
 use Rattle.book.proofs.Sizes.{summed-fits}
 use Rattle.book.proofs.Sums.{first-waits}
-use Rattle.promises.proofs.Promises.{OnTheRules, OverLent, ThroughC, OfATrace, OfTheSheet, Promises}
+use Rattle.promises.proofs.Promises.{OnTheRules, OverLent, OfABatch, ThroughC, OfATrace, OfTheSheet, Promises}
 
 rules-kept : OnTheRules
 rules-kept =
@@ -65,6 +70,18 @@ lent-kept v lawful =
       no-place-no-send = calls-no-place v lawful;
       wakes = calls-wake v lawful;
       opening-wakes = opening-wakes v lawful;
+    }
+
+batch-kept : (v : Lending) → Lawful v → OfABatch v
+batch-kept v lawful =
+    record {
+      exactly = batch-exactly v;
+      refusal-keeps = batch-refusal-keeps v;
+      spare-places = answers-past v;
+      once = batch-once v;
+      as-calls = batch-as-calls v;
+      stays-firm = batches-firm v lawful;
+      demand-3 = batches-demand-3 v lawful;
     }
 
 c-kept : ThroughC
@@ -117,6 +134,7 @@ promises =
       over-numbers = lent-kept numbers numbers-lawful;
       over-records = lent-kept records records-lawful;
       through-c = c-kept;
+      of-a-batch = batch-kept numbers numbers-lawful;
       of-a-trace = trace-kept;
       of-the-sheet = sheet-kept;
     }

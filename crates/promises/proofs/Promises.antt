@@ -5,7 +5,7 @@ use mathlib.Core.Path.{_≡_}
 use mathlib.Core.Bool.{true, false, not}
 use mathlib.Core.List.{List, [], _++_, map}
 use mathlib.Core.Logic.{_↔_, _⊎_}
-use lib.ListN.{length, take}
+use lib.ListN.{length, take, drop}
 use Rattle.lists.specs.Words.{all}
 use Rattle.rules.specs.Tables.{Table}
 use Rattle.rules.specs.Sound.{sound}
@@ -14,7 +14,7 @@ use Rattle.rules.specs.Choice.{Result}
 use Rattle.rules.specs.Events.{moment, enter}
 use Rattle.rules.specs.Chosen.{Chosen}
 use Rattle.rules.specs.Arrived.{Entered}
-use Rattle.rules.specs.Refusals.{accepted}
+use Rattle.rules.specs.Refusals.{accept, judged, accepted}
 use Rattle.rules.specs.Refused.{RefusedExactly, NoneHolds, callCases, openCases}
 use Rattle.rules.specs.Order.{waits, left}
 use Rattle.rules.specs.Run.{fresh, step, after}
@@ -42,7 +42,8 @@ use Rattle.gate.proofs.Runs.{Runs}
 use Rattle.records.specs.Promise.{records}
 use Rattle.records.proofs.Lawful.{records-lawful}
 use Rattle.gate.proofs.Lending.{numbers-lawful}
-use Rattle.host.specs.Host.{fourOf, never, fifthOf, gateIn, hosted}
+use Rattle.gate.specs.Replies.{fourOf, never, fifthOf}
+use Rattle.host.specs.Host.{gateIn, hosted}
 use Rattle.host.specs.Calls.{Lent, inside, shownBy, through, kept, heldBy, fours, Refuses, Takes, freeFours}
 use Rattle.host.proofs.Runs.{ThroughRuns}
 use Rattle.host.proofs.Once.{Timely, Back}
@@ -51,6 +52,11 @@ use Rattle.trace.specs.Printed.{linesFrom, printed}
 use Rattle.trace.specs.Event.{whole}
 use Rattle.trace.specs.Answers.{eventBytes, bytesAt, tableAt, readsOf, answersOf, answerAt, acceptedIds, freeFrom}
 use Rattle.trace.specs.Cases.{headerCases, lineCases}
+use Rattle.batch.specs.Rows.{countOf, answerWide}
+use Rattle.batch.specs.Promise.{BatchIn, batchTests, batchedIn, seenBatchIn}
+use Rattle.batch.specs.Batches.{Batch, batchCases, Refuses as RefusesAll, Takes as TakesAll, allDone, heldBatches, freeAnswers}
+use Rattle.batch.proofs.OneByOne.{AsCalls}
+use Rattle.gate.specs.declared.numbers.Judged.the-variants.{Bad as Barred}
 use Rattle.book.specs.Book.{noted}
 use Rattle.book.specs.Figures.{figuresAt}
 use Rattle.book.specs.Page.{Page, named, waited, turnedBy, firstPage}
@@ -111,6 +117,21 @@ pub record OverLent (v : Lending) (lawful : Lawful v) : Type 0 where
   pub wakes : (h : Host v) (e : Event) → firm v h ≡ true → taken (call v e h .0 .answer) ≡ true → Wakes (shows v (holds v (call v e h))) (call v e h .0 .wake)
   pub opening-wakes : (d n c : ℕ) (ss : List ℕ) (gs : List (v .Cell)) (ws fs : List ℕ) → taken (openedIn v d n c ss gs ws fs .0 .answer) ≡ true → openedIn v d n c ss gs ws fs .0 .wake ≡ Never
 
+-- OF A BATCH, in a way of lending guests; the calls over records take one event each
+
+pub record OfABatch (v : Lending) : Type 0 where
+  -- the whole call is refused 16 or 17 exactly where document 02 says, and then nothing is done; places past the last answer stay; any two outcomes that the promise admits are equal
+  pub exactly : (es : List ℕ) (g : Gate) (gs : List (v .Cell)) (ws fs bs : List ℕ) → RefusedExactly (batchCases es bs) (RefusesAll (batchedIn v es g gs ws fs bs .0)) (TakesAll (batchedIn v es g gs ws fs bs .0))
+  pub refusal-keeps : (es : List ℕ) (g : Gate) (gs : List (v .Cell)) (ws fs bs : List ℕ) (r : Refusal) → batchedIn v es g gs ws fs bs .0 .found ≡ Barred r
+      → batchedIn v es g gs ws fs bs ≡ (record { gate = g; found = Barred r }, gs, ws, fs, bs)
+  pub spare-places : (es : List ℕ) (g : Gate) (gs : List (v .Cell)) (ws fs bs : List ℕ) → drop (countOf es * answerWide) (batchedIn v es g gs ws fs bs .4) ≡ drop (countOf es * answerWide) bs
+  pub once : (h k : BatchIn v) (es : List ℕ) (g : Gate) (gs : List (v .Cell)) (ws fs bs : List ℕ)
+      → seenBatchIn v h ≡ seenBatchIn v (batchedIn v es g gs ws fs bs) → seenBatchIn v k ≡ seenBatchIn v (batchedIn v es g gs ws fs bs) → h ≡ k
+  -- what a batch leaves and answers is what the calls one by one leave and answer, on any tables; and demand 3 through any run of batches
+  pub as-calls : (es : List ℕ) (h : Host v) (bs : List ℕ) → judged (batchTests es bs) ≡ accept → AsCalls v es h bs
+  pub stays-firm : (bs : List Batch) (h : Host v) → firm v h ≡ true → firm v (heldBatches v h bs) ≡ true
+  pub demand-3 : (h : Host v) (bs : List Batch) → firm v h ≡ true → (i : ℕ) → DueAt (shows v h) i → InTurnAt (shows v h) i (freeAnswers v h (allDone bs))
+
 -- THROUGH C, over the gate's six numbers and the three tables as a host holds them. The tables that a call leaves are those over numbers, so what
 -- stands beyond the need is untouched and unread there
 
@@ -170,5 +191,6 @@ pub record Promises : Type 0 where
   pub over-numbers : OverLent numbers numbers-lawful
   pub over-records : OverLent records records-lawful
   pub through-c : ThroughC
+  pub of-a-batch : OfABatch numbers
   pub of-a-trace : OfATrace
   pub of-the-sheet : OfTheSheet

@@ -5,13 +5,14 @@ use mathlib.Core.Bool.{Bool, true, false, false≢true}
 use mathlib.Core.List.{List, [], _∷_, map, List·Memᴰ, List·Memᴰ·head, List·Memᴰ·tail}
 use mathlib.Core.Logic.{_↔_, inl, inr, ⊎-elim}
 use Prim.Native.Nat.{ℕ}
+use native.Mathlib.Omega.{arith}
 use lib.Dec.{eqb}
 use Rattle.lists.specs.Words.{if_then_else_}
 use Rattle.rules.specs.Answers.{numberOf}
 use Rattle.rules.specs.Refused.{Case, FirstOf, NoneHolds}
 use Rattle.rules.specs.Refusals.{Test, Verdict, accept, refuse, judged, isAccept}
 use Rattle.rules.specs.declared.Refusal.{Refusal}
-use Rattle.rules.specs.declared.Refusal.the-variants.{BadSetting, ShortTable, Unsound, UnknownGuest, TimeAboveCeiling, TimeBeforeLast, IdInUse, NoRoom, TagAboveCeiling, NotInFlight, BadMark, BadVersion, HeaderCut, BadEvent, EventCut}
+use Rattle.rules.specs.declared.Refusal.the-variants.{BadSetting, ShortTable, Unsound, UnknownGuest, TimeAboveCeiling, TimeBeforeLast, IdInUse, NoRoom, TagAboveCeiling, NotInFlight, BadMark, BadVersion, HeaderCut, BadEvent, EventCut, AnswersShort, TooManyEvents}
 
 -- NUMBERS
 
@@ -19,7 +20,7 @@ use Rattle.rules.specs.declared.Refusal.the-variants.{BadSetting, ShortT
 abbrev every : List Refusal
 every =
     BadSetting ∷ ShortTable ∷ Unsound ∷ UnknownGuest ∷ TimeAboveCeiling ∷ TimeBeforeLast ∷ IdInUse ∷ NoRoom ∷ TagAboveCeiling ∷ NotInFlight
-    ∷ BadMark ∷ BadVersion ∷ HeaderCut ∷ BadEvent ∷ EventCut ∷ []
+    ∷ BadMark ∷ BadVersion ∷ HeaderCut ∷ BadEvent ∷ EventCut ∷ AnswersShort ∷ TooManyEvents ∷ []
 
 -- the first of some refusals that has number n
 abbrev withNumber : ℕ → List Refusal → Refusal
@@ -42,10 +43,19 @@ found BadVersion = refl
 found HeaderCut = refl
 found BadEvent = refl
 found EventCut = refl
+found AnswersShort = refl
+found TooManyEvents = refl
 
 -- two refusals with one number are the same
 pub numberOf-once : (r s : Refusal) → numberOf r ≡ numberOf s → r ≡ s
 numberOf-once r s e = sym (found r) ∙ ap (λ (n : ℕ). withNumber n every) e ∙ found s
+
+-- no refusal has the number 0
+pub numberOf-some : (r : Refusal) → numberOf r ≡ 0 → ⊥
+numberOf-some r e =
+    let p : BadSetting ≡ r = ap (λ (n : ℕ). withNumber n every) (sym e) ∙ found r in
+    let q : _≡_ {A = ℕ} 1 0 = ap numberOf p ∙ e in
+    omega (arith, q)
 
 -- the verdict refuses with the paper's number n
 abbrev pub Gives : Verdict → ℕ → Type 0

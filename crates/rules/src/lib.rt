@@ -57,7 +57,7 @@ pub enum Phase {
     Weight,
 }
 
-// Why a call or a trace is refused, in the order of the paper's numbers, 1 to 15.
+// Why a call or a trace is refused, in the order of the papers' numbers: 1 to 15 are document 01's, those behind them document 02's.
 pub enum Refusal {
     BadSetting,
     ShortTable,
@@ -74,6 +74,8 @@ pub enum Refusal {
     HeaderCut,
     BadEvent,
     EventCut,
+    AnswersShort,
+    TooManyEvents,
 }
 
 // What a call answers: nothing is sent, a request is sent, or the call is refused.
@@ -116,5 +118,7 @@ pub fn number(refusal: Refusal) -> u64
         Refusal::HeaderCut => 13,
         Refusal::BadEvent => 14,
         Refusal::EventCut => 15,
+        Refusal::AnswersShort => 16,
+        Refusal::TooManyEvents => 17,
     }
 }

@@ -2,6 +2,7 @@ pub mod Fitted
 pub mod Places
 pub mod Buckets
 pub mod Judged
+pub mod Blocks
 pub mod Zeros
 pub mod SoundKnown
 pub mod Mine

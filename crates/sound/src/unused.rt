@@ -2,19 +2,35 @@
 use table::columns::FLIGHT_WIDE;
 use table::columns::WAITING_WIDE;
 ghost use mathlib.Core.Path.{_≡_};
-ghost use mathlib.Core.Bool.{_&&_};
-ghost use Prim.Native.Nat.{_*_, _≤_};
+ghost use mathlib.Core.Bool.{_&&_, true};
+ghost use Prim.Native.Nat.{_+_, _*_, _≤_};
 ghost use lib.Dec.{eqb};
-ghost use lib.ListN.{length};
+ghost use lib.ListN.{length, take, drop};
 ghost use Rattle.lists.specs.Words.{all};
 ghost use Rattle.table.specs.Columns.{flightWide, waitingWide};
 ghost use Rattle.table.specs.View.{zeroed};
 
-// Every number of a part is zero.
-fn is_blank(part: &[u64]) -> bool
+// The bits of eight numbers from a place on: 0 exactly where all eight are 0. One test for eight, so that wide registers can read them.
+fn eight_at(part: &[u64], from: usize) -> u64
+    requires { ⌜ from + 8 ≤ length (now part) ⌝ }
+    ensures { λ n. ⌜ eqb n 0 ≡ all (λ x. eqb x 0) (take 8 (drop from (now (part .entry)))) ⌝ }
+{
+    part[from]
+        | part[from + 1]
+        | part[from + 2]
+        | part[from + 3]
+        | part[from + 4]
+        | part[from + 5]
+        | part[from + 6]
+        | part[from + 7]
+}
+
+// The first numbers of a part are zero, where the rest are known to be.
+fn is_blank_before(part: &[u64], end: usize) -> bool
+    requires { ⌜ (end ≤ length (now part)) × (all (λ x. eqb x 0) (drop end (now part)) ≡ true) ⌝ }
     ensures { λ b. ⌜ b ≡ all (λ x. eqb x 0) (now (part .entry)) ⌝ }
 {
-    let mut i: usize = part.len();
+    let mut i: usize = end;
     while 0 < i {
         i -= 1;
         if part[i] != 0 {
@@ -22,6 +38,20 @@ fn is_blank(part: &[u64]) -> bool
         }
     }
     true
+}
+
+// Every number of a part is zero: tested by eights from the last on, what is left at its front one by one.
+fn is_blank(part: &[u64]) -> bool
+    ensures { λ b. ⌜ b ≡ all (λ x. eqb x 0) (now (part .entry)) ⌝ }
+{
+    let mut i: usize = part.len();
+    while 8 <= i {
+        i -= 8;
+        if eight_at(part, i) != 0 {
+            return false;
+        }
+    }
+    is_blank_before(part, i)
 }
 
 // Every place is zero from the last waiting request to the capacity, and from the last request in flight to the depth.

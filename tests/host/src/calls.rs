@@ -24,11 +24,13 @@ pub struct Opening {
 
 /// Where the tables stand while they are lent to the library.
 pub struct Fences {
-    gate: Fenced,
+    pub gate: Fenced,
     settings: Fenced,
-    guests: Fenced,
-    waiting: Fenced,
-    flight: Fenced,
+    pub guests: Fenced,
+    pub waiting: Fenced,
+    pub flight: Fenced,
+    pub events: Fenced,
+    pub answers: Fenced,
 }
 
 impl Fences {
@@ -39,6 +41,8 @@ impl Fences {
             guests: Fenced::new(),
             waiting: Fenced::new(),
             flight: Fenced::new(),
+            events: Fenced::new(),
+            answers: Fenced::new(),
         }
     }
 }
@@ -142,7 +146,7 @@ fn in_numbers(reply: Reply) -> raw::Answer {
     }
 }
 
-/// What differs between the two, the first number of each table.
+/// What differs between the two.
 fn difference(
     answer: raw::Answer,
     expected: raw::Answer,
@@ -150,12 +154,18 @@ fn difference(
     ours: &Owned,
     theirs: &Owned,
 ) -> Option<String> {
-    let mut found = Vec::new();
+    let mut found = tables_differ(before, ours, theirs);
     if answer != expected {
         found.push(format!(
             "the library answers {answer:?}, second {expected:?}"
         ));
     }
+    (!found.is_empty()).then(|| found.join("; "))
+}
+
+/// What differs between the two in the gate and the tables, the first number of each.
+pub fn tables_differ(before: &Owned, ours: &Owned, theirs: &Owned) -> Vec<String> {
+    let mut found = Vec::new();
     let tables = [
         ("gate", &before.gate, &ours.gate, &theirs.gate),
         ("guest table", &before.guests, &ours.guests, &theirs.guests),
@@ -170,7 +180,7 @@ fn difference(
             ));
         }
     }
-    (!found.is_empty()).then(|| found.join("; "))
+    found
 }
 
 /// How the second program judges the tables that were handed over.

@@ -1,10 +1,12 @@
 //! Hands random tables, most of them damaged, to each call of the library through the C interface, and compares the
-//! answer and every number of every table afterwards with the second program; then plays whole runs on sound tables.
+//! answer and every number of every table afterwards with the second program; then plays whole runs on sound tables,
+//! and hands batches of events over sound and damaged tables.
 //!
 //!     host-tests [FIRST]     the seeds begin at FIRST, 1 where none is named
 //!
 //! A failure names the seed, the call and what differs. Ends with 'N passed, M failed'.
 
+mod batches;
 mod calls;
 mod clean;
 mod damage;
@@ -14,6 +16,7 @@ mod tally;
 use calls::{broken_rule, hold, Fences};
 use second::sample::{Owned, Prng};
 use second::Rule;
+use sgq::Refusal;
 use std::process::ExitCode;
 use tally::{Seen, Tally};
 
@@ -21,6 +24,14 @@ use tally::{Seen, Tally};
 const SEEDS: usize = 10_000;
 const LARGE_SEEDS: usize = 400;
 const LEAST_CALLS: u64 = 20_000;
+
+/// Seeds of batches, on small tables and on large ones, and how many batches follow each other on the same tables.
+const BATCH_SEEDS: usize = 1_500;
+const LARGE_BATCH_SEEDS: usize = 20;
+const BATCHES: usize = 3;
+
+/// How many of the refusals single calls give: those behind them are a batch's.
+const SINGLE: usize = 10;
 
 /// Kinds of traces for clean runs, how many of each, and how many events at most. The large ones come last.
 const RUNS: [(&str, usize, usize); 5] = [
@@ -43,6 +54,7 @@ fn main() -> ExitCode {
     fence::watch();
     damaged(first, &mut fences, &mut tally);
     clean(first, &mut fences, &mut tally);
+    batched(first, &mut fences, &mut tally);
     println!("{} passed, {} failed", tally.passed, tally.failed);
     ExitCode::from(if tally.failed == 0 { 0 } else { 1 })
 }
@@ -61,7 +73,8 @@ fn damaged(first: u64, fences: &mut Fences, tally: &mut Tally) {
     println!("damaged tables: {SEEDS} seeds, {} calls", seen.calls);
     seen.print();
     rules.print();
-    tally.add("damaged tables", seen.all_seen().and(rules.all_seen()));
+    let all = seen.all_seen(&Refusal::ALL[..SINGLE]);
+    tally.add("damaged tables", all.and(rules.all_seen()));
     let enough = seen.calls >= LEAST_CALLS || tally.failed > 0;
     let too_few = || format!("only {} calls were made", seen.calls);
     tally.add("calls", enough.then_some(()).ok_or_else(too_few));
@@ -99,6 +112,7 @@ fn clean(first: u64, fences: &mut Fences, tally: &mut Tally) {
     seen.print();
     if let Ok(large) = last {
         damaged_large(first, &large, fences, tally);
+        batched_large(first, &large, fences, tally);
     }
 }
 
@@ -118,6 +132,52 @@ fn damaged_large(first: u64, large: &Owned, fences: &mut Fences, tally: &mut Tal
         seen.calls
     );
     seen.print();
+}
+
+/// Batches on small tables, some of them damaged.
+fn batched(first: u64, fences: &mut Fences, tally: &mut Tally) {
+    let mut seen = Seen::default();
+    for seed in (first..).take(BATCH_SEEDS) {
+        let mut rng = Prng::new(seed);
+        let mut tables = damage::tables(&mut rng);
+        let result = batches(seed, &mut rng, &mut tables, fences, &mut seen);
+        tally.add(&format!("batches of seed {seed}"), result);
+    }
+    println!("batches: {} answers", seen.calls);
+    seen.print();
+    // No batch opens a gate.
+    tally.add("batches", seen.all_seen(&Refusal::ALL[1..]));
+}
+
+/// Batches on the tables at the end of a large run, sound and with one damage.
+fn batched_large(first: u64, large: &Owned, fences: &mut Fences, tally: &mut Tally) {
+    let mut seen = Seen::default();
+    for seed in (first..).take(LARGE_BATCH_SEEDS) {
+        let mut rng = Prng::new(seed);
+        let mut tables = large.clone();
+        if seed % 4 == 0 {
+            damage::damage(&mut rng, &mut tables);
+        }
+        let result = batches(seed, &mut rng, &mut tables, fences, &mut seen);
+        tally.add(&format!("batches on large tables, seed {seed}"), result);
+    }
+    println!("batches on large tables: {} answers", seen.calls);
+    seen.print();
+}
+
+/// A few batches, each on what the last one left.
+fn batches(
+    seed: u64,
+    rng: &mut Prng,
+    tables: &mut Owned,
+    fences: &mut Fences,
+    seen: &mut Seen,
+) -> Result<(), String> {
+    fence::playing(seed);
+    (0..BATCHES).try_for_each(|_| {
+        let batch = second::sample::batch(rng, tables);
+        batches::hold(&batch, tables, fences, seen)
+    })
 }
 
 /// The rules of soundness, each with how often it was the first that was broken.

@@ -63,8 +63,8 @@ impl Seen {
         println!("  to wake never {never}, now {now}, later {later}");
     }
 
-    /// Whether an answer of each kind, each refusal and each time to wake was seen.
-    pub fn all_seen(&self) -> Result<(), String> {
+    /// Whether an answer of each kind, each of these refusals and each time to wake was seen.
+    pub fn all_seen(&self, refusals: &[Refusal]) -> Result<(), String> {
         if let Some(kind) = self.kinds.iter().position(|&times| times == 0) {
             return Err(format!("no answer was of kind {kind}"));
         }
@@ -72,10 +72,7 @@ impl Seen {
             let when = ["never", "now", "later"][when];
             return Err(format!("no time to wake was {when}"));
         }
-        match Refusal::ALL
-            .iter()
-            .find(|&&refusal| self.times(refusal) == 0)
-        {
+        match refusals.iter().find(|&&refusal| self.times(refusal) == 0) {
             Some(never) => Err(format!("{} was never given", never.number())),
             None => Ok(()),
         }

@@ -1,14 +1,14 @@
--- The walk goes from the last number to the first: every number behind it is zero.
+-- The walk goes by eights from the last number to the first: every number behind it is zero. Assumes nothing.
 use Prim.Native.Nat.{_≤_, _-_}
-use mathlib.Core.Path.{_≡_, sym}
+use mathlib.Core.Path.{_≡_, sym, _∙_}
 use mathlib.Core.Bool.{true}
 use native.Mathlib.Omega.{arith}
 use lib.Dec.{eqb}
 use lib.ListN.{length, drop}
 use borrow.Author.Tests.{eq-eqb, ne-eqb}
 use Rattle.lists.specs.Words.{all}
-use Rattle.lists.specs.Walks.{all-start, all-next, all-end}
-use Rattle.lists.specs.WordsLaws.{place-not}
+use Rattle.lists.specs.Walks.{all-start}
+use Rattle.sound.proofs.Blocks.{eight-next, eight-fails}
 use Rattle.sound.proofs.unused.is_blank.Statement.{statement}
 use Rattle.sound.proofs.unused.is_blank.Tie as tie
 
@@ -19,37 +19,33 @@ abbrev μ-loop : tie.MeasureT-loop
 μ-loop part i₀ i = i
 
 loop-holds : tie.Need-loop-holds Inv-loop μ-loop
-loop-holds c = let a = c .args in (omega arith, all-start (λ x. eqb x 0) (a .part .now) 0 (length (a .part .now)) (omega arith))
+loop-holds c = let a = c .before .args in (omega arith, all-start (λ x. eqb x 0) (a .part .now) 0 (length (a .part .now)) (omega arith))
 
-sub-i : tie.Need-sub-i Inv-loop μ-loop
-sub-i c = omega arith
-
-mul-if1 : tie.Need-mul-if1 Inv-loop μ-loop
-mul-if1 c = omega arith
-
-shared-slice-read-if1 : tie.Need-shared-slice-read-if1 Inv-loop μ-loop
-shared-slice-read-if1 c = omega arith
+eight-at-requires : tie.Need-eight-at-requires Inv-loop μ-loop
+eight-at-requires c κs = omega arith
 
 returns : tie.Need-returns Inv-loop μ-loop
 returns c =
-    let a = c .before .before .before .before .args in
+    let a = c .before .before .before .before .before .args in
     let s = c .before .before .before .loop in
-    sym (place-not (λ x. eqb x 0) (a .part .now) 0 (s .i - 1) (omega arith) (ne-eqb _ _ (c .if1 .taken)))
+    sym (eight-fails (a .part .now) (s .i - 8) (sym (c .before .eight-at .ensures) ∙ ne-eqb _ _ (c .if1 .taken)))
 
 loop-less : tie.Need-loop-less Inv-loop μ-loop
 loop-less c = omega arith
 
 loop-again : tie.Need-loop-again Inv-loop μ-loop
 loop-again c =
-    let a = c .before .before .before .before .args in
-    let s = c .before .before .before .loop in
-    (omega arith, all-next (λ x. eqb x 0) (a .part .now) 0 (s .i) (c .before .before .loop-test .taken) (s .inv .0) (eq-eqb _ _ (c .if1 .left)) (s .inv .1))
+    let a = c .before .before .before .before .before .args in
+    let s = c .before .before .before .loop in (
+      omega arith,
+      eight-next (a .part .now) (s .i) (c .before .before .loop-test .taken) (sym (c .before .eight-at .ensures) ∙ eq-eqb _ _ (c .if1 .left)) (s .inv .1),
+    )
+
+is-blank-before-requires : tie.Need-is-blank-before-requires Inv-loop μ-loop
+is-blank-before-requires c κs = c .before .loop .inv
 
 returns-2 : tie.Need-returns-2 Inv-loop μ-loop
-returns-2 c =
-    let a = c .before .before .args in
-    let s = c .before .loop in
-    all-end (λ x. eqb x 0) (a .part .now) 0 (s .i) (c .loop-test .left) (s .inv .1)
+returns-2 c = c .is-blank-before .ensures
 
 pub is-blank-spec : {M : Type 1} → statement M
 is-blank-spec =
@@ -58,10 +54,9 @@ is-blank-spec =
     Inv-loop
     μ-loop
     loop-holds
-    sub-i
-    mul-if1
-    shared-slice-read-if1
+    eight-at-requires
     returns
     loop-less
     loop-again
+    is-blank-before-requires
     returns-2)

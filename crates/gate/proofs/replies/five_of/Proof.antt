@@ -1,10 +1,10 @@
 -- `five_of` meets its contract: an answer as four numbers, with the fifth beside them. Assumes nothing.
 use mathlib.Core.Path.{sym, ap, _∙_}
 use Rattle.rules.specs.declared.Answer.{Answer}
-use Rattle.host.specs.Host.{replyOf}
+use Rattle.gate.specs.Replies.{replyOf}
 use borrow.Author.Needs.{needs}
-use Rattle.host.proofs.five_of.Statement.{statement}
-use Rattle.host.proofs.five_of.Tie as tie
+use Rattle.gate.proofs.replies.five_of.Statement.{statement}
+use Rattle.gate.proofs.replies.five_of.Tie as tie
 
 fifth-of-requires : tie.Need-fifth-of-requires
 fifth-of-requires c κs = search needs

@@ -1,0 +1,4 @@
+pub mod Rows
+pub mod Promise
+pub mod Turns
+pub mod Batches
