@@ -5,14 +5,16 @@ use mathlib.Core.List.{List}
 use native.Mathlib.Omega.{arith}
 use lib.Dec.{leb}
 use lib.ListN.{length, getD}
+use borrow.Author.Tests.{lt-ltb, le-ltb}
+use Rattle.lists.specs.RowsLaws.{length-rows}
 use Rattle.rules.specs.Tables.{Request, Table, settingsOf}
-use Rattle.rules.specs.Choice.{Result, dueAt, due, open?}
+use Rattle.rules.specs.Choice.{Result, room, choice, dueAt, due, open?}
 use Rattle.rules.specs.declared.Gate.{Gate}
 use Rattle.table.specs.declared.gates.Decision.{Decision}
 use Rattle.rules.specs.declared.Answer.the-variants.{Nothing, Sent}
 use Rattle.rules.specs.declared.Phase.the-variants.{Reservation, Weight}
 use Rattle.table.specs.Columns.{guestWide, waitingWide, RESERVATION, RNEXT, GUEST, RTAG}
-use Rattle.table.specs.View.{decisionOf, guestsOf, tableOf, Known}
+use Rattle.table.specs.View.{decisionOf, flightForm, guestsOf, tableOf, Known}
 use Rattle.moves.specs.Moves.{gone, joined, Named, spacingOf, nextDropped, tagsDropped}
 use Rattle.walks.specs.Walks.{Picks}
 use Rattle.moves.specs.declared.rows.Name.{Name}
@@ -20,7 +22,8 @@ use Rattle.walks.specs.declared.Found.{Found}
 use Rattle.walks.specs.declared.Found.the-variants.{At, Nothing as NoPlace}
 use Rattle.table.specs.Does.{written, Leaves, weightPhase, reservationPhase, sentGate, sending}
 use Rattle.table.proofs.Facts.{facts}
-use Rattle.choose.proofs.Sends.{found-at, still, reservation-sent, weight-none, reservation-none}
+use Rattle.table.proofs.Left.{stays}
+use Rattle.choose.proofs.Sends.{found-at, reservation-sent, weight-none, reservation-none}
 use Rattle.choose.proofs.WeightSend.{weight-sent}
 use Rattle.choose.proofs.Phases.{due-picks, open-picks, drop-asks}
 
@@ -95,4 +98,20 @@ module _ (g : Gate) (gs ws fs : List ℕ) (k : Known g gs ws fs) where
 
     pub none-open : (x : Found) → Open x → x ≡ NoPlace → (d : Decision) → d ≡ decisionOf g Nothing → Leaves weightPhase g gs ws fs d gs ws fs
     none-open x p e d ed =
-        again weightPhase (λ i. (ed i, gs, ws, fs)) (still g gs ws fs k {f = weightPhase} (weight-none g gs ws fs k (subst (λ (y : Found). Picks (open? t) Request.stag (t .waiting) y) e (open-picks g gs ws fs k x p))))
+        again weightPhase (λ i. (ed i, gs, ws, fs)) (stays g gs ws fs k {f = weightPhase} (weight-none g gs ws fs k (subst (λ (y : Found). Picks (open? t) Request.stag (t .waiting) y) e (open-picks g gs ws fs k x p))))
+
+    -- THE CHOICE
+
+    -- a place is free: the reservation phase is the choice
+    is-choice : reservationPhase t ≡ choice t
+    unfolding choice room
+    is-choice = rw (length-rows flightForm fs (g .flight), lt-ltb (g .flight) (g .setup .depth) free)
+
+    pub place-free : {d : Decision} {hs vs es : List ℕ} → Leaves reservationPhase g gs ws fs d hs vs es → Leaves choice g gs ws fs d hs vs es
+    place-free l = record { shows = l .shows ∙ ap (λ (y : Result). written gs ws fs (y .table)) is-choice; answers = l .answers ∙ ap Result.answer is-choice }
+
+  -- no place is free: nothing goes
+  pub none-free : g .setup .depth ≤ g .flight → (d : Decision) → d ≡ decisionOf g Nothing → Leaves choice g gs ws fs d gs ws fs
+  unfolding choice room
+  none-free full d ed =
+      again choice (λ i. (ed i, gs, ws, fs)) (stays g gs ws fs k {f = choice} (rw (length-rows flightForm fs (g .flight), le-ltb (g .flight) (g .setup .depth) full)))

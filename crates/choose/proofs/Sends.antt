@@ -1,4 +1,4 @@
--- A send by reservation over the lent numbers is the one of the definitions; and what a phase leaves where nothing is sent. Assumes nothing.
+-- A send by reservation over the lent numbers is the one of the definitions; and what a phase comes to where it finds nothing. Assumes nothing.
 use Prim.Native.Nat.{ℕ, _+_, _-_, _*_, _≤_, _<_}
 use mathlib.Core.Path.{_≡_, refl, sym, ap, _∙_}
 use mathlib.Core.Bool.{Bool}
@@ -9,7 +9,7 @@ use Rattle.lists.specs.Tab.{removeAt, length-removeAt}
 use Rattle.lists.specs.Rows.{overRows}
 use Rattle.lists.specs.RowsLaws.{length-rows, over-same, all-used}
 use Rattle.rules.specs.Tables.{Request, Table, name}
-use Rattle.rules.specs.Choice.{Result, due, open?, sending, byReservation, byWeight}
+use Rattle.rules.specs.Choice.{due, open?, sending, byReservation, byWeight}
 use Rattle.rules.specs.Chosen.{at}
 use Rattle.rules.specs.declared.Gate.{Gate}
 use Rattle.rules.specs.declared.Answer.the-variants.{Nothing, Sent}
@@ -23,16 +23,11 @@ use Rattle.walks.specs.Walks.{Picks}
 use Rattle.walks.specs.declared.Found.{Found}
 use Rattle.walks.specs.declared.Found.the-variants.{At, Nothing as NoPlace}
 use Rattle.table.specs.Does.{written, Leaves, weightPhase, reservationPhase, sentGate}
-use Rattle.table.proofs.Lens.{known-written}
 use Rattle.table.proofs.Facts.{facts, row-is}
 
 module _ (g : Gate) (gs ws fs : List ℕ) (k : Known g gs ws fs) where
   abbrev t : Table
   t = tableOf g gs ws fs
-
-  -- nothing is sent: all stands as it stood
-  pub still : {f : Table → Result} → f t ≡ record { table = t; answer = Nothing } → Leaves f g gs ws fs (decisionOf g Nothing) gs ws fs
-  still e = record { shows = rw e (known-written g gs ws fs k); answers = rw e }
 
   -- none is due
   pub reservation-none : Picks (due t) Request.rtag (t .waiting) NoPlace → weightPhase t ≡ reservationPhase t

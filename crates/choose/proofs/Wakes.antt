@@ -1,10 +1,9 @@
--- When to wake the gate, from what the walk finds; and the tables that the choice leaves are known, so that it may be asked of them. Assumes nothing.
+-- When to wake the gate, from what the walk finds. Assumes nothing.
 use Prim.Native.Nat.{ℕ, _*_, _≤_, _<_, max, min}
-use mathlib.Core.Path.{_≡_, refl, sym, ap, _∙_, subst}
+use mathlib.Core.Path.{_≡_, refl, ap, _∙_}
 use mathlib.Core.Bool.{Bool, true, false, not, _&&_}
 use mathlib.Core.List.{List, [], _∷_, map}
 use native.Mathlib.Omega.{arith}
-use lib.Dec.{ltb}
 use lib.ListN.{length}
 use borrow.Author.Tests.{lt-ltb, le-ltb}
 use Rattle.lists.specs.Words.{if_then_else_, empty, lowest}
@@ -13,26 +12,13 @@ use Rattle.lists.specs.RowsLaws.{length-rows}
 use Rattle.rules.specs.Numbers.{ceiling}
 use Rattle.rules.specs.Tables.{Request, Table, reserved, limited, settingsOf}
 use Rattle.rules.specs.declared.Settings.{Settings}
-use Rattle.rules.specs.Sound.{sound}
-use Rattle.rules.specs.Choice.{Result, room, choice}
+use Rattle.rules.specs.Choice.{room}
 use Rattle.rules.specs.Chosen.{blank, at}
-use Rattle.rules.specs.Waking.{readyAt, readyIn, wake, told}
-use Rattle.rules.proofs.SameSettings.{choice-settings}
-use Rattle.rules.proofs.Facts.{sound-is, is-sound}
-use Rattle.rules.proofs.Chosen.{chosen}
-use Rattle.rules.proofs.ChoiceSound.{choice-sound}
-use Rattle.rules.proofs.ChoiceNames.{choice-all}
-use Rattle.rules.proofs.WakeFits.{told-chosen}
+use Rattle.rules.specs.Waking.{readyAt, readyIn, wake}
 use Rattle.rules.specs.declared.Gate.{Gate}
-use Rattle.rules.specs.declared.Answer.the-variants.{Nothing}
-use Rattle.rules.specs.declared.Wake.{Wake}
 use Rattle.rules.specs.declared.Wake.the-variants.{At, Never}
-use Rattle.rules.specs.declared.Outcome.{Outcome}
 use Rattle.table.specs.Columns.{guestWide, waitingWide, mostGuests, mostCapacity}
-use Rattle.table.specs.declared.gates.Decision.{Decision}
-use Rattle.table.specs.View.{outcomeOf, requestForm, flightForm, guestsOf, waitingOf, tableOf, handed, Known}
-use Rattle.table.specs.Does.{Lent, written, does, Leaves, reservationPhase}
-use Rattle.table.proofs.Lens.{Room, written-shown, written-known, known-room, known-written, handed-written}
+use Rattle.table.specs.View.{requestForm, flightForm, guestsOf, waitingOf, tableOf, Known}
 use Rattle.table.proofs.Facts.{facts, row-is}
 use Rattle.walks.specs.Walks.{Owned, Rising, LimitsFit, readyBy, readyByTag}
 use Rattle.choose.proofs.Phases.{line-asks, limit-zero}
@@ -91,46 +77,3 @@ module _ (g : Gate) (gs ws : List ℕ) (k : (fs : List ℕ) × Known g gs ws fs)
         map-places (readyByTag (t .guests)) (readyIn (t .guests)) (t .waiting) blank (λ j i. ready-by-tag (settingsOf (t .guests) (at (t .waiting) j)) (at (t .waiting) j) (limit-zero g gs ws (k .0) (k .1) j i)) in
         rw (length-rows flightForm fs (g .flight), lt-ltb (g .flight) (g .setup .depth) h, some-left (t .waiting) (omega (arith, length-rows requestForm ws (g .waiting))))
         (ap At (e ∙ ap (λ (l : List ℕ). max (g .time) (lowest l)) same))
-
--- THE CHOICE
-
-module _ (g : Gate) (gs ws fs : List ℕ) (k : Known g gs ws fs) where
-  abbrev now : Table
-  now = tableOf g gs ws fs
-
-  abbrev after : Table
-  after = choice now .table
-
-  firm : sound after ≡ true
-  firm = is-sound after (choice-sound now (sound-is now (k .isSound)))
-
-  large : Room gs ws fs after
-  large = known-room g gs ws fs k after (choice-settings now)
-
-  -- no place is free: nothing goes, and no tick would send
-  pub choice-full : g .setup .depth ≤ g .flight → (o : Outcome) → o ≡ outcomeOf g Nothing Never → (o, gs, ws, fs) ≡ does choice g gs ws fs
-  unfolding choice room
-  choice-full h o e =
-      (λ i. (e i, gs, ws, fs))
-      ∙ rw (length-rows flightForm fs (g .flight), le-ltb (g .flight) (g .setup .depth) h)
-      (handed-written gs ws fs g gs ws fs (record { table = now; answer = Nothing }) Nothing Never (known-written g gs ws fs k) refl (wake-full g gs ws (fs, k) fs h))
-
-  module _ (free : g .flight < g .setup .depth) (d : Decision) (hs vs es : List ℕ) (l : Leaves reservationPhase g gs ws fs d hs vs es) where
-    -- a place is free: the reservation phase is the choice
-    is-choice : reservationPhase now ≡ choice now
-    unfolding choice room
-    is-choice = rw (length-rows flightForm fs (g .flight), lt-ltb (g .flight) (g .setup .depth) free)
-
-    left : (d .gate, hs, vs, es) ≡ written gs ws fs after
-    left = l .shows ∙ ap (λ (r : Result). written gs ws fs (r .table)) is-choice
-
-    -- what it leaves is known
-    pub left-known : Known (d .gate) hs vs es
-    left-known = subst (λ (x : Lent). Known (x .0) (x .1) (x .2) (x .3)) (sym left) (written-known gs ws fs after large firm (choice-all (λ f. ltb (f .id) 4294967296) now (k .isIdentified)))
-
-    -- and with the time to wake it is what the choice hands back
-    pub choice-made : (w : Wake) → w ≡ wake (tableOf (d .gate) hs vs es) → (o : Outcome) → o ≡ outcomeOf (d .gate) (d .answer) w → (o, hs, vs, es) ≡ does choice g gs ws fs
-    choice-made w q o e =
-        (λ i. (e i, hs, vs, es))
-        ∙ handed-written gs ws fs (d .gate) hs vs es (choice now) (d .answer) w left (l .answers ∙ ap Result.answer is-choice)
-        (q ∙ ap (λ (x : Lent). wake (tableOf (x .0) (x .1) (x .2) (x .3))) left ∙ ap wake (written-shown gs ws fs after large firm) ∙ sym (told-chosen now (choice now) (chosen now)))

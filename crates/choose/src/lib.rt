@@ -1,8 +1,7 @@
-// The choice on a table that is known to be sound: one walk over the waiting rows finds what each phase would send. Where a place is still free
-// after it and something waits, one more finds when to wake the gate. For this repository's own crates, and no public call.
+// The choice on a table that is known to be sound: one walk over the waiting rows finds what each phase would send. And when to wake the gate, asked
+// apart: where a place is free and something waits, one more walk finds it. For this repository's own crates, and no public call.
 use rules::Answer;
 use rules::Gate;
-use rules::Outcome;
 use rules::Phase;
 use rules::Wake;
 use table::gates;
@@ -17,7 +16,7 @@ ghost use Rattle.rules.specs.Choice.{choice};
 ghost use Rattle.rules.specs.Waking.{wake as wakeAt};
 ghost use Rattle.table.specs.View.{waitingOf, tableOf, Known};
 ghost use Rattle.walks.specs.Walks.{Picks};
-ghost use Rattle.table.specs.Does.{does, Leaves, weightPhase, reservationPhase};
+ghost use Rattle.table.specs.Does.{Leaves, weightPhase, reservationPhase};
 
 // The weight phase: the open request with the smallest share tag, which the walk found, goes, and its guest's reservation tags drop.
 fn by_weight(
@@ -76,7 +75,7 @@ fn by_reservation(
 }
 
 // When to wake the gate: never where no place is free or nothing waits. What is in flight makes no difference but by its count.
-fn wake_of(gate: Gate, guests: &[u64], waiting: &[u64]) -> Wake
+pub fn wake_of(gate: Gate, guests: &[u64], waiting: &[u64]) -> Wake
     requires { ⌜ ((fs : List ℕ) × Known gate (now guests) (now waiting) fs) ⌝ }
     ensures { λ r. ⌜ ((fs : List ℕ) → r ≡ wakeAt (tableOf gate (now (guests .entry)) (now (waiting .entry)) fs)) ⌝ }
 {
@@ -92,18 +91,14 @@ fn wake_of(gate: Gate, guests: &[u64], waiting: &[u64]) -> Wake
     Wake::At(walks::wake::soonest(waiting, count, guests, known, time))
 }
 
-// The choice, and when to wake the gate that it leaves: nothing goes where no place is free, and no tick would change that.
-pub fn choose(gate: Gate, guests: &mut [u64], waiting: &mut [u64], flight: &mut [u64]) -> Outcome
+// The choice: nothing goes where no place is free.
+pub fn choose(gate: Gate, guests: &mut [u64], waiting: &mut [u64], flight: &mut [u64]) -> Decision
     requires { ⌜ Known gate (now guests) (now waiting) (now flight) ⌝ }
-    ensures { λ r. ⌜ (r, now (guests .exit), now (waiting .exit), now (flight .exit)) ≡ does choice gate (now (guests .entry)) (now (waiting .entry)) (now (flight .entry)) ⌝ }
+    ensures { λ r. ⌜ Leaves choice gate (now (guests .entry)) (now (waiting .entry)) (now (flight .entry)) r (now (guests .exit)) (now (waiting .exit)) (now (flight .exit)) ⌝ }
 {
     if gate.flight < gate.setup.depth {
-        let decision = by_reservation(gate, guests, waiting, flight);
-        let after = decision.gate;
-        let answer = decision.answer;
-        let wake = wake_of(after, &guests[..], &waiting[..]);
-        gates::answered(after, answer, wake)
+        by_reservation(gate, guests, waiting, flight)
     } else {
-        gates::answered(gate, Answer::Nothing, Wake::Never)
+        gates::decided(gate, Answer::Nothing)
     }
 }

@@ -7,12 +7,11 @@ use lib.ListN.{drop}
 use Rattle.rules.specs.Tables.{Table}
 use Rattle.rules.specs.Sound.{sound}
 use Rattle.rules.specs.declared.Gate.{Gate}
-use Rattle.rules.specs.declared.Answer.the-variants.{Nothing}
 use Rattle.rules.proofs.SameSettings.{SameSettings, run-settings}
 use Rattle.rules.proofs.StepSound.{run-sound}
-use Rattle.table.specs.View.{tableOf, Handed, handed, Known}
+use Rattle.table.specs.View.{tableOf, Known}
 use Rattle.table.specs.Does.{Lent, written}
-use Rattle.table.proofs.Lens.{Room, written-shown, handed-again, known-room, known-written}
+use Rattle.table.proofs.Lens.{Room, written-shown, written-again, known-room, known-written}
 use Rattle.lines.specs.Line.{lineOf}
 use Rattle.lines.specs.Put.{Put}
 use Rattle.lines.proofs.PutLaws.{puts, put-as}
@@ -63,8 +62,7 @@ module _ (g₀ : Gate) (gs₀ ws₀ fs₀ : List ℕ) (k : Known g₀ gs₀ ws�
 
     -- a table written over them is written over the first ones
     run-again : (v : Table) → SameSettings v u → written (l .1) (l .2) (l .3) v ≡ written gs₀ ws₀ fs₀ v
-    unfolding handed
-    run-again v s = ap (λ (h : Handed). (h .0 .gate, h .1, h .2, h .3)) (handed-again gs₀ ws₀ fs₀ u room firm (record { table = v; answer = Nothing }) s)
+    run-again = written-again gs₀ ws₀ fs₀ u room firm
 
   module _ (bs : List ℕ) (number : ℕ) (out₀ : List ℕ) where
     pub going-none : Going g₀ gs₀ ws₀ fs₀ bs number out₀ 0 g₀ gs₀ ws₀ fs₀ out₀ 0

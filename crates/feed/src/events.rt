@@ -1,33 +1,36 @@
 // The events of a part of a trace, each judged and its line written.
+use rules::Answer;
 use rules::Gate;
-use rules::Outcome;
 use rules::Refusal;
+use table::gates;
+use table::gates::Decision;
 use trace::Read;
 ghost use mathlib.Core.Path.{_≡_};
 ghost use Prim.Native.Nat.{_+_, _≤_, _<_, _^_, min};
 ghost use lib.ListN.{length, drop};
 ghost use Rattle.table.specs.View.{Known};
-ghost use Rattle.table.specs.Does.{does};
+ghost use Rattle.table.specs.Does.{Leaves};
 ghost use Rattle.lines.specs.Line.{LINE};
 ghost use Rattle.trace.specs.Event.{eventOf};
 ghost use Rattle.trace.specs.Printed.{answered};
 ghost use Rattle.feed.specs.Promise.{Judged, FedBy};
 
-// One event as it was read is entered into the tables and answered; a bad one is refused 14 and changes nothing.
+// One event as it was read is entered into the tables and answered; a bad one is refused 14 and changes nothing. No line tells when to wake the gate,
+// so nobody asks it.
 fn judge(
     gate: Gate,
     guests: &mut [u64],
     waiting: &mut [u64],
     flight: &mut [u64],
     event: Read,
-) -> Outcome
+) -> Decision
     requires { ⌜ Known gate (now guests) (now waiting) (now flight) ⌝ }
-    ensures { λ r. ⌜ (r, now (guests .exit), now (waiting .exit), now (flight .exit)) ≡ does (λ t. answered t event) gate (now (guests .entry)) (now (waiting .entry)) (now (flight .entry)) ⌝ }
+    ensures { λ r. ⌜ Leaves (λ t. answered t event) gate (now (guests .entry)) (now (waiting .entry)) (now (flight .entry)) r (now (guests .exit)) (now (waiting .exit)) (now (flight .exit)) ⌝ }
     ensures { λ r. ⌜ Known (r .gate) (now (guests .exit)) (now (waiting .exit)) (now (flight .exit)) ⌝ }
 {
     match event {
         Read::Good(good) => step::step(gate, guests, waiting, flight, good),
-        Read::Bad => table::gates::refused(gate, Refusal::BadEvent),
+        Read::Bad => gates::decided(gate, Answer::Refused(Refusal::BadEvent)),
     }
 }
 

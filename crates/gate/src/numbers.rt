@@ -60,7 +60,7 @@ pub fn follow(
 {
     match found {
         Judged::Bad(why) => gates::refused(gate, why),
-        Judged::Good => step::step(gate, guests, waiting, flight, event),
+        Judged::Good => step::step_and_wake(gate, guests, waiting, flight, event),
     }
 }
 

@@ -1,16 +1,38 @@
-// One event on a table that is known to be sound: it enters, then the choice is made. For this repository's own crates, and no public call.
-// Soundness is shown once, where a table comes from, and kept by every step: nothing here tests it.
+// One event on a table that is known to be sound: it enters, then the choice is made; and, for who wants it, when to wake the gate then. For this
+// repository's own crates, and no public call. Soundness is shown once, where a table comes from, and kept by every step: nothing here tests it.
 use enter::Entered;
+use rules::Answer;
 use rules::Event;
 use rules::Gate;
 use rules::Outcome;
+use table::gates;
+use table::gates::Decision;
 ghost use mathlib.Core.Path.{_≡_};
 ghost use Rattle.rules.specs.Run.{step as stepAt};
 ghost use Rattle.table.specs.View.{Known};
-ghost use Rattle.table.specs.Does.{does};
+ghost use Rattle.table.specs.Does.{does, Leaves};
 
 // One event: refused, and every number stands as it did, or entered, and the choice made.
 pub fn step(
+    gate: Gate,
+    guests: &mut [u64],
+    waiting: &mut [u64],
+    flight: &mut [u64],
+    event: Event,
+) -> Decision
+    requires { ⌜ Known gate (now guests) (now waiting) (now flight) ⌝ }
+    ensures { λ r. ⌜ Leaves (λ t. stepAt t event) gate (now (guests .entry)) (now (waiting .entry)) (now (flight .entry)) r (now (guests .exit)) (now (waiting .exit)) (now (flight .exit)) ⌝ }
+    ensures { λ r. ⌜ Known (r .gate) (now (guests .exit)) (now (waiting .exit)) (now (flight .exit)) ⌝ }
+{
+    let entered = enter::enter(gate, guests, waiting, flight, event);
+    match entered {
+        Entered::Refused(why) => gates::decided(gate, Answer::Refused(why)),
+        Entered::At(moved) => choose::choose(moved, guests, waiting, flight),
+    }
+}
+
+// One event, and when to wake the gate after it. Nothing is walked for that where the event is refused: a refusal carries no time.
+pub fn step_and_wake(
     gate: Gate,
     guests: &mut [u64],
     waiting: &mut [u64],
@@ -21,9 +43,14 @@ pub fn step(
     ensures { λ r. ⌜ (r, now (guests .exit), now (waiting .exit), now (flight .exit)) ≡ does (λ t. stepAt t event) gate (now (guests .entry)) (now (waiting .entry)) (now (flight .entry)) ⌝ }
     ensures { λ r. ⌜ Known (r .gate) (now (guests .exit)) (now (waiting .exit)) (now (flight .exit)) ⌝ }
 {
-    let entered = enter::enter(gate, guests, waiting, flight, event);
-    match entered {
-        Entered::Refused(why) => table::gates::refused(gate, why),
-        Entered::At(moved) => choose::choose(moved, guests, waiting, flight),
+    let made = step(gate, guests, waiting, flight, event);
+    let after = made.gate;
+    let answer = made.answer;
+    match answer {
+        Answer::Refused(why) => gates::refused(after, why),
+        _ => {
+            let wake = choose::wake_of(after, &guests[..], &waiting[..]);
+            gates::answered(after, answer, wake)
+        }
     }
 }

@@ -9,14 +9,10 @@ use Rattle.lists.specs.Rows.{overRows}
 use Rattle.lists.specs.RowsLaws.{length-rows, length-over-rows, rows-over, over-twice, over-unused, over-same, all-used}
 use Rattle.rules.specs.Tables.{Table}
 use Rattle.rules.specs.Sound.{sound}
-use Rattle.rules.specs.Choice.{Result}
 use Rattle.rules.proofs.Facts.{sound-is}
 use Rattle.rules.proofs.SameSettings.{SameSettings, same-count}
 use Rattle.rules.specs.declared.Gate.{Gate}
-use Rattle.rules.specs.declared.Answer.{Answer}
-use Rattle.rules.specs.declared.Wake.{Wake}
-use Rattle.rules.specs.Waking.{told}
-use Rattle.table.specs.View.{gateAt, outcomeOf, guestForm, requestForm, flightForm, guestsOf, tableOf, gateOf, handed, identified, Known}
+use Rattle.table.specs.View.{gateAt, guestForm, requestForm, flightForm, guestsOf, tableOf, gateOf, identified, Known}
 use Rattle.table.specs.Does.{written}
 use Rattle.table.specs.ViewLaws.{guest-exact, request-exact, flight-exact}
 use Rattle.table.specs.Columns.{guestWide, waitingWide, flightWide}
@@ -62,17 +58,16 @@ module _ (gs ws fs : List ℕ) (u : Table) (room : Room gs ws fs u) (firm : soun
         };
       }
 
-  -- what is handed back over the written numbers is handed back over the first ones
-  pub handed-again : (r : Result) → SameSettings (r .table) u → handed hs vs es r ≡ handed gs ws fs r
-  unfolding handed
-  handed-again r c =
-      let pg : overRows guestForm (length (r .table .guests)) (r .table .guests) hs ≡ overRows guestForm (length (r .table .guests)) (r .table .guests) gs =
-      rw (same-count (r .table) u c) (over-twice guestForm guest-exact (length (u .guests)) (r .table .guests) (u .guests) gs (room .guests)) in
-      let pw : overRows requestForm (r .table .setup .capacity) (r .table .waiting) vs ≡ overRows requestForm (r .table .setup .capacity) (r .table .waiting) ws =
-      rw (c .setup) (over-twice requestForm request-exact (u .setup .capacity) (r .table .waiting) (u .waiting) ws (room .waiting)) in
-      let pf : overRows flightForm (r .table .setup .depth) (r .table .flight) es ≡ overRows flightForm (r .table .setup .depth) (r .table .flight) fs =
-      rw (c .setup) (over-twice flightForm flight-exact (u .setup .depth) (r .table .flight) (u .flight) fs (room .flight)) in
-      λ i. (outcomeOf (gateOf (r .table)) (r .answer) (told r), pg i, pw i, pf i)
+  -- a table of the same settings written over the written numbers is written over the first ones
+  pub written-again : (v : Table) → SameSettings v u → written hs vs es v ≡ written gs ws fs v
+  written-again v c =
+      let pg : overRows guestForm (length (v .guests)) (v .guests) hs ≡ overRows guestForm (length (v .guests)) (v .guests) gs =
+      rw (same-count v u c) (over-twice guestForm guest-exact (length (u .guests)) (v .guests) (u .guests) gs (room .guests)) in
+      let pw : overRows requestForm (v .setup .capacity) (v .waiting) vs ≡ overRows requestForm (v .setup .capacity) (v .waiting) ws =
+      rw (c .setup) (over-twice requestForm request-exact (u .setup .capacity) (v .waiting) (u .waiting) ws (room .waiting)) in
+      let pf : overRows flightForm (v .setup .depth) (v .flight) es ≡ overRows flightForm (v .setup .depth) (v .flight) fs =
+      rw (c .setup) (over-twice flightForm flight-exact (u .setup .depth) (v .flight) (u .flight) fs (room .flight)) in
+      λ i. (gateOf v, pg i, pw i, pf i)
 
 module _ (g : Gate) (gs ws fs : List ℕ) (k : Known g gs ws fs) where
   abbrev t : Table
@@ -97,9 +92,3 @@ module _ (g : Gate) (gs ws fs : List ℕ) (k : Known g gs ws fs) where
       let pw = over-same requestForm request-exact (g .setup .capacity) (g .waiting) ws (k .whole .waitingUnused) in
       let pf = over-same flightForm flight-exact (g .setup .depth) (g .flight) fs (k .whole .flightUnused) in
       sym (λ i. (gateAt (g .setup) (eg i) (g .time) (ew i) (ef i), pg i, pw i, pf i))
-
--- the numbers that show a table, an answer, and the time to wake, are what is handed back
-pub handed-written : (gs ws fs : List ℕ) (g : Gate) (hs vs es : List ℕ) (r : Result) (a : Answer) (w : Wake) → (g, hs, vs, es) ≡ written gs ws fs (r .table) → a ≡ r .answer → w ≡ told r
-    → (outcomeOf g a w, hs, vs, es) ≡ handed gs ws fs r
-unfolding handed
-handed-written gs ws fs g hs vs es r a w p q o = λ i. (outcomeOf (p i .0) (q i) (o i), p i .1, p i .2, p i .3)

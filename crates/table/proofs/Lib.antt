@@ -1,2 +1,3 @@
 pub mod Lens
 pub mod Facts
+pub mod Left

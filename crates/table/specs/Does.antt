@@ -32,7 +32,7 @@ written gs ws fs u = (
 abbrev pub does : (Table → Result) → Gate → (gs ws fs : List ℕ) → Handed
 does f g gs ws fs = handed gs ws fs (f (tableOf g gs ws fs))
 
--- what a choice that does f to the table leaves: the decision d, and the numbers hs, vs and es
+-- what a choice or a step that does f to the table leaves: the decision d, and the numbers hs, vs and es
 pub record Leaves (f : Table → Result) (g : Gate) (gs ws fs : List ℕ) (d : Decision) (hs vs es : List ℕ) : Type 0 where
   pub shows : (d .gate, hs, vs, es) ≡ written gs ws fs (f (tableOf g gs ws fs) .table)
   pub answers : d .answer ≡ f (tableOf g gs ws fs) .answer

@@ -92,7 +92,7 @@ gateAt s n time w f = record { setup = s; guests = n; time = time; waiting = w; 
 abbrev pub gateOf : Table → Gate
 gateOf t = gateAt (t .setup) (length (t .guests)) (t .time) (length (t .waiting)) (length (t .flight))
 
--- what the choice comes to: the gate after it, and its answer
+-- what an event comes to: the gate after it, and its answer
 abbrev pub decisionOf : Gate → Answer → Decision
 decisionOf g a = record { gate = g; answer = a }
 

@@ -26,7 +26,7 @@ pub fn gate_at(setup: Setup, guests: u64, time: u64, waiting: u64, flight: u64) 
     }
 }
 
-// What the choice comes to: the gate after it, and its answer. When to wake the gate is found last, in the tables that it leaves.
+// What an event comes to: the gate after it, and its answer. When to wake the gate is asked apart, and only where someone wants to know.
 pub struct Decision {
     pub gate: Gate,
     pub answer: Answer,

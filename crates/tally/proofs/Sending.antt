@@ -20,17 +20,16 @@ use Rattle.rules.specs.declared.Setup.{Setup}
 use Rattle.rules.specs.declared.Phase.{Phase}
 use Rattle.rules.specs.declared.Phase.the-variants.{Reservation, Weight}
 use Rattle.rules.specs.declared.Event.{Event}
-use Rattle.rules.specs.declared.Outcome.{Outcome}
 use Rattle.rules.specs.declared.Answer.{Answer}
 use Rattle.rules.specs.declared.Answer.the-variants.{Nothing, Sent, Refused}
-use Rattle.rules.proofs.Facts.{Sound, is-sound}
-use Rattle.rules.proofs.ChoiceSound.{choice-sound}
+use Rattle.rules.proofs.Facts.{Sound}
 use Rattle.rules.proofs.SameSettings.{choice-settings, same-count}
 use Rattle.rules.proofs.Bounds.{choice-time}
-use Rattle.table.specs.View.{guestForm, requestForm, tableOf, gateOf, Handed, handed, Known}
-use Rattle.table.specs.Does.{does}
+use Rattle.table.specs.declared.gates.Decision.{Decision}
+use Rattle.table.specs.View.{guestForm, requestForm, tableOf, gateOf, Known}
+use Rattle.table.specs.Does.{Lent, Leaves}
 use Rattle.table.proofs.Facts.{facts, rows-ask}
-use Rattle.step.proofs.After.{shownAfter, handed-shown}
+use Rattle.step.proofs.After.{choice-shown}
 use Rattle.book.specs.Book.{Entry, called, noted, struck}
 use Rattle.book.specs.Figures.{Figures, counted, change, sentBy}
 use Rattle.book.specs.Page.{Page, named, liesAhead, waited, booked}
@@ -157,17 +156,12 @@ module _ (n : ℕ) (h : Gate) (hs vs es bk fg : List ℕ) (k : Known h hs vs es)
 
   -- AFTER THE CHOICE
 
-  module _ (o : Outcome) (gs ws fs : List ℕ) (y : (o, gs, ws, fs) ≡ does choice h hs vs es) where
-    pub answer-is : o .answer ≡ choice u .answer
-    unfolding handed
-    answer-is = ap (λ (z : Handed). z .0 .answer) y
-
+  module _ (o : Decision) (gs ws fs : List ℕ) (y : Leaves choice h hs vs es o gs ws fs) where
     gate-is : o .gate ≡ gateOf v
-    unfolding handed
-    gate-is = ap (λ (z : Handed). z .0 .gate) y
+    gate-is = ap (λ (z : Lent). z .0) (y .shows)
 
     pub shown : tableOf (o .gate) gs ws fs ≡ v
-    shown = ap shownAfter y ∙ handed-shown h hs vs es k (choice u) (choice-settings u) (is-sound v (choice-sound u firm))
+    shown = choice-shown h hs vs es k o gs ws fs y
 
     waits-then : o .gate .waiting ≡ length (v .waiting)
     waits-then = ap Gate.waiting gate-is
@@ -288,7 +282,7 @@ module _ (n : ℕ) (h : Gate) (hs vs es bk fg : List ℕ) (k : Known h hs vs es)
       kept-by (Refused r) q = absurd (choice-refuses-none u r q)
 
       pub kept-after : Kept (n + 1) (o .gate) ws (struckIn (o .answer) h bk) (sentIn (o .answer) h bk fg)
-      kept-after = kept-by (o .answer) (sym answer-is)
+      kept-after = kept-by (o .answer) (sym (y .answers))
 
       -- and the page is that of the definitions
       module _ (e : Event) (b : Page) (eb : bookOf bk (h .waiting) ≡ noted e (b .book)) (ef : figuresOf fg (h .guests) ≡ counted e (b .figures)) where
@@ -306,4 +300,4 @@ module _ (n : ℕ) (h : Gate) (hs vs es bk fg : List ℕ) (k : Known h hs vs es)
         page-by (Refused r) q = absurd (choice-refuses-none u r q)
 
         pub page-after : pageOf (o .gate) gs ws fs (struckIn (o .answer) h bk) (sentIn (o .answer) h bk fg) ≡ booked (choice u .answer) e u v b
-        page-after = page-by (o .answer) (sym answer-is) ∙ ap (λ (a : Answer). booked a e u v b) answer-is
+        page-after = page-by (o .answer) (sym (y .answers)) ∙ ap (λ (a : Answer). booked a e u v b) (y .answers)

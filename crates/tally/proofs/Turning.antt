@@ -23,20 +23,20 @@ use Rattle.rules.specs.declared.Flight.{Flight}
 use Rattle.rules.specs.declared.Refusal.{Refusal}
 use Rattle.rules.specs.declared.Event.{Event}
 use Rattle.rules.specs.declared.Event.the-variants.{Arrival, Completion, Tick}
-use Rattle.rules.specs.declared.Outcome.{Outcome}
 use Rattle.rules.proofs.Facts.{is-sound}
 use Rattle.rules.proofs.Judged.{passed}
 use Rattle.rules.proofs.EnterSound.{enter-sound, enter-time, accepted-later}
 use Rattle.rules.proofs.StepSound.{accepted-step}
 use Rattle.rules.proofs.SameSettings.{enter-settings, same-count}
 use Rattle.table.specs.View.{guestForm, tableOf, gateOf, Known}
-use Rattle.table.specs.Does.{Lent, does}
+use Rattle.table.specs.declared.gates.Decision.{Decision}
+use Rattle.table.specs.Does.{Lent, Leaves}
 use Rattle.table.proofs.Lens.{written-shown, known-room}
 use Rattle.table.proofs.Facts.{facts}
 use Rattle.enter.specs.Enters.{EntersAt, Enters}
 use Rattle.enter.specs.declared.Entered.{Entered}
 use Rattle.enter.specs.declared.Entered.the-variants.{Refused as Barred, At}
-use Rattle.step.proofs.After.{KnownAfter, choice-known}
+use Rattle.step.proofs.After.{choice-known}
 use Rattle.book.specs.Book.{noted}
 use Rattle.book.specs.Figures.{counted}
 use Rattle.book.specs.Page.{Page, booked, turned}
@@ -47,7 +47,7 @@ use Rattle.tally.specs.Kept.{bookOf, figuresOf, pageOf, Kept}
 use Rattle.tally.specs.Turns.{notedIn, countedIn, struckIn, sentIn, Settles, standing, Brings, Entering}
 use Rattle.tally.proofs.Stubs.{stubAt, noStub, stubs-tab, moved-match}
 use Rattle.tally.proofs.Noting.{noting, noted-shown, counted-shown}
-use Rattle.tally.proofs.Sending.{settles, answer-is, kept-after, page-after}
+use Rattle.tally.proofs.Sending.{settles, kept-after, page-after}
 
 module _ (n : ℕ) (g : Gate) (gs ws fs bk fg : List ℕ) (k : Known g gs ws fs) (x : Kept n g ws bk fg) (e : Event) where
   abbrev t : Table
@@ -207,7 +207,7 @@ module _ (n : ℕ) (g : Gate) (gs ws fs bk fg : List ℕ) (k : Known g gs ws fs)
 
   -- THE TURN
 
-  module _ (low : (j : ℕ) → figureAt fg j LOWER < 2 ^ 64) (e : Event) (h : Gate) (hs vs es : List ℕ) (c : EntersAt e g gs ws fs h hs vs es) (o : Outcome) (is js ls ck dg : List ℕ) (y : (o, is, js, ls) ≡ does choice h hs vs es)
+  module _ (low : (j : ℕ) → figureAt fg j LOWER < 2 ^ 64) (e : Event) (h : Gate) (hs vs es : List ℕ) (c : EntersAt e g gs ws fs h hs vs es) (o : Decision) (is js ls ck dg : List ℕ) (y : Leaves choice h hs vs es o is js ls)
       (eb : ck ≡ struckIn (o .answer) h (notedIn e h vs bk)) (ef : dg ≡ sentIn (o .answer) h (notedIn e h vs bk) (countedIn e fg)) where
     abbrev nb : List ℕ
     nb = notedIn e h vs bk
@@ -243,19 +243,19 @@ module _ (n : ℕ) (g : Gate) (gs ws fs bk fg : List ℕ) (k : Known g gs ws fs)
     pub entered-turn : (pageOf (o .gate) is js ls ck dg ≡ turned (pageOf g gs ws fs bk fg) e) × Known (o .gate) is js ls × Kept (n + 1) (o .gate) js ck dg
     entered-turn = (
       (λ i. pageOf (o .gate) is js ls (eb i) (ef i)) ∙ turned-is,
-      subst KnownAfter (sym y) (choice-known h hs vs es known-then),
+      choice-known h hs vs es known-then o is js ls y,
       subst (λ (z : List ℕ). Kept (n + 1) (o .gate) js z dg) (sym eb)
           (subst (Kept (n + 1) (o .gate) js (struckIn (o .answer) h nb)) (sym ef) (kept-after n h hs vs es nb nf known-then (noting n h hs vs es bk fg known-then e ready) o is js ls y low-then late)),
     )
 
 -- what `accepted` must show before it settles the answer
 pub settled-asks : (n : ℕ) (h : Gate) (hs vs es bk fg : List ℕ) → Known h hs vs es → (e : Event) → Entering n e h vs bk fg → (ck dg : List ℕ) → ck ≡ notedIn e h vs bk → dg ≡ countedIn e fg
-    → (o : Outcome) (is js ls : List ℕ) → (o, is, js, ls) ≡ does choice h hs vs es → Settles (o .answer) h ck dg
+    → (o : Decision) (is js ls : List ℕ) → Leaves choice h hs vs es o is js ls → Settles (o .answer) h ck dg
 settled-asks n h hs vs es bk fg k e x ck dg eb ef o is js ls y =
     let a = noting n h hs vs es bk fg k e x in
     subst (λ (z : List ℕ). Settles (o .answer) h z dg) (sym eb)
     (subst (Settles (o .answer) h (notedIn e h vs bk)) (sym ef)
-    (settles n h hs vs es (notedIn e h vs bk) (countedIn e fg) k a (o .answer) (sym (answer-is n h hs vs es (notedIn e h vs bk) (countedIn e fg) k a o is js ls y))))
+    (settles n h hs vs es (notedIn e h vs bk) (countedIn e fg) k a (o .answer) (sym (y .answers))))
 
 -- what entered, from what the entering answered
 pub entered-at : (e : Event) (g : Gate) (gs ws fs : List ℕ) (a : Entered) (hs vs es : List ℕ) → Enters e g gs ws fs a hs vs es → (h : Gate) → a ≡ At h → EntersAt e g gs ws fs h hs vs es

@@ -10,16 +10,16 @@ use rules::Answer;
 use rules::Arriving;
 use rules::Event;
 use rules::Gate;
-use rules::Outcome;
 use rules::Phase;
 use table::columns::LTAG;
 use table::columns::WAITING_WIDE;
+use table::gates::Decision;
 ghost use mathlib.Core.Path.{_≡_};
 ghost use Prim.Native.Nat.{_+_, _^_, _<_};
 ghost use Rattle.rules.specs.Choice.{choice};
 ghost use Rattle.rules.specs.declared.Event.the-variants.{Arrival};
 ghost use Rattle.table.specs.View.{Known};
-ghost use Rattle.table.specs.Does.{does};
+ghost use Rattle.table.specs.Does.{Leaves};
 ghost use Rattle.book.specs.Page.{turned};
 ghost use Rattle.tally.specs.Kept.{pageOf, Kept};
 ghost use Rattle.tally.specs.Notes.{struckAt, sentFor};
@@ -100,10 +100,10 @@ fn accepted(
     book: &mut [u64],
     figures: &mut [u64],
     event: Event,
-) -> Outcome
+) -> Decision
     requires { ⌜ Known gate (now guests) (now waiting) (now flight) ⌝ }
     requires { ⌜ Entering number event gate (now waiting) (now book) (now figures) ⌝ }
-    ensures { λ r. ⌜ (r, now (guests .exit), now (waiting .exit), now (flight .exit)) ≡ does choice gate (now (guests .entry)) (now (waiting .entry)) (now (flight .entry)) ⌝ }
+    ensures { λ r. ⌜ Leaves choice gate (now (guests .entry)) (now (waiting .entry)) (now (flight .entry)) r (now (guests .exit)) (now (waiting .exit)) (now (flight .exit)) ⌝ }
     ensures { λ r. ⌜ now (book .exit) ≡ struckIn (r .answer) gate (notedIn event gate (now (waiting .entry)) (now (book .entry))) ⌝ }
     ensures { λ r. ⌜ now (figures .exit) ≡ sentIn (r .answer) gate (notedIn event gate (now (waiting .entry)) (now (book .entry))) (countedIn event (now (figures .entry))) ⌝ }
 {

@@ -10,8 +10,8 @@ enter-requires c κs = search needs
 enum-known-entered : tie.Need-enum-known-entered
 enum-known-entered c = search needs
 
-refused-requires : tie.Need-refused-requires
-refused-requires c κs = search needs
+decided-requires : tie.Need-decided-requires
+decided-requires c κs = search needs
 
 enum-known-entered-2 : tie.Need-enum-known-entered-2
 enum-known-entered-2 c = search needs
@@ -35,7 +35,7 @@ returns : tie.Need-returns
 returns c =
     let s = c .before .before .before .before .before .before .before .before .before .before .before .before .before .before .before .before .before in
     let x = c .before .before .before .before .before .before .before .before .before .before .enter in
-    refused-moves (s .args .gate) (s .args .guests .now) (s .args .waiting .now) (s .args .flight .now) (s .pre) (s .args .event) (x .result) _ _ _ (x .ensures) _ (c .before .before .entered .given .1) _ (c .refused .ensures)
+    refused-moves (s .args .gate) (s .args .guests .now) (s .args .waiting .now) (s .args .flight .now) (s .pre) (s .args .event) (x .result) _ _ _ (x .ensures) _ (c .before .before .entered .given .1) _ (c .decided .ensures)
 
 same-length-4 : tie.Need-same-length-4
 same-length-4 c = search needs
@@ -50,7 +50,7 @@ returns-2 : tie.Need-returns-2
 returns-2 c =
     let s = c .before .before .before .before .before .before .before .before .before .before .before .before .before .before .before .before .before .before .before .before .before .before .before .before .before .before in
     let x = c .before .before .before .before .before .before .before .before .before .before .before .before .before .before .before .before .before .before .before .enter in
-    entered-moves (s .args .gate) (s .args .guests .now) (s .args .waiting .now) (s .args .flight .now) (s .pre) (s .args .event) (x .result) _ _ _ (x .ensures) _ (c .before .before .before .before .before .before .before .before .before .before .before .entered2 .given .1) _ (c .before .before .before .before .before .before .choose .ensures)
+    entered-moves (s .args .gate) (s .args .guests .now) (s .args .waiting .now) (s .args .flight .now) (s .pre) (s .args .event) (x .result) _ _ _ (x .ensures) _ (c .before .before .before .before .before .before .before .before .before .before .before .entered2 .given .1) _ _ _ _ (c .before .before .before .before .before .before .choose .ensures)
 
 pub step-spec : {M : Type 1} → statement M
 step-spec =
@@ -58,7 +58,7 @@ step-spec =
     (tie.spec
     enter-requires
     enum-known-entered
-    refused-requires
+    decided-requires
     enum-known-entered-2
     choose-requires
     same-length

@@ -13,8 +13,8 @@ step-requires c κs = search needs
 enum-told : tie.Need-enum-told
 enum-told c = search needs
 
-refused-requires : tie.Need-refused-requires
-refused-requires c κs = search needs
+decided-requires : tie.Need-decided-requires
+decided-requires c κs = search needs
 
 same-length : tie.Need-same-length
 same-length c = search needs
@@ -29,12 +29,12 @@ returns : tie.Need-returns
 returns c =
     let s = c .before .before .before .before .before .before .before .before .before .before .before .before .before .before .before .before in
     let v = c .before .before .before .before .before .before .before .before .before .before .before .event .given in
-    (good-answers (s .args .gate) (s .args .guests .now) (s .args .waiting .now) (s .args .flight .now) (s .args .event) _ (v .1) _ (c .before .before .before .before .before .before .step .ensures .0), c .before .before .before .before .before .before .step .ensures .1)
+    (good-answers (s .args .gate) (s .args .guests .now) (s .args .waiting .now) (s .args .flight .now) (s .args .event) _ (v .1) (c .before .before .before .before .before .before .step .ensures .0), c .before .before .before .before .before .before .step .ensures .1)
 
 returns-2 : tie.Need-returns-2
 returns-2 c =
     let s = c .before .before .before .before .before .before in
-    bad-answers (s .args .gate) (s .args .guests .now) (s .args .waiting .now) (s .args .flight .now) (s .args .event) (s .pre) (c .before .enum-told .given .1) _ (c .refused .ensures)
+    bad-answers (s .args .gate) (s .args .guests .now) (s .args .waiting .now) (s .args .flight .now) (s .args .event) (s .pre) (c .before .enum-told .given .1) _ (c .decided .ensures)
 
 pub judge-spec : {M : Type 1} → statement M
 judge-spec =
@@ -43,7 +43,7 @@ judge-spec =
     enum-known-event
     step-requires
     enum-told
-    refused-requires
+    decided-requires
     same-length
     same-length-2
     same-length-3

@@ -13,8 +13,8 @@ refused-requires c κs = search needs
 enum-told : tie.Need-enum-told
 enum-told c = search needs
 
-step-requires : tie.Need-step-requires
-step-requires c κs =
+step-and-wake-requires : tie.Need-step-and-wake-requires
+step-and-wake-requires c κs =
     let s = c .before .before .before .before .before .before .before .before in
     good-known (s .args .gate) (s .args .guests .now) (s .args .waiting .now) (s .args .flight .now) (s .args .found) (s .pre) (c .before .before .before .enum-told .given .1)
 
@@ -37,8 +37,8 @@ same-length-3 c = search needs
 returns-2 : tie.Need-returns-2
 returns-2 c =
     let s = c .before .before .before .before .before .before .before .before .before .before .before .before .before .before .before in (
-      good-returns (s .args .gate) (s .args .guests .now) (s .args .waiting .now) (s .args .flight .now) (s .args .found) (s .pre) (s .args .event) (c .before .before .before .before .before .before .before .before .before .before .enum-told .given .1) _ (c .before .before .before .before .before .before .step .ensures .0),
-      good-stays (s .args .gate) (s .args .guests .now) (s .args .waiting .now) (s .args .flight .now) (s .args .found) (s .pre) (c .before .before .before .before .before .before .before .before .before .before .enum-told .given .1) _ _ _ _ (c .before .before .before .before .before .before .step .ensures .1),
+      good-returns (s .args .gate) (s .args .guests .now) (s .args .waiting .now) (s .args .flight .now) (s .args .found) (s .pre) (s .args .event) (c .before .before .before .before .before .before .before .before .before .before .enum-told .given .1) _ (c .before .before .before .before .before .before .step-and-wake .ensures .0),
+      good-stays (s .args .gate) (s .args .guests .now) (s .args .waiting .now) (s .args .flight .now) (s .args .found) (s .pre) (c .before .before .before .before .before .before .before .before .before .before .enum-told .given .1) _ _ _ _ (c .before .before .before .before .before .before .step-and-wake .ensures .1),
     )
 
 pub follow-spec : {M : Type 1} → statement M
@@ -48,7 +48,7 @@ follow-spec =
     enum-known-found
     refused-requires
     enum-told
-    step-requires
+    step-and-wake-requires
     returns
     same-length
     same-length-2
