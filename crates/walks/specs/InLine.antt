@@ -1,6 +1,6 @@
 -- The walk of the choice, one for both phases: what it holds after some rows, where only the first row of each guest is looked at.
 -- Assumes nothing.
-use Prim.Native.Nat.{ℕ, _+_, _*_, _≤_, _<_}
+use Prim.Native.Nat.{ℕ, _+_, _-_, _*_, _≤_, _<_}
 use mathlib.Core.Path.{_≡_, refl, sym, ap, _∙_}
 use mathlib.Core.Bool.{Bool, true, false, _&&_, and-true}
 use mathlib.Core.List.{List}
@@ -17,6 +17,7 @@ use Rattle.rules.specs.Chosen.{at}
 use Rattle.table.specs.Columns.{RESERVATION, GUEST, RTAG, LTAG, STAG, waitingWide, mostGuests, guestAt, waitingAt}
 use Rattle.table.specs.View.{requestForm, waitingOf}
 use Rattle.walks.specs.Walks.{Picks, Owned, Rising, SharesFit, placeIn}
+use Rattle.walks.specs.Unseen.{unseen, unseen-some, kept-to-end}
 use Rattle.walks.specs.WalksLaws.{walk-behind, Told, told-start, told-take, told-pass, told-picks}
 use Rattle.walks.specs.WalksRows.{dueIn, openIn, row-from, rtag-at, stag-at, due-at, due-tag, open-at, open-is, due-behind, open-behind}
 
@@ -155,6 +156,14 @@ module _ (gs ws : List ℕ) (known count time : ℕ) where
           byTag = d;
           byShare = o;
         }
+
+  -- where every guest is marked, the rows that are left change nothing: the walk may end
+  pub line-rest : {seen : List ℕ} {first soonest spare smallest from : ℕ} → InLine gs ws known count time seen first soonest spare smallest from
+      → Owned ws count known → known ≤ mostGuests → Rising ws count → unseen seen known ≡ 0 → InLine gs ws known count time seen first soonest spare smallest (count * waitingWide)
+  line-rest {seen} {first} {soonest} {spare} {smallest} {from} l owned few rising none =
+      kept-to-end (InLine gs ws known count time seen first soonest spare smallest) count
+      (λ at more k. line-skip k more owned few rising (λ z. omega (arith, none, unseen-some seen known (getD ws (at + GUEST) 0) (known-here k more owned) z)))
+      (count - l .row) from (omega (arith, l .begins, l .inside)) l
 
   -- behind the last row
   module _ {seen : List ℕ} {first soonest spare smallest from : ℕ} (l : InLine gs ws known count time seen first soonest spare smallest from) (done : count * waitingWide ≤ from) where

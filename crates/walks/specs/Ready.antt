@@ -1,5 +1,5 @@
 -- The walk for the time to wake: what it holds after some rows, where only the first row of each guest is looked at. Assumes nothing.
-use Prim.Native.Nat.{ℕ, _+_, _*_, _≤_, _<_, max, min}
+use Prim.Native.Nat.{ℕ, _+_, _-_, _*_, _≤_, _<_, max, min}
 use mathlib.Core.Path.{_≡_, refl, sym, ap, _∙_}
 use mathlib.Core.Bool.{Bool, true, false}
 use mathlib.Core.List.{List, map}
@@ -20,6 +20,7 @@ use Rattle.table.specs.View.{guestForm, requestForm, guestsOf, waitingOf}
 use Rattle.walks.specs.Walks.{Owned, Rising, LimitsFit, readyBy, readyByTag}
 use Rattle.walks.specs.WalksLaws.{Holds, Walk, walk-start, walk-take, walk-pass, walk-behind}
 use Rattle.walks.specs.WalksRows.{row-from}
+use Rattle.walks.specs.Unseen.{unseen, unseen-some, kept-to-end}
 use Rattle.walks.specs.InLine.{Stood, Marks, marks-start, marks-later, marks-mark}
 
 -- the limit tag, where it is no later than the reservation tag
@@ -145,6 +146,14 @@ module _ (gs ws : List ℕ) (known count time : ℕ) where
           place = l .place;
           walk = walk-pass (l .walk) (walk-behind (l .walk) (s .place) (s .before) (λ o. (refl, low)));
         }
+
+  -- where every guest is marked, the rows that are left change nothing: the walk may end
+  pub ready-rest : {seen : List ℕ} {first from : ℕ} → InReady gs ws known count time seen first from
+      → Owned ws count known → known ≤ mostGuests → Rising ws count → unseen seen known ≡ 0 → InReady gs ws known count time seen first (count * waitingWide)
+  ready-rest {seen} {first} {from} l owned few rising none =
+      kept-to-end (InReady gs ws known count time seen first) count
+      (λ at more k. ready-skip k more owned few rising (λ z. omega (arith, none, unseen-some seen known (getD ws (at + GUEST) 0) (ready-known k more owned) z)))
+      (count - l .row) from (omega (arith, l .begins, l .inside)) l
 
   -- behind the last row it holds the time to wake
   pub ready-end : {seen : List ℕ} {first from : ℕ} → InReady gs ws known count time seen first from → count * waitingWide ≤ from → 0 < count → Owned ws count known → LimitsFit ws count

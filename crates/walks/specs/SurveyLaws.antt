@@ -1,6 +1,7 @@
--- What the walks of the survey find, a row to a turn: the rows passed so far are the first rows. Assumes nothing.
+-- What the walks of the survey find, a row to a turn: the rows passed so far are the last rows in the search for a guest's own, the first rows in that
+-- for the ends. Assumes nothing.
 use Prim.Native.Nat.{ℕ, zero, suc, _+_, _-_, _*_, _≤_, _<_, min, max}
-use mathlib.Core.Path.{_≡_, refl, sym, ap, _∙_}
+use mathlib.Core.Path.{_≡_, refl, sym, ap, _∙_, subst}
 use mathlib.Core.Bool.{Bool, true, false, not, _&&_, and-true, and-false}
 use mathlib.Core.List.{List, [], _∷_, _++_, map}
 use mathlib.Core.Logic.{⊎-elim}
@@ -8,7 +9,7 @@ use native.Mathlib.Numerals.{add-one}
 use native.Mathlib.Omega.{arith}
 use lib.Dec.{eqb}
 use lib.ListN.{length, getD, length-map}
-use borrow.Author.Tests.{eq-eqb, ne-eqb}
+use borrow.Author.Tests.{eq-eqb, ne-eqb, eqb-true, eqb-false}
 use Rattle.lists.specs.Words.{all, lowest}
 use Rattle.lists.specs.WordsLaws.{join, all-of-map, all-snoc, none-left, place-not, lowest-snoc}
 use Rattle.lists.specs.Tab.{lt-or-le}
@@ -88,52 +89,104 @@ module _ (ws : List ℕ) (g id : ℕ) where
       ∙ place-not another (waitingOf ws n) (requestForm .read []) k (omega (arith, length-rows requestForm ws n))
       (ap another (row-at requestForm ws n k h) ∙ rw (eq-eqb g (waitingAt ws k GUEST) (sym e), eq-eqb id (waitingAt ws k ID) (sym i)))
 
--- the walk over the rows, at the one whose numbers begin at `from`: none passed is this request, and whether one is of its guest
+-- whether one of the rows from `row` on is of guest g
+abbrev pub Behind : List ℕ → (count g row : ℕ) → Bool → Type 0
+Behind ws count g row true = (k : ℕ) × (row ≤ k) × (k < count) × (waitingAt ws k GUEST ≡ g)
+Behind ws count g row false = (k : ℕ) → row ≤ k → k < count → waitingAt ws k GUEST ≡ g → ⊥
+
+-- the walk over the rows from the last to the first, down to the one whose numbers begin at `from`: none passed is this request, and whether one is of
+-- its guest
 pub record Searched (ws : List ℕ) (count g id : ℕ) (waits : Bool) (from : ℕ) : Type 0 where
   pub row : ℕ
   pub begins : from ≡ row * waitingWide
   pub inside : row ≤ count
-  pub lacking : lacksIn ws row g id ≡ true
-  pub idling : idleIn ws row g ≡ not waits
+  pub lacking : (k : ℕ) → row ≤ k → k < count → waitingAt ws k GUEST ≡ g → waitingAt ws k ID ≡ id → ⊥
+  pub idling : Behind ws count g row waits
 
 module _ (ws : List ℕ) (count g id : ℕ) where
-  -- before the first row
-  pub search-start : Searched ws count g id false 0
-  search-start = record { row = 0; begins = refl; inside = omega arith; lacking = lacks-none ws g id; idling = idle-none ws g }
+  -- behind the last row
+  pub search-start : Searched ws count g id false (count * waitingWide)
+  search-start = record { row = count; begins = refl; inside = omega arith; lacking = λ k l m e i. omega (arith, l, m); idling = λ k l m e. omega (arith, l, m) }
 
-  module _ {waits : Bool} {from : ℕ} (s : Searched ws count g id waits from) (more : from < count * waitingWide) where
+  module _ {waits : Bool} {from : ℕ} (s : Searched ws count g id waits from) (more : 0 < from) where
+    -- the row that is next
+    next : ℕ
+    next = s .row - 1
+
+    -- it is the first of those passed from then on
+    next-is : (s .row ≡ next + 1) × (from - waitingWide ≡ next * waitingWide)
+    unfolding next
+    next-is = (omega (arith, s .begins, more), omega (arith, s .begins, more))
+
+    -- a number of it
+    read : (j : ℕ) → getD ws (from - waitingWide + j) 0 ≡ waitingAt ws next j
+    read j = row-from ws next j (next-is .1)
+
+    -- a row from it on is it, or one passed before
+    split : {A : Type 0} (k : ℕ) → next ≤ k → (next ≡ k → A) → (s .row ≤ k → A) → A
+    split k l f h = ⊎-elim (λ m. f (omega (arith, m, l))) (λ m. h (omega (arith, m, next-is .0))) (lt-or-le k (next + 1))
+
     -- the row is this request
-    pub search-hit : getD ws (from + GUEST) 0 ≡ g → getD ws (from + ID) 0 ≡ id → lacksIn ws count g id ≡ false
-    search-hit e i = lacks-not ws g id count (s .row) (omega (arith, s .begins)) (sym (row-from ws (s .row) GUEST (s .begins)) ∙ e) (sym (row-from ws (s .row) ID (s .begins)) ∙ i)
+    pub search-hit : getD ws (from - waitingWide + GUEST) 0 ≡ g → getD ws (from - waitingWide + ID) 0 ≡ id → lacksIn ws count g id ≡ false
+    search-hit e i = lacks-not ws g id count next (omega (arith, next-is .0, s .inside)) (sym (read GUEST) ∙ e) (sym (read ID) ∙ i)
 
     -- another request of the guest
-    pub search-own : getD ws (from + GUEST) 0 ≡ g → (getD ws (from + ID) 0 ≡ id → ⊥) → Searched ws count g id true (from + waitingWide)
+    pub search-own : getD ws (from - waitingWide + GUEST) 0 ≡ g → (getD ws (from - waitingWide + ID) 0 ≡ id → ⊥) → Searched ws count g id true (from - waitingWide)
     search-own e i =
         record {
-          row = s .row + 1;
-          begins = omega (arith, s .begins);
-          inside = omega (arith, s .begins);
-          lacking = lacks-id ws g id (s .row) (s .lacking) (λ q. i (row-from ws (s .row) ID (s .begins) ∙ q));
-          idling = idle-not ws g (s .row) (sym (row-from ws (s .row) GUEST (s .begins)) ∙ e);
+          row = next;
+          begins = next-is .1;
+          inside = omega (arith, next-is .0, s .inside);
+          lacking = λ k l m f q. split k l (λ n. i (read ID ∙ ap (λ (x : ℕ). waitingAt ws x ID) n ∙ q)) (λ n. s .lacking k n m f q);
+          idling = (next, omega arith, omega (arith, next-is .0, s .inside), sym (read GUEST) ∙ e);
         }
 
     -- another guest's
-    pub search-other : (getD ws (from + GUEST) 0 ≡ g → ⊥) → Searched ws count g id waits (from + waitingWide)
+    pub search-other : (getD ws (from - waitingWide + GUEST) 0 ≡ g → ⊥) → Searched ws count g id waits (from - waitingWide)
     search-other d =
-        let h : waitingAt ws (s .row) GUEST ≡ g → ⊥ = λ q. d (row-from ws (s .row) GUEST (s .begins) ∙ q) in
         record {
-          row = s .row + 1;
-          begins = omega (arith, s .begins);
-          inside = omega (arith, s .begins);
-          lacking = lacks-guest ws g id (s .row) (s .lacking) h;
-          idling = idle-same ws g (s .row) h ∙ s .idling;
+          row = next;
+          begins = next-is .1;
+          inside = omega (arith, next-is .0, s .inside);
+          lacking = λ k l m f q. split k l (λ n. here k n f) (λ n. s .lacking k n m f q);
+          idling = still waits (s .idling);
         }
+      where
+        here : (k : ℕ) → next ≡ k → waitingAt ws k GUEST ≡ g → ⊥
+        here k n f = d (read GUEST ∙ ap (λ (x : ℕ). waitingAt ws x GUEST) n ∙ f)
 
-  -- behind the last row
-  pub search-end : {waits : Bool} {from : ℕ} → Searched ws count g id waits from → count * waitingWide ≤ from → (lacksIn ws count g id ≡ true) × (idleIn ws count g ≡ not waits)
-  search-end s done =
-      let q : s .row ≡ count = omega (arith, s .begins, s .inside) in
-      (rw q at (s .lacking), rw q at (s .idling))
+        still : (b : Bool) → Behind ws count g (s .row) b → Behind ws count g next b
+        still true (k, l, m, e) = (k, omega (arith, l, next-is .0), m, e)
+        still false none = λ k l m f. split k l (λ n. here k n f) (λ n. none k n m f)
+
+  -- where no row is this request, the rows lack it
+  none-lacks : (n : ℕ) → ((k : ℕ) → k < n → waitingAt ws k GUEST ≡ g → waitingAt ws k ID ≡ id → ⊥) → lacksIn ws n g id ≡ true
+  none-lacks zero h = lacks-none ws g id
+  none-lacks (suc n) h = subst (λ (m : ℕ). lacksIn ws m g id ≡ true) (add-one n) (go (none-lacks n (λ k l. h k (omega (arith, l)))) (eqb (waitingAt ws n GUEST) g) refl)
+    where
+      go : lacksIn ws n g id ≡ true → (b : Bool) → eqb (waitingAt ws n GUEST) g ≡ b → lacksIn ws (n + 1) g id ≡ true
+      go so true e = lacks-id ws g id n so (h n (omega arith) (eqb-true (waitingAt ws n GUEST) g e))
+      go so false e = lacks-guest ws g id n so (eqb-false (waitingAt ws n GUEST) g e)
+
+  -- and whether one is of the guest says whether it is idle
+  idle-by : (n : ℕ) (b : Bool) → Behind ws n g 0 b → idleIn ws n g ≡ not b
+  idle-by zero true (k, l, m, e) = absurd (omega (arith, m))
+  idle-by zero false none = idle-none ws g
+  idle-by (suc n) b p = subst (λ (m : ℕ). idleIn ws m g ≡ not b) (add-one n) (go b p (idle-by n) (eqb (waitingAt ws n GUEST) g) refl)
+    where
+      go : (b : Bool) → Behind ws (suc n) g 0 b → ((c : Bool) → Behind ws n g 0 c → idleIn ws n g ≡ not c) → (d : Bool) → eqb (waitingAt ws n GUEST) g ≡ d → idleIn ws (n + 1) g ≡ not b
+      go true p so true e = idle-not ws g n (eqb-true (waitingAt ws n GUEST) g e)
+      go true (k, l, m, f) so false e =
+          let other = eqb-false (waitingAt ws n GUEST) g e in
+          idle-same ws g n other ∙ so true (k, l, ⊎-elim (λ (x : k < n). x) (λ (x : n ≤ k). absurd (other (ap (λ (y : ℕ). waitingAt ws y GUEST) (omega (arith, x, m)) ∙ f))) (lt-or-le k n), f)
+      go false none so true e = absurd (none n (omega arith) (omega arith) (eqb-true (waitingAt ws n GUEST) g e))
+      go false none so false e = idle-same ws g n (eqb-false (waitingAt ws n GUEST) g e) ∙ so false (λ k l m f. none k l (omega (arith, m)) f)
+
+  -- at the first row
+  pub search-end : {waits : Bool} {from : ℕ} → Searched ws count g id waits from → from ≤ 0 → (lacksIn ws count g id ≡ true) × (idleIn ws count g ≡ not waits)
+  search-end {waits} s done =
+      let q : s .row ≡ 0 = omega (arith, s .begins, done) in
+      (none-lacks count (λ k m. s .lacking k (omega (arith, q)) m), idle-by count waits (rw q at (s .idling)))
 
 -- THE ENDS
 

@@ -69,8 +69,19 @@ fn place_in(at: usize, used: usize) -> Found
     }
 }
 
-// One walk for both phases. Only the first row of each guest is looked at: within a guest no later tag is smaller. A bound falls with what is
-// found; the first one begins one above the time, so that one test says due and smaller. Rows are told by where their numbers begin.
+// The places of what the walk found, where the rows that are used end at `used`.
+fn firsts_at(first: usize, spare: usize, used: usize) -> Firsts
+    ensures { λ r. ⌜ (r .due ≡ placeIn first used) × (r .open ≡ placeIn spare used) ⌝ }
+{
+    Firsts {
+        due: place_in(first, used),
+        open: place_in(spare, used),
+    }
+}
+
+// One walk for both phases. Only the first row of each guest is looked at: within a guest no later tag is smaller. So it ends, and reads no
+// further, once no guest is left whose first row it has not seen. A bound falls with what is found; the first one begins one above the time, so
+// that one test says due and smaller. Rows are told by where their numbers begin.
 pub fn first_in_line(
     waiting: &[u64],
     count: usize,
@@ -90,11 +101,13 @@ pub fn first_in_line(
     let mut soonest = time + 1;
     let mut spare = used;
     let mut smallest = PAST;
+    let mut left = known;
     let mut at: usize = 0;
     while at < used {
         let guest = waiting[at + GUEST] as usize;
         if seen[guest] == 0 {
             seen[guest] = 1;
+            left -= 1;
             if due_before(waiting, at, guests, guest, soonest) {
                 first = at;
                 soonest = waiting[at + RTAG];
@@ -103,13 +116,13 @@ pub fn first_in_line(
                 spare = at;
                 smallest = waiting[at + STAG];
             }
+            if left == 0 {
+                return firsts_at(first, spare, used);
+            }
         }
         at += WAITING_WIDE;
     }
-    Firsts {
-        due: place_in(first, used),
-        open: place_in(spare, used),
-    }
+    firsts_at(first, spare, used)
 }
 
 // The first place in flight with this guest and this id.

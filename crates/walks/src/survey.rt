@@ -26,22 +26,22 @@ pub struct Span {
     pub most: u64,
 }
 
-// What waits of a guest, beside a request of this id.
+// What waits of a guest, beside a request of this id. From the last row to the first: the rows in front, which the walk of the choice reads next,
+// are then those that a small cache still holds.
 pub fn own_rows(waiting: &[u64], count: usize, guest: u64, id: u64) -> Own
     requires { ⌜ (count ≤ mostCapacity) × (count * waitingWide ≤ length (now waiting)) ⌝ }
     ensures { λ o. ⌜ o ≡ ownOf (record { guest = guest; id = id }) (waitingOf (now (waiting .entry)) count) ⌝ }
 {
-    let used = count * WAITING_WIDE;
     let mut waits = false;
-    let mut at: usize = 0;
-    while at < used {
+    let mut at = count * WAITING_WIDE;
+    while 0 < at {
+        at -= WAITING_WIDE;
         if waiting[at + GUEST] == guest {
             if waiting[at + ID] == id {
                 return Own::Repeated;
             }
             waits = true;
         }
-        at += WAITING_WIDE;
     }
     if waits { Own::Waits } else { Own::Idle }
 }

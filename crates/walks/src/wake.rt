@@ -39,7 +39,7 @@ fn ready_at(waiting: &[u64], at: usize, guests: &[u64], guest: usize) -> u64
 }
 
 // The time, now or later, from which the first of the waiting requests could go. Only the first row of each guest is looked at: within a guest no
-// later tag is smaller. Where one could go now, no further row is.
+// later tag is smaller. Where one could go now, no further row is, nor once no guest is left whose first row is unseen.
 pub fn soonest(waiting: &[u64], count: usize, guests: &[u64], known: usize, time: u64) -> u64
     requires { ⌜ (0 < count) × (count ≤ mostCapacity) × (count * waitingWide ≤ length (now waiting)) × (known ≤ mostGuests) × (known * guestWide ≤ length (now guests)) ⌝ }
     requires { ⌜ Owned (now waiting) count known × Rising (now waiting) count × LimitsFit (now waiting) count ⌝ }
@@ -49,17 +49,22 @@ pub fn soonest(waiting: &[u64], count: usize, guests: &[u64], known: usize, time
     let used = count * WAITING_WIDE;
     let mut seen = [0u8; MOST_GUESTS];
     let mut first = PAST;
+    let mut left = known;
     let mut at: usize = 0;
     while at < used {
         let guest = waiting[at + GUEST] as usize;
         if seen[guest] == 0 {
             seen[guest] = 1;
+            left -= 1;
             let ready = ready_at(waiting, at, guests, guest);
             if ready <= time {
                 return time;
             }
             if ready < first {
                 first = ready;
+            }
+            if left == 0 {
+                return first;
             }
         }
         at += WAITING_WIDE;

@@ -1,8 +1,6 @@
 -- The loop knows of the rows passed that none is this request, and whether one is of its guest.
-use Prim.Native.Nat.{_-_}
 use mathlib.Core.Path.{_≡_, ap, _∙_}
 use mathlib.Core.Bool.{true, false, not}
-use mathlib.Core.Logic.{⊎-elim}
 use native.Mathlib.Omega.{arith}
 use Rattle.walks.specs.Survey.{ownOf, idleIn}
 use Rattle.walks.specs.SurveyLaws.{Searched, search-start, search-hit, search-own, search-other, search-end}
@@ -10,16 +8,19 @@ use Rattle.walks.proofs.survey.own_rows.Statement.{statement}
 use Rattle.walks.proofs.survey.own_rows.Tie as tie
 
 abbrev Inv-loop : tie.InvT-loop
-Inv-loop waiting count guest id used waits₀ at₀ waits at = Searched waiting count guest id waits at
+Inv-loop waiting count guest id waits₀ at₀ waits at = Searched waiting count guest id waits at
 
 abbrev μ-loop : tie.MeasureT-loop
-μ-loop waiting count guest id used waits₀ at₀ waits at = used - at
+μ-loop waiting count guest id waits₀ at₀ waits at = at
 
-mul-used : tie.Need-mul-used Inv-loop μ-loop
-mul-used c = omega arith
+mul-at : tie.Need-mul-at Inv-loop μ-loop
+mul-at c = omega arith
 
 loop-holds : tie.Need-loop-holds Inv-loop μ-loop
 loop-holds c = let a = c .args in search-start (a .waiting .now) (a .count) (a .guest) (a .id)
+
+sub-at : tie.Need-sub-at Inv-loop μ-loop
+sub-at c = omega (arith, c .before .loop .inv .begins)
 
 add-if1 : tie.Need-add-if1 Inv-loop μ-loop
 add-if1 c = omega arith
@@ -46,21 +47,23 @@ returns c =
     let s = c .before .before .before .before .before .loop in
     rw (search-hit (a .waiting .now) (a .count) (a .guest) (a .id) (s .inv) (c .before .before .before .before .loop-test .taken) (c .before .before .if1 .taken) (c .if2 .taken))
 
-add-at : tie.Need-add-at Inv-loop μ-loop
-add-at c = omega arith
-
 loop-less : tie.Need-loop-less Inv-loop μ-loop
 loop-less c = omega arith
 
 loop-again : tie.Need-loop-again Inv-loop μ-loop
 loop-again c =
-    let a = c .before .before .before .before .args in
-    let s = c .before .before .before .loop in
-    let more = c .before .before .loop-test .taken in
-    ⊎-elim
-    (λ v. rw (v .3) (search-own (a .waiting .now) (a .count) (a .guest) (a .id) (s .inv) more (v .0 .taken) (v .2 .left)))
-    (λ v. rw (v .1) (search-other (a .waiting .now) (a .count) (a .guest) (a .id) (s .inv) more (v .0 .left)))
-    (c .if1 .came)
+    let turn = c .before .before .before .before in
+    let a = turn .before .before .args in
+    search-own (a .waiting .now) (a .count) (a .guest) (a .id) (turn .before .loop .inv) (turn .loop-test .taken) (c .before .before .if1 .taken) (c .if2 .left)
+
+loop-less-2 : tie.Need-loop-less-2 Inv-loop μ-loop
+loop-less-2 c = omega arith
+
+loop-again-2 : tie.Need-loop-again-2 Inv-loop μ-loop
+loop-again-2 c =
+    let turn = c .before .before in
+    let a = turn .before .before .args in
+    search-other (a .waiting .now) (a .count) (a .guest) (a .id) (turn .before .loop .inv) (turn .loop-test .taken) (c .if1 .left)
 
 returns-2 : tie.Need-returns-2 Inv-loop μ-loop
 unfolding ownOf
@@ -84,8 +87,9 @@ own-rows-spec =
     (tie.spec
     Inv-loop
     μ-loop
-    mul-used
+    mul-at
     loop-holds
+    sub-at
     add-if1
     mul-if1
     shared-slice-read-if1
@@ -93,8 +97,9 @@ own-rows-spec =
     mul-if2
     shared-slice-read-if2
     returns
-    add-at
     loop-less
     loop-again
+    loop-less-2
+    loop-again-2
     returns-2
     returns-3)

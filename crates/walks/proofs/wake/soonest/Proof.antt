@@ -1,17 +1,20 @@
 -- `soonest` meets its contract. After some rows the walk holds the smallest time of them, which is still ahead; a row whose guest is marked stands
 -- behind an earlier one. Assumes nothing.
-use Prim.Native.Nat.{_-_}
+use Prim.Native.Nat.{_+_, _-_, _≤_}
 use mathlib.Core.Logic.{⊎-elim}
 use native.Mathlib.Omega.{arith}
-use Rattle.walks.specs.Ready.{InReady, ready-start, ready-known, ready-now, ready-take, ready-pass, ready-skip, ready-end}
+use lib.ListN.{getD, set}
+use Rattle.table.specs.Columns.{GUEST, waitingWide}
+use Rattle.walks.specs.Unseen.{unseen, unseen-most, unseen-some, unseen-mark}
+use Rattle.walks.specs.Ready.{InReady, ready-start, ready-known, ready-now, ready-take, ready-pass, ready-skip, ready-rest, ready-end}
 use Rattle.walks.proofs.wake.soonest.Statement.{statement}
 use Rattle.walks.proofs.wake.soonest.Tie as tie
 
 abbrev Inv-loop : tie.InvT-loop
-Inv-loop waiting count guests known time used seen₀ first₀ at₀ seen first at = InReady guests waiting known count time seen first at
+Inv-loop waiting count guests known time used seen₀ first₀ left₀ at₀ seen first left at = InReady guests waiting known count time seen first at × (unseen seen known ≤ left)
 
 abbrev μ-loop : tie.MeasureT-loop
-μ-loop waiting count guests known time used seen₀ first₀ at₀ seen first at = used - at
+μ-loop waiting count guests known time used seen₀ first₀ left₀ at₀ seen first left at = used - at
 
 mul-used : tie.Need-mul-used Inv-loop μ-loop
 mul-used c = omega arith
@@ -20,7 +23,7 @@ loop-holds : tie.Need-loop-holds Inv-loop μ-loop
 loop-holds c =
     let start = c .before .before in
     let a = start .args in
-    ready-start (a .guests .now) (a .waiting .now) (a .known) (a .count) (a .time) (start .pre .1 .1)
+    (ready-start (a .guests .now) (a .waiting .now) (a .known) (a .count) (a .time) (start .pre .1 .1), unseen-most _ (a .known))
 
 add-guest : tie.Need-add-guest Inv-loop μ-loop
 add-guest c = omega arith
@@ -35,27 +38,73 @@ array-read-if1 : tie.Need-array-read-if1 Inv-loop μ-loop
 array-read-if1 c =
     let start = c .before .before .before .before .before in
     let a = start .args in
-    omega (arith, ready-known (a .guests .now) (a .waiting .now) (a .known) (a .count) (a .time) (c .before .before .loop .inv) (c .before .loop-test .taken) (start .pre .1 .0 .0))
+    omega (arith, ready-known (a .guests .now) (a .waiting .now) (a .known) (a .count) (a .time) (c .before .before .loop .inv .0) (c .before .loop-test .taken) (start .pre .1 .0 .0))
 
 array-write-seen : tie.Need-array-write-seen Inv-loop μ-loop
 array-write-seen c =
     let start = c .before .before .before .before .before .before in
     let a = start .args in
-    omega (arith, ready-known (a .guests .now) (a .waiting .now) (a .known) (a .count) (a .time) (c .before .before .before .loop .inv) (c .before .before .loop-test .taken) (start .pre .1 .0 .0))
+    omega (arith, ready-known (a .guests .now) (a .waiting .now) (a .known) (a .count) (a .time) (c .before .before .before .loop .inv .0) (c .before .before .loop-test .taken) (start .pre .1 .0 .0))
+
+sub-left : tie.Need-sub-left Inv-loop μ-loop
+sub-left c =
+    let turn = c .before .before in
+    let s = turn .before .loop in
+    let start = turn .before .before .before .before in
+    let a = start .args in
+    omega (arith, s .inv .1, unseen-some (s .seen) (a .known) _ (ready-known (a .guests .now) (a .waiting .now) (a .known) (a .count) (a .time) (s .inv .0) (turn .loop-test .taken) (start .pre .1 .0 .0)) (c .if1 .taken))
 
 ready-at-requires : tie.Need-ready-at-requires Inv-loop μ-loop
 ready-at-requires c κs =
     let start = c .before .before .before .before .before .before in
     let a = start .args in
-    let k = ready-known (a .guests .now) (a .waiting .now) (a .known) (a .count) (a .time) (c .before .before .before .loop .inv) (c .before .before .loop-test .taken) (start .pre .1 .0 .0) in
-    (omega (arith, c .before .before .before .loop .inv .begins), omega (arith, k), omega (arith, k))
+    let k = ready-known (a .guests .now) (a .waiting .now) (a .known) (a .count) (a .time) (c .before .before .before .loop .inv .0) (c .before .before .loop-test .taken) (start .pre .1 .0 .0) in
+    (omega (arith, c .before .before .before .loop .inv .0 .begins), omega (arith, k), omega (arith, k))
 
 returns : tie.Need-returns Inv-loop μ-loop
 returns c =
     let start = c .before .before .before .before .before .before .before .before in
     let turn = c .before .before .before .before in
     let a = start .args in
-    ready-now (a .guests .now) (a .waiting .now) (a .known) (a .count) (a .time) (turn .before .loop .inv) (turn .loop-test .taken) (start .pre .1 .0 .0) _ (c .before .ready-at .ensures) (c .if2 .taken)
+    ready-now (a .guests .now) (a .waiting .now) (a .known) (a .count) (a .time) (turn .before .loop .inv .0) (turn .loop-test .taken) (start .pre .1 .0 .0) _ (c .before .ready-at .ensures) (c .if2 .taken)
+
+-- a row that is the first of its guest: the walk stands one row on, with one guest less to see
+abbrev First : tie.Joined3 Inv-loop μ-loop → Type 0
+First c =
+    let s = c .before .before .before .before .before .before .loop in
+    let a = c .before .before .before .before .before .before .before .before .before .args in
+    let seen = set (s .seen) (getD (a .waiting .now) (s .at + GUEST) 0) 1 in
+    InReady (a .guests .now) (a .waiting .now) (a .known) (a .count) (a .time) seen (c .if3 .first) (s .at + waitingWide) × (unseen seen (a .known) ≤ s .left - 1)
+
+first-row : (c : tie.Joined3 Inv-loop μ-loop) → First c
+first-row c =
+    let turn = c .before .before .before .before .before in
+    let s = turn .before .loop in
+    let start = turn .before .before .before .before in
+    let a = start .args in
+    let w = a .waiting .now in
+    let g = a .guests .now in
+    let more = turn .loop-test .taken in
+    let owned = start .pre .1 .0 .0 in
+    let k = ready-known g w (a .known) (a .count) (a .time) (s .inv .0) more owned in
+    let marked = unseen-mark (s .seen) (a .known) (getD w (s .at + GUEST) 0) k (omega (arith, k, s .inv .0 .marks .long)) (c .before .before .before .if1 .taken) in (
+      ⊎-elim
+          (λ u. rw (u .1) (ready-take g w (a .known) (a .count) (a .time) (s .inv .0) more owned _ (c .before .before .ready-at .ensures) (c .before .if2 .left) (u .0 .taken)))
+          (λ u. rw (u .1) (ready-pass g w (a .known) (a .count) (a .time) (s .inv .0) more owned _ (c .before .before .ready-at .ensures) (u .0 .left)))
+          (c .if3 .came),
+      omega (arith, marked, s .inv .1),
+    )
+
+returns-2 : tie.Need-returns-2 Inv-loop μ-loop
+returns-2 c =
+    let row = c .before in
+    let start = row .before .before .before .before .before .before .before .before .before in
+    let a = start .args in
+    let pre = start .pre .1 .0 in
+    let one = first-row row in
+    ready-end (a .guests .now) (a .waiting .now) (a .known) (a .count) (a .time)
+    (ready-rest (a .guests .now) (a .waiting .now) (a .known) (a .count) (a .time) (one .0) (pre .0) (start .pre .0 .3) (pre .1) (omega (arith, one .1, c .if4 .taken)))
+    (omega arith) (start .pre .0 .0) (pre .0) (pre .2)
 
 add-at : tie.Need-add-at Inv-loop μ-loop
 add-at c = omega arith
@@ -66,25 +115,20 @@ loop-less c = omega arith
 loop-again : tie.Need-loop-again Inv-loop μ-loop
 loop-again c =
     let turn = c .before .before in
-    let l = turn .before .loop .inv in
+    let s = turn .before .loop in
     let start = turn .before .before .before .before in
     let a = start .args in
-    let w = a .waiting .now in
-    let g = a .guests .now in
-    let more = turn .loop-test .taken in
-    let owned = start .pre .1 .0 .0 in
     ⊎-elim
-    (λ v. rw (v .4, v .5) (ready-take g w (a .known) (a .count) (a .time) l more owned _ (v .1 .ensures) (v .2 .left) (v .3 .taken)))
-    (⊎-elim
-    (λ v. rw (v .4, v .5) (ready-pass g w (a .known) (a .count) (a .time) l more owned _ (v .1 .ensures) (v .3 .left)))
-    (λ v. rw (v .1, v .2) (ready-skip g w (a .known) (a .count) (a .time) l more owned (start .pre .0 .3) (start .pre .1 .0 .1) (v .0 .left))))
+    (λ v. rw (v .5, v .6, v .7) (first-row (record { before = record { before = record { before = record { before = c .before; if1 = v .0 }; «ready-at» = v .1 }; if2 = v .2 }; if3 = v .3 })))
+    (λ v. rw (v .1, v .2, v .3)
+    (ready-skip (a .guests .now) (a .waiting .now) (a .known) (a .count) (a .time) (s .inv .0) (turn .loop-test .taken) (start .pre .1 .0 .0) (start .pre .0 .3) (start .pre .1 .0 .1) (v .0 .left), s .inv .1))
     (c .if1 .came)
 
-returns-2 : tie.Need-returns-2 Inv-loop μ-loop
-returns-2 c =
+returns-3 : tie.Need-returns-3 Inv-loop μ-loop
+returns-3 c =
     let start = c .before .before .before .before in
     let a = start .args in
-    ready-end (a .guests .now) (a .waiting .now) (a .known) (a .count) (a .time) (c .before .loop .inv) (c .loop-test .left) (start .pre .0 .0) (start .pre .1 .0 .0) (start .pre .1 .0 .2)
+    ready-end (a .guests .now) (a .waiting .now) (a .known) (a .count) (a .time) (c .before .loop .inv .0) (c .loop-test .left) (start .pre .0 .0) (start .pre .1 .0 .0) (start .pre .1 .0 .2)
 
 pub soonest-spec : {M : Type 1} → statement M
 soonest-spec =
@@ -99,9 +143,11 @@ soonest-spec =
     shared-slice-read-guest
     array-read-if1
     array-write-seen
+    sub-left
     ready-at-requires
     returns
+    returns-2
     add-at
     loop-less
     loop-again
-    returns-2)
+    returns-3)
