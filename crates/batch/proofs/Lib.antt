@@ -6,3 +6,4 @@ pub mod Kept
 pub mod Exactly
 pub mod OneByOne
 pub mod Demand3
+pub mod Beyond

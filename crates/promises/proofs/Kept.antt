@@ -30,6 +30,7 @@ use Rattle.batch.proofs.Kept.{batch-refusal-keeps, answers-past}
 use Rattle.batch.proofs.Once.{batch-once}
 use Rattle.batch.proofs.OneByOne.{batch-as-calls}
 use Rattle.batch.proofs.Demand3.{batches-firm, batches-demand-3}
+use Rattle.batch.proofs.Beyond.{batch-beyond, batch-unread}
 use Rattle.book.proofs.Balance.{balance, fresh-arrivals, fresh-covered}
 use Rattle.book.proofs.Waits.{fresh-book, sent-waited}
 use Rattle.book.proofs.Sizes.{summed-fits}
@@ -79,6 +80,8 @@ batch-kept v lawful =
       refusal-keeps = batch-refusal-keeps v;
       spare-places = answers-past v;
       once = batch-once v;
+      untouched = batch-beyond v lawful;
+      unread = batch-unread v lawful;
       as-calls = batch-as-calls v;
       stays-firm = batches-firm v lawful;
       demand-3 = batches-demand-3 v lawful;
@@ -135,6 +138,7 @@ promises =
       over-records = lent-kept records records-lawful;
       through-c = c-kept;
       of-a-batch = batch-kept numbers numbers-lawful;
+      of-a-batch-of-records = batch-kept records records-lawful;
       of-a-trace = trace-kept;
       of-the-sheet = sheet-kept;
     }

@@ -26,6 +26,7 @@ use Rattle.rules.specs.declared.Settings.{Settings}
 use Rattle.rules.specs.declared.Event.{Event}
 use Rattle.rules.specs.declared.Phase.{Phase}
 use Rattle.rules.specs.declared.Gate.{Gate}
+use Rattle.rules.specs.declared.Outcome.{Outcome}
 use Rattle.rules.specs.declared.Refusal.{Refusal}
 use Rattle.rules.specs.declared.Answer.{Answer}
 use Rattle.rules.specs.declared.Answer.the-variants.{Nothing, Sent, Refused}
@@ -117,7 +118,7 @@ pub record OverLent (v : Lending) (lawful : Lawful v) : Type 0 where
   pub wakes : (h : Host v) (e : Event) → firm v h ≡ true → taken (call v e h .0 .answer) ≡ true → Wakes (shows v (holds v (call v e h))) (call v e h .0 .wake)
   pub opening-wakes : (d n c : ℕ) (ss : List ℕ) (gs : List (v .Cell)) (ws fs : List ℕ) → taken (openedIn v d n c ss gs ws fs .0 .answer) ≡ true → openedIn v d n c ss gs ws fs .0 .wake ≡ Never
 
--- OF A BATCH, in a way of lending guests; the calls over records take one event each
+-- OF A BATCH, in a way of lending guests
 
 pub record OfABatch (v : Lending) : Type 0 where
   -- the whole call is refused 16 or 17 exactly where document 02 says, and then nothing is done; places past the last answer stay; any two outcomes that the promise admits are equal
@@ -127,6 +128,14 @@ pub record OfABatch (v : Lending) : Type 0 where
   pub spare-places : (es : List ℕ) (g : Gate) (gs : List (v .Cell)) (ws fs bs : List ℕ) → drop (countOf es * answerWide) (batchedIn v es g gs ws fs bs .4) ≡ drop (countOf es * answerWide) bs
   pub once : (h k : BatchIn v) (es : List ℕ) (g : Gate) (gs : List (v .Cell)) (ws fs bs : List ℕ)
       → seenBatchIn v h ≡ seenBatchIn v (batchedIn v es g gs ws fs bs) → seenBatchIn v k ≡ seenBatchIn v (batchedIn v es g gs ws fs bs) → h ≡ k
+  -- "Places beyond what the settings need are neither read nor changed": `Beyond` speaks of the tables, beside any outcome
+  pub untouched : (es : List ℕ) (g : Gate) (gs : List (v .Cell)) (ws fs bs : List ℕ) (o : Outcome)
+      → let b = batchedIn v es g gs ws fs bs in Beyond v (g .guests) (g .setup .capacity) (g .setup .depth) gs ws fs (o, b .1, b .2, b .3)
+  pub unread : (es : List ℕ) (g : Gate) (gs : List (v .Cell)) (ws fs bs : List ℕ) (hs : List (v .Cell)) (vs ds : List ℕ)
+      → Alike v (g .guests) (g .setup .capacity) (g .setup .depth) gs ws fs hs vs ds
+      → let b = batchedIn v es g gs ws fs bs in
+      let k = batchedIn v es g hs vs ds bs in
+      (b .0 ≡ k .0) × (b .4 ≡ k .4) × Alike v (g .guests) (g .setup .capacity) (g .setup .depth) (b .1) (b .2) (b .3) (k .1) (k .2) (k .3)
   -- what a batch leaves and answers is what the calls one by one leave and answer, on any tables; and demand 3 through any run of batches
   pub as-calls : (es : List ℕ) (h : Host v) (bs : List ℕ) → judged (batchTests es bs) ≡ accept → AsCalls v es h bs
   pub stays-firm : (bs : List Batch) (h : Host v) → firm v h ≡ true → firm v (heldBatches v h bs) ≡ true
@@ -192,5 +201,6 @@ pub record Promises : Type 0 where
   pub over-records : OverLent records records-lawful
   pub through-c : ThroughC
   pub of-a-batch : OfABatch numbers
+  pub of-a-batch-of-records : OfABatch records
   pub of-a-trace : OfATrace
   pub of-the-sheet : OfTheSheet

@@ -20,6 +20,9 @@ use Rattle.rules.proofs.Event as E
 use Rattle.rules.proofs.Event.Laws as E′
 use Rattle.rules.proofs.Outcome as O
 use Rattle.rules.proofs.Outcome.Laws as O′
+use Rattle.batch.specs.declared.numbers.Batched.{Batched}
+use Rattle.batch.proofs.numbers.Batched as B
+use Rattle.batch.proofs.numbers.Batched.Laws as B′
 
 abbrev pub GateR : RattleType
 GateR = G.the-row
@@ -52,6 +55,9 @@ Event-tells = EL.tells E.the-type E′.the-laws
 abbrev pub OutcomeR : RattleType
 OutcomeR = O.the-row
 
+abbrev pub BatchedR : RattleType
+BatchedR = B.the-row
+
 module _ {M : Type 1} (𝓤 : URA M) (H : Heap 𝓤) (A : Atoms 𝓤) (W : Given 𝓤 H A) where
   pub Gate-makes : Makes 𝓤 H A GateR (Is GateR)
   Gate-makes = LL.makes G.the-type G′.the-plain 𝓤 H A
@@ -67,3 +73,6 @@ module _ {M : Type 1} (𝓤 : URA M) (H : Heap 𝓤) (A : Atoms 𝓤) (W : Given
 
   pub Outcome-typed : (r : Outcome) (w : Val) → Is OutcomeR r (w ∷ []) → T (hasTy O′.mir w) × WT w
   Outcome-typed r w p = LL.lawful O.the-type O′.the-laws 𝓤 H A W .typed r (w ∷ []) p .0
+
+  pub Batched-typed : (r : Batched) (w : Val) → Is BatchedR r (w ∷ []) → T (hasTy B′.mir w) × WT w
+  Batched-typed r w p = LL.lawful B.the-type B′.the-laws 𝓤 H A W .typed r (w ∷ []) p .0

@@ -3,6 +3,7 @@ pub mod CallCopies
 pub mod CallUsed
 pub mod Copies
 pub mod Home
+pub mod BatchHome
 pub mod Lawful
 pub mod Parts
 pub mod Rec

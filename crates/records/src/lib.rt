@@ -1,12 +1,13 @@
 // The public calls over a lent slice of guest records, of any length: the records in use become numbers in a local array, the call over numbers
 // is made on them, and they come back. Records past the settings' need are neither read nor changed. What each call promises is in
-// specs/Promise.antt.
+// specs/Promise.antt and specs/Batch.antt.
 mod guests; // the thin functions: one record read and written, and the records in use to numbers and back
 mod part; // the calls over numbers on the rows in use
 
 use crate::guests::pack;
 use crate::guests::unpack;
 use crate::guests::used;
+use batch::numbers::Batched;
 use rules::Event;
 use rules::Gate;
 use rules::Guest;
@@ -14,6 +15,7 @@ use rules::Outcome;
 use table::columns::GUESTS_LONG;
 ghost use mathlib.Core.Path.{_≡_};
 ghost use Rattle.records.specs.Promise.{seen, called, opened};
+ghost use Rattle.records.specs.Batch.{seenBatch, batched};
 
 // One event: an arrival, a completion or a tick.
 pub fn call(
@@ -58,6 +60,25 @@ pub fn open(
         waiting,
         flight,
     );
+    pack(&rows, count, guests);
+    r
+}
+
+// Up to 256 events, each answered in its row of the lent answers.
+pub fn batch(
+    gate: Gate,
+    guests: &mut [Guest],
+    waiting: &mut [u64],
+    flight: &mut [u64],
+    events: &[u64],
+    answers: &mut [u64],
+) -> Batched
+    ensures { λ r. ⌜ seenBatch (r, now (guests .exit), now (waiting .exit), now (flight .exit), now (answers .exit)) ≡ seenBatch (batched (now (events .entry)) gate (now (guests .entry)) (now (waiting .entry)) (now (flight .entry)) (now (answers .entry))) ⌝ }
+{
+    let mut rows: [u64; GUESTS_LONG] = [0; GUESTS_LONG];
+    let count = used(gate.guests, guests.len());
+    unpack(guests, count, &mut rows);
+    let r = part::batch(gate, &mut rows, count, waiting, flight, events, answers);
     pack(&rows, count, guests);
     r
 }

@@ -1,4 +1,5 @@
 // The calls over numbers on the rows in use: the first `count` rows of a lent list are lent on as a part, and the rest stays.
+use batch::numbers::Batched;
 use gate::numbers;
 use rules::Event;
 use rules::Gate;
@@ -9,7 +10,9 @@ ghost use Prim.Native.Nat.{_*_, _≤_};
 ghost use lib.ListN.{length};
 ghost use Rattle.table.specs.Columns.{guestWide};
 ghost use Rattle.gate.specs.Promise.{seen, called, opened};
+ghost use Rattle.batch.specs.Promise.{seenBatch, batched};
 ghost use Rattle.records.specs.Records.{inPart};
+ghost use Rattle.records.specs.Batch.{batchInPart};
 
 // One event on the rows in use.
 pub fn call(
@@ -55,4 +58,21 @@ pub fn open(
         waiting,
         flight,
     )
+}
+
+// Many events on the rows in use.
+pub fn batch(
+    gate: Gate,
+    rows: &mut [u64],
+    count: usize,
+    waiting: &mut [u64],
+    flight: &mut [u64],
+    events: &[u64],
+    answers: &mut [u64],
+) -> Batched
+    requires { ⌜ count * guestWide ≤ length (now rows) ⌝ }
+    ensures { λ r. ⌜ seenBatch (r, now (rows .exit), now (waiting .exit), now (flight .exit), now (answers .exit)) ≡ seenBatch (batchInPart count (now (rows .entry)) (λ gs. batched (now (events .entry)) gate gs (now (waiting .entry)) (now (flight .entry)) (now (answers .entry)))) ⌝ }
+{
+    let long = count * GUEST_WIDE;
+    batch::numbers::call(gate, &mut rows[..long], waiting, flight, events, answers)
 }

@@ -1,4 +1,4 @@
--- Numbers tested eight at a time: the bits of several numbers together are 0 exactly where each is, and a block that passes in front of what passes makes
+-- Numbers tested a block at a time: the bits of several numbers together are 0 exactly where each is, and a block that passes in front of what passes makes
 -- more that passes. Assumes nothing.
 use Prim.Native.Nat.{ℕ, zero, suc, _+_, _-_, _≤_, _<_}
 use mathlib.Core.Path.{_≡_, refl, sym, ap, _∙_, subst}
@@ -8,7 +8,7 @@ use native.Mathlib.Omega.{arith}
 use lib.Bits.{bitOr, bitAnd, or-add-and, and-le-l, and-le-r}
 use lib.Dec.{eqb}
 use lib.ListN.{length, getD, take, drop, take-append-drop}
-use lib.Seq.{drop-cons, drop-nil}
+use lib.Seq.{drop-cons, drop-nil, take-nil}
 use borrow.Author.Tests.{eqb-true, eq-eqb}
 use Rattle.lists.specs.Words.{all}
 use Rattle.lists.specs.WordsLaws.{both, join, all-append}
@@ -81,12 +81,29 @@ drop-drop m zero xs = ap (λ (k : ℕ). drop k xs) (let e : m ≡ 0 + m = omega 
 drop-drop m (suc n) [] = drop-nil m ∙ sym (drop-nil (suc n + m))
 drop-drop m (suc n) (x ∷ xs) = drop-drop m n xs ∙ ap (λ (k : ℕ). drop k (x ∷ xs)) (let e : suc (n + m) ≡ suc n + m = omega arith in e)
 
--- a block of eight before place i passes, and all from there on
-pub eight-next : (xs : List ℕ) (i : ℕ) → 8 ≤ i → all none (take 8 (drop (i - 8) xs)) ≡ true → all none (drop i xs) ≡ true → all none (drop (i - 8) xs) ≡ true
-eight-next xs i h p q =
-    let e : i - 8 + 8 ≡ i = omega arith in
-    ap (all none) (sym (take-append-drop 8 (drop (i - 8) xs)))
-    ∙ all-append none (take 8 (drop (i - 8) xs)) (drop 8 (drop (i - 8) xs)) p (ap (all none) (drop-drop 8 (i - 8) xs ∙ ap (λ (k : ℕ). drop k xs) e) ∙ q)
+-- a block is two blocks, one behind the other
+blocks-none : (m n : ℕ) (xs : List ℕ) → all none (take (m + n) xs) ≡ (all none (take m xs) && all none (take n (drop m xs)))
+blocks-none zero n xs = ap (λ (k : ℕ). all none (take k xs)) (let e : 0 + n ≡ n = omega arith in e)
+blocks-none (suc m) n [] = ap (all none) (take-nil (suc m + n) ∙ sym (take-nil n))
+blocks-none (suc m) n (x ∷ xs) =
+    ap (λ (k : ℕ). all none (take k (x ∷ xs))) (let e : suc m + n ≡ suc (m + n) = omega arith in e)
+    ∙ ap (λ (b : Bool). none x && b) (blocks-none m n xs)
+    ∙ sym (and-assoc (none x) (all none (take m xs)) (all none (take n (drop m xs))))
+
+-- the bits of two blocks, one behind the other, are those of both
+pub pair-none : (xs : List ℕ) (i m n a b : ℕ) → none a ≡ all none (take m (drop i xs)) → none b ≡ all none (take n (drop (i + m) xs)) → none (bitOr a b) ≡ all none (take (m + n) (drop i xs))
+pair-none xs i m n a b p q =
+    or-none a b
+    ∙ ap (λ (t : Bool). t && none b) p
+    ∙ ap (λ (t : Bool). all none (take m (drop i xs)) && t) (q ∙ ap (λ (l : List ℕ). all none (take n l)) (sym (drop-drop m i xs)))
+    ∙ sym (blocks-none m n (drop i xs))
+
+-- a block before place i passes, and all from there on
+pub block-next : (n : ℕ) (xs : List ℕ) (i : ℕ) → n ≤ i → all none (take n (drop (i - n) xs)) ≡ true → all none (drop i xs) ≡ true → all none (drop (i - n) xs) ≡ true
+block-next n xs i h p q =
+    let e : i - n + n ≡ i = omega arith in
+    ap (all none) (sym (take-append-drop n (drop (i - n) xs)))
+    ∙ all-append none (take n (drop (i - n) xs)) (drop n (drop (i - n) xs)) p (ap (all none) (drop-drop n (i - n) xs ∙ ap (λ (k : ℕ). drop k xs) e) ∙ q)
 
 -- what all pass, a part passes
 all-part : (f : ℕ → Bool) (n i : ℕ) (xs : List ℕ) → all f xs ≡ true → all f (take n (drop i xs)) ≡ true
@@ -98,9 +115,9 @@ all-part f (suc n) (suc i) [] h = refl
 all-part f (suc n) (suc i) (x ∷ xs) h = all-part f (suc n) i xs (both (f x) (all f xs) h .1)
 
 -- a block that fails: not all pass
-pub eight-fails : (xs : List ℕ) (i : ℕ) → all none (take 8 (drop i xs)) ≡ false → all none xs ≡ false
-eight-fails xs i h = go (all none xs) refl
+pub block-fails : (n : ℕ) (xs : List ℕ) (i : ℕ) → all none (take n (drop i xs)) ≡ false → all none xs ≡ false
+block-fails n xs i h = go (all none xs) refl
   where
     go : (b : Bool) → all none xs ≡ b → all none xs ≡ false
-    go true e = absurd (false≢true (sym h ∙ all-part none 8 i xs e))
+    go true e = absurd (false≢true (sym h ∙ all-part none n i xs e))
     go false e = e

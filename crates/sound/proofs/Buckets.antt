@@ -132,7 +132,7 @@ module _ (guest id : ℕ → ℕ) where
     pub differ : (k : ℕ) → next ≤ k → k < i → guest k ≡ guest i → id k ≡ id i → ⊥
 
   -- one name has one bucket
-  same-bucket : (k i : ℕ) → guest k ≡ guest i → id k ≡ id i → bucketAt k ≡ bucketAt i
+  pub same-bucket : (k i : ℕ) → guest k ≡ guest i → id k ≡ id i → bucketAt k ≡ bucketAt i
   same-bucket k i e f = rw (e, f)
 
   -- it starts at the latest place of the bucket
@@ -163,10 +163,43 @@ module _ (guest id : ℕ → ℕ) where
             (eq-or-not k j);
       }
 
-  -- at its end no place before i has the name of i
-  pub passed-end : (i next : ℕ) → Passed i next → next ≤ 0 → Apart i → Apart (i + 1)
-  passed-end i next s e d a k l m g q =
+  -- no place before i has the name of i
+  pub apart-next : (i : ℕ) → Apart i → ((k : ℕ) → k < i → guest k ≡ guest i → id k ≡ id i → ⊥) → Apart (i + 1)
+  apart-next i d f a k l m g q =
       ⊎-elim
-      (λ z. s .differ k (omega arith) (omega arith) (rw z at g) (rw z at q))
+      (λ z. f k (omega arith) (rw z at g) (rw z at q))
       (λ z. d a k (omega arith) m g q)
       (eq-or-not a i)
+
+  -- so it is at the walk's end
+  pub passed-end : (i next : ℕ) → Passed i next → next ≤ 0 → Apart i → Apart (i + 1)
+  passed-end i next s e d = apart-next i d (λ k l. s .differ k (omega arith) l)
+
+-- FEW requests: marks of the buckets that earlier places are of
+
+-- a bucket without a mark has no place before i
+pub record Seen (at : ℕ → ℕ) (seen : List ℕ) (i : ℕ) : Type 0 where
+  pub long : length seen ≡ 1024
+  pub none : (b : ℕ) → b < 1024 → getD seen b 0 ≡ 0 → (k : ℕ) → k < i → at k ≡ b → ⊥
+
+-- before the first place there is no mark
+pub seen-start : (at : ℕ → ℕ) → Seen at (replicate 1024 0) 0
+seen-start at = record { long = length-replicate {A = ℕ} 1024 0; none = λ b l e k m. absurd (not-suc-le-zero m) }
+
+-- place i marks its bucket
+pub seen-next : (at : ℕ → ℕ) (seen : List ℕ) (i b : ℕ) → Seen at seen i → b < 1024 → b ≡ at i → Seen at (set seen b 1) (i + 1)
+seen-next at seen i b s m e =
+    record {
+      long = length-set seen b 1 ∙ s .long;
+      none = λ c l z k h f.
+          ⊎-elim
+          (λ q.
+          let one : getD (set seen b 1) b 0 ≡ 1 = getD-set-same seen b 1 0 (omega (arith, s .long)) in
+          zero-not 0 (sym (rw q at z) ∙ one))
+          (λ q.
+          ⊎-elim
+          (λ y. q (sym f ∙ ap at y ∙ sym e))
+          (λ y. s .none c l (sym (getD-set-other seen b c 1 0 q) ∙ z) k (omega arith) f)
+          (eq-or-not k i))
+          (eq-or-not c b);
+    }

@@ -1,7 +1,7 @@
 -- `distinct` by places of both tables. Assumes nothing.
 use Prim.Native.Nat.{ℕ, zero, suc, _+_, _-_, _≤_, _<_}
 use mathlib.Core.Path.{_≡_, refl, sym, ap, _∙_}
-use mathlib.Core.Bool.{Bool, true, false, not, _&&_, and-false}
+use mathlib.Core.Bool.{Bool, true, false, not, _&&_, and-false, false≢true}
 use mathlib.Core.List.{List, [], _∷_, map}
 use mathlib.Core.Logic.{⊎-elim}
 use native.Mathlib.Omega.{arith}
@@ -9,14 +9,15 @@ use lib.Dec.{eqb}
 use lib.ListN.{length, getD, length-append, length-map, List·getD-append, List·getD-map}
 use lib.Seq.{getD-append-add}
 use borrow.Author.Tests.{eq-eqb, eqb-true, lt-ltb, le-ltb}
-use Rattle.lists.specs.WordsLaws.{join, place-not}
+use Rattle.lists.specs.Words.{below}
+use Rattle.lists.specs.WordsLaws.{join, place-not, below-at, at-below}
 use Rattle.lists.specs.Tab.{lt-or-le}
 use Rattle.lists.specs.RowsLaws.{row-at, length-rows}
 use Rattle.rules.specs.Tables.{name, same, lacks}
 use Rattle.rules.specs.declared.Flight.{Flight}
 use Rattle.rules.specs.Sound.{distinct}
 use Rattle.table.specs.View.{requestForm, flightForm, waitingOf, flightsOf, nameless}
-use Rattle.sound.specs.Names.{namesOf, partAt}
+use Rattle.sound.specs.Names.{namesOf, partAt, otherAt}
 
 -- BY PLACES
 
@@ -24,14 +25,18 @@ use Rattle.sound.specs.Names.{namesOf, partAt}
 same-is : (a b : Flight) → a .guest ≡ b .guest → a .id ≡ b .id → same a b ≡ true
 same-is a b e f = join (eq-eqb (a .guest) (b .guest) e) (eq-eqb (a .id) (b .id) f)
 
--- and not both
-same-not : (a b : Flight) → (a .guest ≡ b .guest → a .id ≡ b .id → ⊥) → not (same a b) ≡ true
-same-not a b h = go (eqb (a .guest) (b .guest)) refl (eqb (a .id) (b .id)) refl
+-- two pairs of numbers that are not both alike
+pub not-both : (a b c d : ℕ) → (a ≡ b → c ≡ d → ⊥) → not (eqb a b && eqb c d) ≡ true
+not-both a b c d h = go (eqb a b) refl (eqb c d) refl
   where
-    go : (x : Bool) → eqb (a .guest) (b .guest) ≡ x → (y : Bool) → eqb (a .id) (b .id) ≡ y → not (x && y) ≡ true
+    go : (x : Bool) → eqb a b ≡ x → (y : Bool) → eqb c d ≡ y → not (x && y) ≡ true
     go false e y f = refl
     go true e false f = refl
-    go true e true f = absurd (h (eqb-true (a .guest) (b .guest) e) (eqb-true (a .id) (b .id) f))
+    go true e true f = absurd (h (eqb-true a b e) (eqb-true c d f))
+
+-- not one guest and one id
+same-not : (a b : Flight) → (a .guest ≡ b .guest → a .id ≡ b .id → ⊥) → not (same a b) ≡ true
+same-not a b h = not-both (a .guest) (b .guest) (a .id) (b .id) h
 
 -- no place has the name a
 lacks-none : (a : Flight) (l : List Flight) → ((i : ℕ) → i < length l → a .guest ≡ (getD l i nameless) .guest → a .id ≡ (getD l i nameless) .id → ⊥) → lacks a l ≡ true
@@ -99,3 +104,20 @@ module _ (ws : List ℕ) (n : ℕ) (fs : List ℕ) (m : ℕ) where
       let at-j = name-at j (omega arith) in
       let at-i = name-at i b in
       h i j b l (sym (ap Flight.guest at-j) ∙ e ∙ ap Flight.guest at-i) (sym (ap Flight.id at-j) ∙ g ∙ ap Flight.id at-i))
+
+  -- an earlier request has the name of request i
+  pub names-old : (i : ℕ) → i < n + m → below i (otherAt ws n fs i) ≡ false → distinct (namesOf ws n fs m) ≡ false
+  names-old i h e = go (distinct (namesOf ws n fs m)) refl
+    where
+      go : (b : Bool) → distinct (namesOf ws n fs m) ≡ b → distinct (namesOf ws n fs m) ≡ false
+      go false q = q
+      go true q =
+          absurd
+          (false≢true
+          (sym e
+          ∙ at-below i (otherAt ws n fs i)
+          (λ j l. not-both (partAt ws n fs 0 j) (partAt ws n fs 0 i) (partAt ws n fs 1 j) (partAt ws n fs 1 i) (λ g d. false≢true (sym (names-hit j i l h g d) ∙ q)))))
+
+  -- and none
+  pub names-new : (i : ℕ) → below i (otherAt ws n fs i) ≡ true → (k : ℕ) → k < i → partAt ws n fs 0 k ≡ partAt ws n fs 0 i → partAt ws n fs 1 k ≡ partAt ws n fs 1 i → ⊥
+  names-new i e k l g d = false≢true (sym (ap not (join (eq-eqb _ _ g) (eq-eqb _ _ d))) ∙ below-at i (otherAt ws n fs i) e k l)

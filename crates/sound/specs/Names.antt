@@ -1,7 +1,8 @@
 -- The names of all requests, those waiting and then those in flight, as the code reads them.
 use Prim.Native.Nat.{ℕ, _+_, _*_, _-_, _%_, _≤_}
+use mathlib.Core.Bool.{Bool, not, _&&_}
 use mathlib.Core.List.{List, _++_, map}
-use lib.Dec.{ltb}
+use lib.Dec.{ltb, eqb}
 use lib.ListN.{length}
 use Rattle.lists.specs.Lines.{whether}
 use Rattle.rules.specs.Tables.{name}
@@ -23,6 +24,10 @@ namesOf ws n fs m = map name (waitingOf ws n) ++ flightsOf fs m
 -- part 0 or 1 of the name of request k, its guest or its id, where k counts through n waiting requests and then those in flight
 unfoldable pub partAt : (ws : List ℕ) (n : ℕ) (fs : List ℕ) (part : ℕ) → ℕ → ℕ
 partAt ws n fs part k = whether (ltb k n) (waitingAt ws k part) (flightAt fs (k - n) part)
+
+-- request j has another name than request k
+abbrev pub otherAt : (ws : List ℕ) (n : ℕ) (fs : List ℕ) (k : ℕ) → ℕ → Bool
+otherAt ws n fs k j = not (eqb (partAt ws n fs 0 j) (partAt ws n fs 0 k) && eqb (partAt ws n fs 1 j) (partAt ws n fs 1 k))
 
 -- the bucket of a guest and an id: any function of them below 4,096 would do
 unfoldable pub bucketOf : ℕ → ℕ → ℕ

@@ -7,9 +7,13 @@ use table::columns::MOST_DEPTH;
 use table::columns::WAITING_WIDE;
 ghost use mathlib.Core.Path.{_≡_};
 ghost use Prim.Native.Nat.{_+_, _≤_, _<_};
+ghost use Rattle.lists.specs.Words.{below};
 ghost use Rattle.rules.specs.Sound.{distinct};
 ghost use Rattle.table.specs.Columns.{ID};
-ghost use Rattle.sound.specs.Names.{Rooms, namesOf, partAt, bucketOf};
+ghost use Rattle.sound.specs.Names.{Rooms, namesOf, partAt, otherAt, bucketOf};
+
+// So many requests, waiting and in flight, are few.
+const FEW: usize = 64;
 
 // The guest or the id of request k, counted through the waiting ones and then those in flight.
 fn part_of(waiting: &[u64], count: usize, flight: &[u64], sent: usize, k: usize, part: usize) -> u64
@@ -37,8 +41,49 @@ fn wide(x: u16) -> usize
     x as usize
 }
 
-// No request has the name of an earlier one. Each is held beside the earlier ones of its bucket only: heads[b] is 1 + the latest place of bucket b, links[k] 1 + the one before place k in its bucket.
-pub fn all_once(waiting: &[u64], count: usize, flight: &[u64], sent: usize) -> bool
+// No earlier request has the name of request k.
+fn is_new(waiting: &[u64], count: usize, flight: &[u64], sent: usize, k: usize) -> bool
+    requires { ⌜ Rooms (now waiting) count (now flight) sent × (k < count + sent) ⌝ }
+    ensures { λ b. ⌜ b ≡ below k (otherAt (now (waiting .entry)) count (now (flight .entry)) k) ⌝ }
+{
+    let guest = part_of(waiting, count, flight, sent, k, GUEST);
+    let id = part_of(waiting, count, flight, sent, k, ID);
+    let mut j: usize = 0;
+    while j < k {
+        if part_of(waiting, count, flight, sent, j, GUEST) == guest {
+            if part_of(waiting, count, flight, sent, j, ID) == id {
+                return false;
+            }
+        }
+        j += 1;
+    }
+    true
+}
+
+// No request has the name of an earlier one, where few are: an array that is cleared soon. seen[b] is 0 where no earlier place is of bucket b, and only where it is not are the earlier ones gone through.
+fn few_once(waiting: &[u64], count: usize, flight: &[u64], sent: usize) -> bool
+    requires { ⌜ Rooms (now waiting) count (now flight) sent ⌝ }
+    ensures { λ b. ⌜ b ≡ distinct (namesOf (now (waiting .entry)) count (now (flight .entry)) sent) ⌝ }
+{
+    let mut seen: [u8; 1024] = [0; 1024];
+    let mut i: usize = 0;
+    while i < count + sent {
+        let guest = part_of(waiting, count, flight, sent, i, GUEST);
+        let id = part_of(waiting, count, flight, sent, i, ID);
+        let b = bucket(guest, id) % 1024;
+        if seen[b] != 0 {
+            if !is_new(waiting, count, flight, sent, i) {
+                return false;
+            }
+        }
+        seen[b] = 1;
+        i += 1;
+    }
+    true
+}
+
+// No request has the name of an earlier one, where many are. Each is held beside the earlier ones of its bucket only: heads[b] is 1 + the latest place of bucket b, links[k] 1 + the one before place k in its bucket.
+fn many_once(waiting: &[u64], count: usize, flight: &[u64], sent: usize) -> bool
     requires { ⌜ Rooms (now waiting) count (now flight) sent ⌝ }
     ensures { λ b. ⌜ b ≡ distinct (namesOf (now (waiting .entry)) count (now (flight .entry)) sent) ⌝ }
 {
@@ -68,4 +113,16 @@ pub fn all_once(waiting: &[u64], count: usize, flight: &[u64], sent: usize) -> b
         i += 1;
     }
     once
+}
+
+// No request has the name of an earlier one.
+pub fn all_once(waiting: &[u64], count: usize, flight: &[u64], sent: usize) -> bool
+    requires { ⌜ Rooms (now waiting) count (now flight) sent ⌝ }
+    ensures { λ b. ⌜ b ≡ distinct (namesOf (now (waiting .entry)) count (now (flight .entry)) sent) ⌝ }
+{
+    if count + sent <= FEW {
+        few_once(waiting, count, flight, sent)
+    } else {
+        many_once(waiting, count, flight, sent)
+    }
 }

@@ -10,7 +10,7 @@ ghost use Rattle.lists.specs.Words.{all};
 ghost use Rattle.table.specs.Columns.{flightWide, waitingWide};
 ghost use Rattle.table.specs.View.{zeroed};
 
-// The bits of eight numbers from a place on: 0 exactly where all eight are 0. One test for eight, so that wide registers can read them.
+// The bits of eight numbers from a place on: 0 exactly where all eight are 0.
 fn eight_at(part: &[u64], from: usize) -> u64
     requires { ⌜ from + 8 ≤ length (now part) ⌝ }
     ensures { λ n. ⌜ eqb n 0 ≡ all (λ x. eqb x 0) (take 8 (drop from (now (part .entry)))) ⌝ }
@@ -23,6 +23,17 @@ fn eight_at(part: &[u64], from: usize) -> u64
         | part[from + 5]
         | part[from + 6]
         | part[from + 7]
+}
+
+// The bits of 32 numbers from a place on: 0 exactly where all are 0. One test for so many, so that wide registers can read them and little else is done.
+fn block_at(part: &[u64], from: usize) -> u64
+    requires { ⌜ from + 32 ≤ length (now part) ⌝ }
+    ensures { λ n. ⌜ eqb n 0 ≡ all (λ x. eqb x 0) (take 32 (drop from (now (part .entry)))) ⌝ }
+{
+    eight_at(part, from)
+        | eight_at(part, from + 8)
+        | eight_at(part, from + 16)
+        | eight_at(part, from + 24)
 }
 
 // The first numbers of a part are zero, where the rest are known to be.
@@ -40,14 +51,14 @@ fn is_blank_before(part: &[u64], end: usize) -> bool
     true
 }
 
-// Every number of a part is zero: tested by eights from the last on, what is left at its front one by one.
+// Every number of a part is zero: tested by blocks from the last on, what is left at its front one by one.
 fn is_blank(part: &[u64]) -> bool
     ensures { λ b. ⌜ b ≡ all (λ x. eqb x 0) (now (part .entry)) ⌝ }
 {
     let mut i: usize = part.len();
-    while 8 <= i {
-        i -= 8;
-        if eight_at(part, i) != 0 {
+    while 32 <= i {
+        i -= 32;
+        if block_at(part, i) != 0 {
             return false;
         }
     }

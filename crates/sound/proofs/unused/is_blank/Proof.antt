@@ -1,4 +1,4 @@
--- The walk goes by eights from the last number to the first: every number behind it is zero. Assumes nothing.
+-- The walk goes by blocks from the last number to the first: every number behind it is zero. Assumes nothing.
 use Prim.Native.Nat.{_≤_, _-_}
 use mathlib.Core.Path.{_≡_, sym, _∙_}
 use mathlib.Core.Bool.{true}
@@ -8,7 +8,7 @@ use lib.ListN.{length, drop}
 use borrow.Author.Tests.{eq-eqb, ne-eqb}
 use Rattle.lists.specs.Words.{all}
 use Rattle.lists.specs.Walks.{all-start}
-use Rattle.sound.proofs.Blocks.{eight-next, eight-fails}
+use Rattle.sound.proofs.Blocks.{block-next, block-fails}
 use Rattle.sound.proofs.unused.is_blank.Statement.{statement}
 use Rattle.sound.proofs.unused.is_blank.Tie as tie
 
@@ -21,14 +21,14 @@ abbrev μ-loop : tie.MeasureT-loop
 loop-holds : tie.Need-loop-holds Inv-loop μ-loop
 loop-holds c = let a = c .before .args in (omega arith, all-start (λ x. eqb x 0) (a .part .now) 0 (length (a .part .now)) (omega arith))
 
-eight-at-requires : tie.Need-eight-at-requires Inv-loop μ-loop
-eight-at-requires c κs = omega arith
+block-at-requires : tie.Need-block-at-requires Inv-loop μ-loop
+block-at-requires c κs = omega arith
 
 returns : tie.Need-returns Inv-loop μ-loop
 returns c =
     let a = c .before .before .before .before .before .args in
     let s = c .before .before .before .loop in
-    sym (eight-fails (a .part .now) (s .i - 8) (sym (c .before .eight-at .ensures) ∙ ne-eqb _ _ (c .if1 .taken)))
+    sym (block-fails 32 (a .part .now) (s .i - 32) (sym (c .before .block-at .ensures) ∙ ne-eqb _ _ (c .if1 .taken)))
 
 loop-less : tie.Need-loop-less Inv-loop μ-loop
 loop-less c = omega arith
@@ -38,7 +38,7 @@ loop-again c =
     let a = c .before .before .before .before .before .args in
     let s = c .before .before .before .loop in (
       omega arith,
-      eight-next (a .part .now) (s .i) (c .before .before .loop-test .taken) (sym (c .before .eight-at .ensures) ∙ eq-eqb _ _ (c .if1 .left)) (s .inv .1),
+      block-next 32 (a .part .now) (s .i) (c .before .before .loop-test .taken) (sym (c .before .block-at .ensures) ∙ eq-eqb _ _ (c .if1 .left)) (s .inv .1),
     )
 
 is-blank-before-requires : tie.Need-is-blank-before-requires Inv-loop μ-loop
@@ -54,7 +54,7 @@ is-blank-spec =
     Inv-loop
     μ-loop
     loop-holds
-    eight-at-requires
+    block-at-requires
     returns
     loop-less
     loop-again

@@ -9,8 +9,8 @@ use borrow.Author.Needs.{needs}
 use Rattle.sound.specs.Names.{partAt, bucketOf}
 use Rattle.sound.proofs.Places.{names-hit, names-none}
 use Rattle.sound.proofs.Buckets.{lastBefore, last-le, bucketAt, Apart, Linked, linked-start, linked-next, Passed, passed-start, passed-next, passed-end}
-use Rattle.sound.proofs.pairs.all_once.Statement.{statement}
-use Rattle.sound.proofs.pairs.all_once.Tie as tie
+use Rattle.sound.proofs.pairs.many_once.Statement.{statement}
+use Rattle.sound.proofs.pairs.many_once.Tie as tie
 
 abbrev Inv-loop : tie.InvT-loop
 Inv-loop waiting count flight sent heads links total once₀ i guest id b first next₀ once next = Passed (partAt waiting count flight 0) (partAt waiting count flight 1) i next × (once ≡ true)
@@ -169,8 +169,8 @@ returns-2 c =
     (sym (c .before .before .before .part-of3 .ensures) ∙ c .before .before .if1 .taken ∙ c .before .before .before .before .before .before .before .before .before .part-of .ensures)
     (sym (c .before .part-of4 .ensures) ∙ c .if2 .taken ∙ c .before .before .before .before .before .before .before .before .part-of2 .ensures))
 
-pub all-once-spec : {M : Type 1} → statement M
-all-once-spec =
+pub many-once-spec : {M : Type 1} → statement M
+many-once-spec =
     tie.close
     (tie.spec
     Inv-loop
