@@ -1,6 +1,7 @@
 /* host.c: a small host around the gate. It plays the day of lot 214 (samples/lot214.txt) against an array that is only
  * simulated, and prints what the requests of each guest waited, from arrival to send, and how many calls and ticks the
- * day took.
+ * day took. Then it plays thirty bids of the telephone desk after a quiet time, once without credit and once with, and
+ * prints what each of them waited.
  *
  *     cc -std=c99 -Iinclude examples/host.c target/staticlib/libhost.a -o host && ./host
  *
@@ -19,24 +20,27 @@
 #define CAPACITY 64
 #define PHASES 2
 
-enum { ROOM, DESK, PICTURES, ARCHIVE, GUESTS };
+#define BIDS 30
 
-static const char *const guest_name[GUESTS] = {"room tablet", "online desk", "pictures", "archive"};
+enum { ROOM, DESK, PICTURES, ARCHIVE, TELEPHONE, GUESTS };
+
+static const char *const guest_name[GUESTS] = {"room tablet", "online desk", "pictures", "archive", "telephone"};
 static const char *const phase_name[PHASES] = {"reservation", "weight"};
 
-/* Reservation, limit and shares of each guest. */
+/* Reservation, limit, shares and credit of each guest; the credit of the telephone desk is the host's to choose. */
 static const sgq_settings settings[GUESTS] = {
-    {50, 0, 1},
-    {100, 200, 20},
-    {0, 0, 800},
-    {0, 10, 100},
+    {50, 0, 1, 0},
+    {100, 200, 20, 0},
+    {0, 0, 800, 0},
+    {0, 10, 100, 0},
+    {0, 0, 200, 0},
 };
 
 /* The array takes for a request of each guest the least and, by its id, up to `more` ms on top: bids are small writes,
  * plates and the archive's reads are large. */
 static const struct service {
     uint64_t least, more;
-} service[GUESTS] = {{3, 1}, {3, 1}, {8, 3}, {12, 2}};
+} service[GUESTS] = {{3, 1}, {3, 1}, {8, 3}, {12, 2}, {3, 1}};
 
 /* What arrives in the day: the time in ms from noon, the guest, the first id, and how many ids in a row. */
 static const struct arrivals {
@@ -65,7 +69,12 @@ static const struct arrivals {
     {21600000, ARCHIVE, 8, 4},
 };
 
-#define ROWS (sizeof day / sizeof day[0])
+/* The telephone desk has been quiet for three minutes. A lot comes up, its plates fill the array, and all telephones
+ * ring. */
+static const struct arrivals burst[] = {
+    {180000, PICTURES, 1, 32},
+    {180005, TELEPHONE, 1, BIDS},
+};
 
 /* A request that the host has under way, and when it arrived or, at the array, when it will be done. */
 struct job {
@@ -88,7 +97,8 @@ struct host {
     size_t asked_count;
     struct job busy[DEPTH]; /* at the array */
     size_t busy_count;
-    size_t row; /* of the day, and how many ids of that row have arrived */
+    const struct arrivals *rows; /* what arrives: the row that comes next, and how many of its ids have come */
+    size_t row_count, row;
     uint32_t within;
     uint64_t wake; /* when to tick, as the gate said last */
     /* The events of one interrupt, and room for their answers. */
@@ -97,6 +107,8 @@ struct host {
     /* What the day took. */
     uint64_t calls, told, ticks;
     struct waits waits[GUESTS][PHASES];
+    uint64_t bid_waits[BIDS]; /* of the telephone desk */
+    size_t bids_sent;
 };
 
 static void stop(const char *what, uint64_t refusal)
@@ -105,10 +117,14 @@ static void stop(const char *what, uint64_t refusal)
     exit(1);
 }
 
-static void open_gate(struct host *host)
+static void open_gate(struct host *host, uint64_t credit)
 {
+    sgq_settings chosen[GUESTS];
+    for (size_t guest = 0; guest < GUESTS; guest++)
+        chosen[guest] = settings[guest];
+    chosen[TELEPHONE].credit = credit;
     host->lent = (sgq_tables)SGQ_TABLES(host->gate, host->guests, host->waiting, host->flight);
-    sgq_answer answer = sgq_tables_open_all(&host->lent, settings, GUESTS);
+    sgq_answer answer = sgq_tables_open_all(&host->lent, chosen, GUESTS);
     if (answer.kind == SGQ_REFUSED)
         stop("opening", answer.refusal);
     host->wake = answer.wake;
@@ -147,6 +163,8 @@ static void send_one(struct host *host, sgq_answer answer, uint64_t now)
     struct job job = take_out(host->asked, &host->asked_count, place);
     size_t phase = answer.kind == SGQ_SENT_BY_RESERVATION ? 0 : 1;
     note_wait(&host->waits[job.guest][phase], now - job.time);
+    if (job.guest == TELEPHONE)
+        host->bid_waits[host->bids_sent++] = now - job.time;
     const struct service *takes = &service[job.guest];
     job.time = now + (takes->least + job.id % (takes->more + 1)) * MS;
     host->busy[host->busy_count++] = job;
@@ -174,12 +192,12 @@ static void tick_while_due(struct host *host, uint64_t now)
 
 static uint64_t next_arrival(const struct host *host)
 {
-    return host->row < ROWS ? day[host->row].ms * MS : SGQ_NEVER;
+    return host->row < host->row_count ? host->rows[host->row].ms * MS : SGQ_NEVER;
 }
 
 static sgq_event arrive(struct host *host, uint64_t now)
 {
-    const struct arrivals *row = &day[host->row];
+    const struct arrivals *row = &host->rows[host->row];
     sgq_event event = sgq_arrival(row->guest, row->first + host->within, now);
     host->within += 1;
     if (host->within == row->count) {
@@ -253,9 +271,11 @@ static uint64_t sooner(uint64_t a, uint64_t b)
     return a < b ? a : b;
 }
 
-/* Plays the day to its end. */
-static void play(struct host *host)
+/* Plays what arrives to its end. */
+static void play(struct host *host, const struct arrivals *rows, size_t count)
 {
+    host->rows = rows;
+    host->row_count = count;
     for (;;) {
         uint64_t now = sooner(next_done(host), sooner(next_arrival(host), host->wake));
         if (now == SGQ_NEVER)
@@ -294,12 +314,26 @@ static void print_ticks(const struct host *host)
            host->ticks);
 }
 
+/* The bids of the burst, the desk having this credit: they go in order of acceptance, so their waits stand in it. */
+static void show_burst(struct host *host, uint64_t credit)
+{
+    open_gate(host, credit);
+    play(host, burst, SGQ_COUNT(burst));
+    printf("credit %" PRIu64 ":\n", credit);
+    for (size_t bid = 0; bid < BIDS; bid++)
+        printf("%4" PRIu64 "%s", host->bid_waits[bid] / MS, bid % 10 == 9 ? "\n" : "");
+}
+
 int main(void)
 {
-    static struct host host; /* zeros */
-    open_gate(&host);
-    play(&host);
-    print_waits(&host);
-    print_ticks(&host);
+    static struct host lot, without, with; /* zeros */
+    open_gate(&lot, 0);
+    play(&lot, day, SGQ_COUNT(day));
+    print_waits(&lot);
+    print_ticks(&lot);
+
+    printf("\n%d bids of the telephone desk after a quiet time: what each waited, in ms\n", BIDS);
+    show_burst(&without, 0);
+    show_burst(&with, BIDS);
     return 0;
 }

@@ -28,7 +28,7 @@
 /* The version of this header and of the library that it belongs to. While the major number is 0, another minor number
  * means other calls or other rows. SGQ_VERSION is the text "MAJOR.MINOR.PATCH". */
 #define SGQ_VERSION_MAJOR 0
-#define SGQ_VERSION_MINOR 3
+#define SGQ_VERSION_MINOR 4
 #define SGQ_VERSION_PATCH 0
 #define SGQ_VERSION \
     SGQ_TEXT_OF(SGQ_VERSION_MAJOR) "." SGQ_TEXT_OF(SGQ_VERSION_MINOR) "." SGQ_TEXT_OF(SGQ_VERSION_PATCH)
@@ -64,10 +64,13 @@ extern "C" {
  * 1 to 1,000,000." */
 #define SGQ_MOST_RATE 1000000
 
+/* The most credit of a guest. Document 02, K6: "Each guest record gains a credit c from 0 to 256." */
+#define SGQ_MOST_CREDIT 256
+
 /* How many 64-bit numbers each record has; the structs below are these rows. They stand here once. */
 #define SGQ_GATE_NUMBERS 6
-#define SGQ_SETTINGS_NUMBERS 3
-#define SGQ_GUEST_NUMBERS 6
+#define SGQ_SETTINGS_NUMBERS 4
+#define SGQ_GUEST_NUMBERS 7
 #define SGQ_REQUEST_NUMBERS 5
 #define SGQ_FLIGHT_NUMBERS 2
 #define SGQ_EVENT_NUMBERS 4
@@ -84,15 +87,18 @@ typedef struct sgq_gate {
     uint64_t flight;   /* how many are in flight, that is at the array */
 } sgq_gate;
 
-/* A guest's settings, as opening takes them. "A reservation above a non-zero limit is bad; equal is good." */
+/* A guest's settings, as opening takes them. "A reservation above a non-zero limit is bad; equal is good." Credit 0 is
+ * none; with c a guest that was quiet may send up to c requests by weight ahead of those that were busy meanwhile.
+ * Document 02, K6: "Reservations and limits do not read the credit." */
 typedef struct sgq_settings {
     uint64_t reservation; /* requests per second, 0: none */
     uint64_t limit;       /* requests per second, 0: unlimited */
     uint64_t shares;      /* of what is left when the reservations are served */
+    uint64_t credit;      /* requests, 0: none */
 } sgq_settings;
 
 /* "A guest record holds its settings and three next numbers: the tag its next request would get were time not looked
- * at." Without a reservation rnext is 0 and means nothing; so lnext of an unlimited guest. */
+ * at." Without a reservation rnext is 0 and means nothing; so lnext of an unlimited guest. The credit stands last. */
 typedef struct sgq_guest {
     uint64_t reservation; /* requests per second, 0: none */
     uint64_t limit;       /* requests per second, 0: unlimited */
@@ -100,6 +106,7 @@ typedef struct sgq_guest {
     uint64_t rnext;       /* the next reservation number */
     uint64_t lnext;       /* the next limit number */
     uint64_t snext;       /* the next share number */
+    uint64_t credit;      /* requests, 0: none */
 } sgq_guest;
 
 /* A waiting request. "Waiting requests stand in order of acceptance; when one is sent, the requests behind it move down

@@ -15,6 +15,7 @@ A text trace has the header lines first, then a line for each event; '#' begins 
     tick at 5ms
     raw 02 00 ff                                  # these bytes as they are, for damaged traces
 
+A guest's line may end with 'credit 0': this form of a trace, version 1, has no place for a credit, so there it is 0.
 A text that begins with a raw line has no header but what its raw lines give.
 
 A text becomes bytes as it comes, in little memory. Nothing is written before the first mebibyte of the trace, or the
@@ -56,6 +57,7 @@ RANGES = {
     "RESERVATION": (0, 1_000_000),
     "LIMIT": (0, 1_000_000),
     "SHARES": (1, 1_000_000),
+    "CREDIT": (0, 256),
     "GUEST": (0, 2**8 - 1),
     "ID": (0, 2**32 - 1),
     "TIME": (0, 2**64 - 1),
@@ -126,7 +128,7 @@ class Text:
     def take(self, words):
         if words[0] == "raw":
             return self.take_raw(words[1:])
-        values = numbers(words)
+        values = numbers(without_credit(words))
         if words[0] in KINDS:
             self.begin()
             self.waiting += event_bytes(KINDS.index(words[0]), values)
@@ -182,6 +184,15 @@ class Text:
     def cut(self):
         """A byte behind what is handed on, unless an event is cut short there already."""
         return b"" if (self.handed - self.header) % EVENT.size else bytes(1)
+
+
+def without_credit(words):
+    """A guest's line without the credit that it may end with, which the bytes cannot say."""
+    if words[0] != "guest" or words[-2:-1] != ["credit"]:
+        return words
+    if number("CREDIT", words[-1]) != 0:
+        raise Bad(f"credit {words[-1]} cannot be said in a trace of version {VERSION}, where it is 0")
+    return words[:-2]
 
 
 def numbers(words):

@@ -9,7 +9,7 @@ static struct house house;
 /* Two threads read the clock, and the later reading comes first. */
 void clock_figures(void)
 {
-    const sgq_settings settings[2] = {{0, 0, 1}, {0, 0, 1}};
+    const sgq_settings settings[2] = {{0, 0, 1, 0}, {0, 0, 1, 0}};
     house_open(&house, 4, 8, settings, 2, 4, MS);
     print_answer("the thread that read 101 ns", sgq_tables_arrive(&house.lent, 1, 1, 101));
     print_answer("the thread that read 100 ns", sgq_tables_arrive(&house.lent, 0, 1, 100));
@@ -21,7 +21,7 @@ void clock_figures(void)
 /* Four requests that may go at one time, at an array with four places. */
 static void one_by_one(void)
 {
-    const sgq_settings settings[4] = {{0, 10, 1}, {0, 10, 1}, {0, 10, 1}, {0, 10, 1}};
+    const sgq_settings settings[4] = {{0, 10, 1, 0}, {0, 10, 1, 0}, {0, 10, 1, 0}, {0, 10, 1, 0}};
     house_open(&house, 4, 8, settings, 4, 4, MS);
     for (uint64_t guest = 0; guest < 4; guest++) {
         if (!sgq_sent(sgq_tables_arrive(&house.lent, guest, 1, 0)))
@@ -43,7 +43,7 @@ static void one_by_one(void)
 /* A minute of bids, plates and archive reads, with a tick whenever the gate says to wake. */
 static void when_woken(void)
 {
-    const sgq_settings settings[3] = {{50, 0, 1}, {0, 0, 300}, {0, 20, 100}};
+    const sgq_settings settings[3] = {{50, 0, 1, 0}, {0, 0, 300, 0}, {0, 20, 100, 0}};
     const struct load bids = {0, 60 * MS, 0, SGQ_NEVER, 0}, plates = {8, 0, 20 * SECOND, 40 * SECOND, 0};
     const struct load archive = {4, 0, 0, SGQ_NEVER, 0};
     house_open(&house, 4, 64, settings, 3, 4, 8 * MS);
@@ -74,7 +74,7 @@ static void print_whole(const char *what, uint64_t refusal)
 
 void batch_figures(void)
 {
-    const sgq_settings settings[1] = {{0, 0, 1}};
+    const sgq_settings settings[1] = {{0, 0, 1, 0}};
     static const char *const what[] = {"  guest 0, id 1", "  the same again", "  kind 3", "  guest 0, id 2",
                                        "  the end of id 1"};
     static sgq_event events[SGQ_MOST_EVENTS + 1];
@@ -95,7 +95,7 @@ void batch_figures(void)
  * completed at once. */
 static void go_away(uint64_t quota)
 {
-    const sgq_settings settings[1] = {{0, 2, 1}};
+    const sgq_settings settings[1] = {{0, 2, 1, 0}};
     const struct load gone = {32, 0, 0, 0, quota};
     house_open(&house, 4, 64, settings, 1, 4, 0);
     house_load(&house, 0, gone);
@@ -123,7 +123,7 @@ void withdrawn_figures(void)
 /* A gate with two busy guests. */
 static void open_busy(struct house *one, uint64_t shares)
 {
-    const sgq_settings settings[2] = {{0, 0, shares}, {100, 200, 1}};
+    const sgq_settings settings[2] = {{0, 0, shares, 0}, {100, 200, 1, 0}};
     const struct load busy = {8, 0, 0, SGQ_NEVER, 0};
     house_open(one, 4, 32, settings, 2, 4, 4 * MS);
     house_load(one, 0, busy);
@@ -150,7 +150,7 @@ void gates_figures(void)
 
 void refusals_figures(void)
 {
-    const sgq_settings settings[1] = {{0, 1000000, 1}};
+    const sgq_settings settings[1] = {{0, 1000000, 1, 0}};
     sgq_gate gate = {0, 0, 0, 0, 0, 0};
     sgq_guest guests[1];
     sgq_request waiting[1];
@@ -201,7 +201,7 @@ static uint64_t open_again(const sgq_tables *lent, const sgq_settings *settings,
 
 void reopen_figures(void)
 {
-    static const sgq_settings settings[] = {{50, 0, 1}, {0, 0, 800}};
+    static const sgq_settings settings[] = {{50, 0, 1, 0}, {0, 0, 800, 0}};
     static sgq_gate gate;
     static sgq_guest guests[2];
     static sgq_request waiting[16];

@@ -14,6 +14,7 @@ void shares_figures(void);
 void ahead_figures(void);
 void alone_figures(void);
 void parts_figures(void);
+void credit_figures(void);
 void overbooked_figures(void);
 void limit_figures(void);
 

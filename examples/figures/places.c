@@ -6,7 +6,7 @@
 
 enum { ROOM, PICTURES, PARTIES };
 
-static const sgq_settings settings[PARTIES] = {{100, 0, 1}, {0, 0, 100}};
+static const sgq_settings settings[PARTIES] = {{100, 0, 1, 0}, {0, 0, 100, 0}};
 
 static struct house house;
 

@@ -1,4 +1,4 @@
-/* rates.c: shares, reservations and limits over time, at an array that does 1,000 requests a second. */
+/* rates.c: shares, credit, reservations and limits over time, at an array that does 1,000 requests a second. */
 #include "figures.h"
 
 #include <inttypes.h>
@@ -36,7 +36,7 @@ static void share(uint64_t one_part, uint64_t under_way, uint64_t depth)
     static const uint64_t parts[PARTIES] = {1, 1, 1, 1, 1, 2, 3, 4};
     sgq_settings settings[PARTIES];
     for (size_t guest = 0; guest < PARTIES; guest++) {
-        const sgq_settings own = {0, 0, parts[guest] * one_part};
+        const sgq_settings own = {0, 0, parts[guest] * one_part, 0};
         settings[guest] = own;
     }
     open_array(settings, PARTIES, depth);
@@ -61,7 +61,7 @@ void shares_figures(void)
 /* The page's advice: 300 a second are reserved, and the other three share 700 by parts of four, two and one. */
 void parts_figures(void)
 {
-    static const sgq_settings settings[] = {{300, 0, 1}, {0, 0, 360}, {0, 0, 180}, {0, 0, 90}};
+    static const sgq_settings settings[] = {{300, 0, 1, 0}, {0, 0, 360, 0}, {0, 0, 180, 0}, {0, 0, 90, 0}};
     open_array(settings, SGQ_COUNT(settings), 4);
     for (uint64_t guest = 0; guest < SGQ_COUNT(settings); guest++)
         keep_busy(guest, 16, 0);
@@ -87,7 +87,7 @@ static void print_hours(int wide, uint64_t shares, uint64_t rate)
 /* A guest alone for ten seconds. */
 static void run_ahead(uint64_t shares)
 {
-    const sgq_settings settings[1] = {{0, 0, shares}};
+    const sgq_settings settings[1] = {{0, 0, shares, 0}};
     open_array(settings, 1, 4);
     keep_busy(0, 16, 0);
     house_play(&house, 10 * SECOND);
@@ -100,7 +100,7 @@ static void run_ahead(uint64_t shares)
 /* Arrivals of a guest with shares 1, three seconds before the ceiling. */
 static void at_the_ceiling(void)
 {
-    const sgq_settings settings[1] = {{0, 0, 1}};
+    const sgq_settings settings[1] = {{0, 0, 1, 0}};
     open_array(settings, 1, 1);
     uint32_t id = 0;
     sgq_answer answer = sgq_tables_arrive(&house.lent, 0, id, SGQ_CEILING - 3 * SECOND);
@@ -123,7 +123,7 @@ void ahead_figures(void)
 /* A guest runs alone, pauses for a second, and comes back beside another of the same shares. */
 static void come_back(uint64_t alone, uint64_t shares)
 {
-    const sgq_settings settings[2] = {{0, 0, shares}, {0, 0, shares}};
+    const sgq_settings settings[2] = {{0, 0, shares, 0}, {0, 0, shares, 0}};
     const struct load morning = {16, 0, 0, alone, 0};
     open_array(settings, 2, 4);
     house_load(&house, 0, morning);
@@ -148,11 +148,40 @@ void alone_figures(void)
     come_back(60 * SECOND, 1000);
 }
 
+/* Credit. */
+
+/* Thirty requests at once after ten quiet seconds, beside a guest that is always busy. */
+static void burst(uint64_t credit)
+{
+    const sgq_settings settings[2] = {{0, 0, 600, 0}, {0, 0, 300, credit}};
+    const struct load bids = {30, 0, 10 * SECOND, 0, 0};
+    open_array(settings, 2, 4);
+    keep_busy(0, 32, 0);
+    house_play(&house, 10 * SECOND);
+    house_count_anew(&house);
+    house_load(&house, 1, bids);
+    house_play(&house, 11 * SECOND);
+    printf("%6" PRIu64 "%12s", credit, "");
+    print_ms(house.tally[1].longest);
+    printf("%19s", "");
+    print_ms(house.tally[0].longest);
+    printf("\n");
+}
+
+void credit_figures(void)
+{
+    static const uint64_t credits[] = {0, 10, 20, 30, 256};
+    printf("30 requests after 10 quiet seconds, beside a guest of twice the shares with 32 under way\n");
+    printf("credit  they: longest wait, ms  the other: longest wait, ms\n");
+    for (size_t row = 0; row < SGQ_COUNT(credits); row++)
+        burst(credits[row]);
+}
+
 /* Reservations. */
 
 static void reserve(uint64_t first, uint64_t first_under_way, uint64_t second, uint64_t second_under_way)
 {
-    const sgq_settings settings[3] = {{first, 0, 100}, {second, 0, 100}, {0, 0, 400}};
+    const sgq_settings settings[3] = {{first, 0, 100, 0}, {second, 0, 100, 0}, {0, 0, 400, 0}};
     open_array(settings, 3, 4);
     keep_busy(0, first_under_way, 0);
     keep_busy(1, second_under_way, 0);
@@ -179,7 +208,7 @@ void overbooked_figures(void)
 /* Thirty requests wait while another holds the only place for two seconds; then each takes a millisecond. */
 static void held_back(void)
 {
-    const sgq_settings settings[2] = {{0, 10, 100}, {0, 0, 100}};
+    const sgq_settings settings[2] = {{0, 10, 100, 0}, {0, 0, 100, 0}};
     open_array(settings, 2, 1);
     if (!sgq_sent(sgq_tables_arrive(&house.lent, 1, 0, 0)))
         return;
@@ -200,7 +229,7 @@ static void held_back(void)
 /* Five requests after ten quiet seconds: when each goes, from then. */
 static void after_a_pause(void)
 {
-    const sgq_settings settings[1] = {{0, 10, 100}};
+    const sgq_settings settings[1] = {{0, 10, 100, 0}};
     const struct load first = {1, 0, 0, 0, 0}, later = {5, 0, 10 * SECOND, 0, 0};
     open_array(settings, 1, 4);
     house_load(&house, 0, first);

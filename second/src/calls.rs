@@ -55,8 +55,8 @@ impl Reply {
     }
 }
 
-/// Opens a gate. The settings are reservation, limit and shares of each
-/// guest. Nothing waits in a fresh table, so there is no time to wake.
+/// Opens a gate. The settings are reservation, limit, shares and credit of
+/// each guest. Nothing waits in a fresh table, so there is no time to wake.
 pub fn open(depth: u64, guests: u64, capacity: u64, settings: &[u64], lent: &mut Tables) -> Reply {
     if !counts_good(depth, guests, capacity) {
         return Reply::refused(1);

@@ -4,7 +4,7 @@
 
 use crate::numbers::{Settings, CEILING, MOST_RATE, SECOND};
 use crate::rules::{Answer, State};
-use crate::sample::{any_settings, Prng};
+use crate::sample::{any_rates, Prng};
 use crate::trace::{header_bytes, play, Event, ARRIVAL, COMPLETION, EVENT_BYTES, TICK};
 
 /// The names of the kinds; `mixed` is one of the others by seed.
@@ -198,6 +198,7 @@ fn leaning_settings(rng: &mut Prng, scale: u64, unreserved: u64, unlimited: u64)
         reservation: if ordered { reservation } else { limit },
         limit: if ordered { limit } else { reservation },
         shares,
+        credit: 0,
     }
 }
 
@@ -273,7 +274,7 @@ fn ceiling(rng: &mut Prng) -> Vec<u8> {
             if rng.chance(70) {
                 beat_settings(rng, scale)
             } else {
-                any_settings(rng)
+                any_rates(rng)
             }
         })
         .collect();
@@ -322,7 +323,7 @@ fn jumps(rng: &mut Prng) -> Vec<u8> {
     } else {
         rng.between(60, 64)
     };
-    let settings: Vec<_> = (0..guests).map(|_| any_settings(rng)).collect();
+    let settings: Vec<_> = (0..guests).map(|_| any_rates(rng)).collect();
     let (depth, capacity) = (rng.between(1, 5), rng.between(1, 30));
     let mut maker = Maker::new(depth, capacity, &settings);
     let events = rng.between(20, 300);
@@ -393,6 +394,7 @@ fn waits_settings(rng: &mut Prng, scale: u64) -> Settings {
         reservation,
         limit: reservation * halves / 2,
         shares: rng.between(1, scale),
+        credit: 0,
     }
 }
 
@@ -433,7 +435,7 @@ fn next_due(state: &State) -> u64 {
 /// ranges, and some cut anywhere.
 fn header(rng: &mut Prng) -> Vec<u8> {
     let guests = rng.pick(&[1, 1, 2, 3, 63, 64]);
-    let settings: Vec<_> = (0..guests).map(|_| any_settings(rng)).collect();
+    let settings: Vec<_> = (0..guests).map(|_| any_rates(rng)).collect();
     let depth = rng.pick(&[1, 2, 32, 64]);
     let capacity = rng.pick(&[1, 8, 1_023, 1_024]);
     let mut maker = Maker::new(depth, capacity, &settings);
@@ -602,7 +604,7 @@ fn large(rng: &mut Prng) -> Vec<u8> {
             if rng.chance(85) {
                 beat_settings(rng, scale)
             } else {
-                any_settings(rng)
+                any_rates(rng)
             }
         })
         .collect();
@@ -688,6 +690,7 @@ fn fixed_settings(guest: u64) -> Settings {
         reservation: [limit, 0, limit / 2, 0][guest as usize % 4],
         limit,
         shares: [1_000, 2_000, 500, 100][guest as usize / 16],
+        credit: 0,
     }
 }
 

@@ -11,6 +11,8 @@ pub const MOST_GUESTS: u64 = 64;
 pub const MOST_CAPACITY: u64 = 1_024;
 /// The largest reservation, limit and number of shares.
 pub const MOST_RATE: u64 = 1_000_000;
+/// The largest credit, in requests.
+pub const MOST_CREDIT: u64 = 256;
 
 /// Are depth, guests and capacity in their ranges?
 pub fn counts_good(depth: u64, guests: u64, capacity: u64) -> bool {
@@ -20,11 +22,13 @@ pub fn counts_good(depth: u64, guests: u64, capacity: u64) -> bool {
 }
 
 /// What a guest is opened with. Reservation 0 is none, limit 0 is unlimited.
+/// The credit is how many share spacings before the time a share tag may lie.
 #[derive(Clone, Copy, Debug, PartialEq, Eq)]
 pub struct Settings {
     pub reservation: u64,
     pub limit: u64,
     pub shares: u64,
+    pub credit: u64,
 }
 
 impl Settings {
@@ -34,6 +38,7 @@ impl Settings {
             && self.limit <= MOST_RATE
             && (1..=MOST_RATE).contains(&self.shares)
             && (self.limit == 0 || self.reservation <= self.limit)
+            && self.credit <= MOST_CREDIT
     }
 
     pub fn has_reservation(self) -> bool {

@@ -277,9 +277,8 @@ impl State {
     }
 }
 
-/// Each tag the guest has is the larger of its next number and t; but at an
-/// idle guest the share tag is t itself (document 02, K3), so that a guest
-/// that comes back does not pay for what it got while it was alone.
+/// Each tag the guest has is the larger of its next number and t; but for
+/// the share tag.
 fn stamp(guest: &Guest, idle: bool, t: u64) -> Tags {
     let s = guest.settings;
     Tags {
@@ -289,7 +288,22 @@ fn stamp(guest: &Guest, idle: bool, t: u64) -> Tags {
             0
         },
         ltag: if s.has_limit() { guest.lnext.max(t) } else { 0 },
-        stag: if idle { t } else { guest.snext.max(t) },
+        stag: share_tag(guest, idle, t),
+    }
+}
+
+/// The larger of the next number and b, which lies the guest's credit before
+/// t, so that a guest that was quiet may have a burst (document 02, K6); but
+/// at an idle guest not later than t, so that one that comes back does not
+/// pay for what it got while it was alone (K3).
+fn share_tag(guest: &Guest, idle: bool, t: u64) -> u64 {
+    let s = guest.settings;
+    let b = t.saturating_sub(s.credit * s.share_spacing());
+    let tag = guest.snext.max(b);
+    if idle {
+        tag.min(t)
+    } else {
+        tag
     }
 }
 

@@ -3,7 +3,7 @@
 
 use crate::batch::{ANSWER_NUMBERS, EVENT_NUMBERS, MOST_EVENTS};
 use crate::calls::{read, table_refusal};
-use crate::numbers::{Settings, CEILING, MOST_RATE, SECOND};
+use crate::numbers::{Settings, CEILING, MOST_CREDIT, MOST_RATE, SECOND};
 use crate::rules::State;
 use crate::tables::{Flight, Gate, Guest, Tables, View, Waiting, FLIGHT_NUMBERS, WAITING_NUMBERS};
 use crate::trace::{ARRIVAL, COMPLETION, TICK};
@@ -55,6 +55,22 @@ impl Prng {
 
 /// Settings from the whole range, extremes often.
 pub fn any_settings(rng: &mut Prng) -> Settings {
+    Settings {
+        credit: any_credit(rng),
+        ..any_rates(rng)
+    }
+}
+
+fn any_credit(rng: &mut Prng) -> u64 {
+    match rng.below(3) {
+        0 => 0,
+        1 => rng.pick(&[1, 2, 3, 30, MOST_CREDIT - 1, MOST_CREDIT]),
+        _ => rng.between(1, MOST_CREDIT),
+    }
+}
+
+/// The same without a credit, as a trace has them.
+pub fn any_rates(rng: &mut Prng) -> Settings {
     let rates = [1, 2, 3, 7, 300, 1_000, 999_999, MOST_RATE];
     let mut rate = |none: u64| {
         if rng.chance(none) {
@@ -74,6 +90,7 @@ pub fn any_settings(rng: &mut Prng) -> Settings {
             limit.max(reservation)
         },
         shares,
+        credit: 0,
     }
 }
 
@@ -298,6 +315,16 @@ fn with_rest(rng: &mut Prng, mut numbers: Vec<u64>) -> Vec<u64> {
     numbers
 }
 
+/// Numbers at the ends of ranges, and next to them.
+const EDGES: [u64; 6] = [
+    CEILING,
+    CEILING + 1,
+    CEILING + SECOND,
+    CEILING + SECOND + 1,
+    MOST_CREDIT,
+    MOST_CREDIT + 1,
+];
+
 /// Changes one number of one table, or cuts a table: most often what
 /// comes out is not sound, sometimes it still is.
 pub fn spoil(rng: &mut Prng, tables: &mut Owned) {
@@ -319,7 +346,7 @@ pub fn spoil(rng: &mut Prng, tables: &mut Owned) {
         3 => table[at] = old.wrapping_add(1),
         4 => table[at] = u64::MAX,
         5 => table[at] = old | 1 << 32,
-        6 => table[at] = rng.pick(&[CEILING, CEILING + 1, CEILING + SECOND, CEILING + SECOND + 1]),
+        6 => table[at] = rng.pick(&EDGES),
         _ => table[at] = rng.sized(64),
     }
 }

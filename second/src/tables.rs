@@ -13,16 +13,20 @@ pub const TIME: usize = 3;
 pub const WAITING: usize = 4;
 pub const FLIGHT: usize = 5;
 
-/// A guest's settings, in a list of settings and in its record.
-pub const SETTINGS_NUMBERS: usize = 3;
+/// A guest's rates, in a list of settings and in its record.
 pub const RESERVATION: usize = 0;
 pub const LIMIT: usize = 1;
 pub const SHARES: usize = 2;
 
-pub const GUEST_NUMBERS: usize = 6;
+/// The credit is the last of a guest's settings and of its record.
+pub const SETTINGS_NUMBERS: usize = 4;
+pub const SETTINGS_CREDIT: usize = 3;
+
+pub const GUEST_NUMBERS: usize = 7;
 pub const RNEXT: usize = 3;
 pub const LNEXT: usize = 4;
 pub const SNEXT: usize = 5;
+pub const CREDIT: usize = 6;
 
 /// Guest and id of a request, waiting or in flight.
 pub const GUEST: usize = 0;
@@ -80,6 +84,7 @@ impl Guest {
             self.rnext,
             self.lnext,
             self.snext,
+            s.credit,
         ]
     }
 }
@@ -165,7 +170,7 @@ impl View<'_> {
     pub fn guest(&self, place: usize) -> Guest {
         let n = &self.guests[place * GUEST_NUMBERS..][..GUEST_NUMBERS];
         Guest {
-            settings: settings_at(n, 0),
+            settings: settings_from(n, n[CREDIT]),
             rnext: n[RNEXT],
             lnext: n[LNEXT],
             snext: n[SNEXT],
@@ -203,9 +208,15 @@ impl View<'_> {
 /// The settings of one guest in a list of settings.
 pub fn settings_at(list: &[u64], guest: usize) -> Settings {
     let n = &list[guest * SETTINGS_NUMBERS..][..SETTINGS_NUMBERS];
+    settings_from(n, n[SETTINGS_CREDIT])
+}
+
+/// Settings whose rates stand first in a row.
+fn settings_from(row: &[u64], credit: u64) -> Settings {
     Settings {
-        reservation: n[RESERVATION],
-        limit: n[LIMIT],
-        shares: n[SHARES],
+        reservation: row[RESERVATION],
+        limit: row[LIMIT],
+        shares: row[SHARES],
+        credit,
     }
 }

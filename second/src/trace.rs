@@ -71,7 +71,8 @@ pub fn play(state: &mut State, event: Event) -> Answer {
     }
 }
 
-/// The header's bytes, whether its numbers are good or not.
+/// The header's bytes, whether its numbers are good or not. They do not say
+/// the credits.
 pub fn header_bytes(depth: u8, guests: u8, capacity: u16, settings: &[Settings]) -> Vec<u8> {
     let mut b = MARK.to_vec();
     b.extend(VERSION.to_le_bytes());
@@ -134,12 +135,13 @@ pub(crate) fn read_header<R: Read>(input: &mut Input<R>) -> io::Result<Result<St
     )))
 }
 
-/// A guest of the header, from its bytes.
+/// A guest of the header, from its bytes, which cannot say a credit.
 pub fn settings_of(record: &[u8]) -> Settings {
     Settings {
         reservation: u32_at(record, 0) as u64,
         limit: u32_at(record, 4) as u64,
         shares: u32_at(record, 8) as u64,
+        credit: 0,
     }
 }
 

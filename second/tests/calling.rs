@@ -9,7 +9,7 @@ use second::tables::*;
 use second::Answer::{Nothing, Refused};
 use second::{first_broken, Answer, Tables, CEILING, NEVER};
 
-const SETTINGS: [u64; 2 * SETTINGS_NUMBERS] = [100, 250, 1, 0, 0, 7];
+const SETTINGS: [u64; 2 * SETTINGS_NUMBERS] = [100, 250, 1, 9, 0, 0, 7, 256];
 
 /// The answer to an opening, which never has a time to wake.
 fn open(depth: u64, guests: u64, capacity: u64, settings: &[u64], lent: &mut Tables) -> Answer {
@@ -30,7 +30,10 @@ fn opening_writes_a_fresh_table_and_nothing_beyond() {
     let mut t = room();
     assert_eq!(open(2, 2, 3, &SETTINGS, &mut t.lend()), Nothing);
     assert_eq!(t.gate, [2, 2, 3, 0, 0, 0, 77]);
-    assert_eq!(t.guests, [100, 250, 1, 0, 0, 0, 0, 0, 7, 0, 0, 0, 77]);
+    assert_eq!(
+        t.guests,
+        [100, 250, 1, 0, 0, 0, 9, 0, 0, 7, 0, 0, 0, 256, 77]
+    );
     let mut waiting = vec![0; 3 * WAITING_NUMBERS];
     waiting.push(77);
     assert_eq!(t.waiting, waiting);
@@ -54,7 +57,7 @@ fn opening_counts_then_lengths_then_settings() {
         let answer = open(depth, guests, capacity, &[], &mut t.lend());
         assert_eq!(answer, Refused(1));
     }
-    let bad = [9, 8, 1, 0, 0, 0];
+    let bad = [9, 8, 1, 0, 0, 0, 0, 0];
     assert_eq!(
         open(2, 2, 3, &bad[..2 * SETTINGS_NUMBERS - 1], &mut t.lend()),
         Refused(2)
@@ -68,11 +71,14 @@ fn opening_counts_then_lengths_then_settings() {
     assert_eq!(open(2, 2, 3, &bad, &mut t.lend()), Refused(1));
     // The last guest's settings are judged too, numbers of any size.
     for bad in [
-        [100, 250, 1, 0, 0, 0],
-        [100, 250, 1, 0, 0, 1_000_001],
-        [100, 250, 1, 1_000_001, 0, 1],
-        [100, 250, 1, 0, u64::MAX, 1],
-        [100, 250, 1, 3, 2, 1],
+        [100, 250, 1, 0, 0, 0, 0, 0],
+        [100, 250, 1, 0, 0, 0, 1_000_001, 0],
+        [100, 250, 1, 0, 1_000_001, 0, 1, 0],
+        [100, 250, 1, 0, 0, u64::MAX, 1, 0],
+        [100, 250, 1, 0, 3, 2, 1, 0],
+        [100, 250, 1, 257, 0, 0, 1, 0],
+        [100, 250, 1, 0, 0, 0, 1, 257],
+        [100, 250, 1, 0, 0, 0, 1, u64::MAX],
     ] {
         assert_eq!(open(2, 2, 3, &bad, &mut t.lend()), Refused(1));
     }

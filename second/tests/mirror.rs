@@ -18,9 +18,11 @@ struct Request {
     tags: [Option<i128>; 3],
 }
 
-/// A guest: spacing and next number of each kind it has, and its queue.
+/// A guest: spacing and next number of each kind it has, how far before the
+/// time its share tags may lie, and its queue.
 #[derive(Clone)]
 struct Lane {
+    back: i128,
     spacing: [Option<i128>; 3],
     next: [i128; 3],
     queue: VecDeque<Request>,
@@ -48,6 +50,7 @@ impl Mirror {
             let (r, l, w) = (s.reservation as i128, s.limit as i128, s.shares as i128);
             let up = |l: i128| second / l + (second % l != 0) as i128;
             Lane {
+                back: s.credit as i128 * (second / w),
                 spacing: [
                     (r > 0).then(|| second / r),
                     (l > 0).then(|| up(l)),
@@ -160,14 +163,14 @@ impl Mirror {
             self.adjust(t)?;
         }
         let lane = &mut self.lanes[number];
+        let lowest = [t, t, (t - lane.back).max(0)];
         if lane.queue.is_empty() {
-            // Forgotten, so that the larger of it and t is t.
-            lane.next[S] = 0;
+            lane.next[S] = lane.next[S].min(t);
         }
         let mut tags = [None; 3];
         for kind in [R, L, S] {
             if let Some(spacing) = lane.spacing[kind] {
-                let tag = lane.next[kind].max(t);
+                let tag = lane.next[kind].max(lowest[kind]);
                 if tag > CEILING {
                     return Err(9);
                 }

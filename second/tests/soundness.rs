@@ -62,6 +62,9 @@ fn settings_lie_in_the_ranges() {
     assert_eq!(broken(|t| t.guests[LIMIT] = u64::MAX), rule);
     assert_eq!(broken(|t| t.guests[SHARES] = 0), rule);
     assert_eq!(broken(|t| t.guests[SHARES] = 1_000_001), rule);
+    assert_eq!(broken(|t| t.guests[CREDIT] = 257), rule);
+    assert_eq!(broken(|t| t.guests[guest_at(2, CREDIT)] = u64::MAX), rule);
+    assert_eq!(broken(|t| t.guests[guest_at(2, CREDIT)] = 256), None);
     // A reservation above the limit.
     let last = guest_at(2, RESERVATION);
     assert_eq!(broken(|t| t.guests[last] = 4), rule);
@@ -233,6 +236,7 @@ fn plainly_sound(t: &Owned) -> bool {
             && g[SHARES] >= 1
             && g[SHARES] <= million
             && (g[LIMIT] == 0 || g[RESERVATION] <= g[LIMIT])
+            && g[CREDIT] <= 256
     });
     let roomy = t.gate[WAITING] <= t.gate[CAPACITY] && t.gate[FLIGHT] <= t.gate[DEPTH];
     if !ranges || !roomy || n(t.gate[TIME]) > ceiling {

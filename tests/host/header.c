@@ -21,12 +21,14 @@ AT(sgq_gate, flight, 5);
 AT(sgq_settings, reservation, 0);
 AT(sgq_settings, limit, 1);
 AT(sgq_settings, shares, 2);
+AT(sgq_settings, credit, 3);
 AT(sgq_guest, reservation, 0);
 AT(sgq_guest, limit, 1);
 AT(sgq_guest, shares, 2);
 AT(sgq_guest, rnext, 3);
 AT(sgq_guest, lnext, 4);
 AT(sgq_guest, snext, 5);
+AT(sgq_guest, credit, 6);
 AT(sgq_request, guest, 0);
 AT(sgq_request, id, 1);
 AT(sgq_request, rtag, 2);
@@ -69,7 +71,7 @@ static void play(const sgq_tables *lent)
 
 int main(void)
 {
-    static const sgq_settings settings[1] = {{100, 250, 1}};
+    static const sgq_settings settings[1] = {{100, 250, 1, 0}};
     sgq_gate gate;
     sgq_guest guests[1];
     sgq_request waiting[8];

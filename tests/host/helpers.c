@@ -31,7 +31,7 @@ static void refused(const char *what, sgq_answer answer, uint64_t expected)
 /* Tables of no records, and no settings: NULL is as good as any pointer. */
 static void no_records(void)
 {
-    static const sgq_settings settings[GUESTS] = {{0, 0, 1}, {0, 0, 1}};
+    static const sgq_settings settings[GUESTS] = {{0, 0, 1, 0}, {0, 0, 1, 0}};
     sgq_gate gate = {DEPTH, GUESTS, CAPACITY, 0, 0, 0};
     sgq_tables lent = {&gate, NULL, 0, NULL, 0, NULL, 0};
     refused("no guests", sgq_tables_open_all(&lent, NULL, 0), SGQ_REFUSED_SETTING);
@@ -51,7 +51,7 @@ static void no_records(void)
 /* Two guests, five arrivals: two are sent, the others wait; the sixth finds no place. */
 static void counts(void)
 {
-    static const sgq_settings settings[] = {{0, 0, 1}, {0, 0, 1}};
+    static const sgq_settings settings[] = {{0, 0, 1, 0}, {0, 0, 1, 0}};
     static sgq_gate gate;
     static sgq_guest guests[GUESTS];
     static sgq_request waiting[CAPACITY];
@@ -83,7 +83,7 @@ static void counts(void)
  * says the same, and a tick at it sends one. A refused tick carries nothing. */
 static void wakes(void)
 {
-    static const sgq_settings settings[] = {{0, 10, 1}};
+    static const sgq_settings settings[] = {{0, 10, 1, 0}};
     static const uint64_t spacing = UINT64_C(100000000);
     static sgq_gate gate;
     static sgq_guest guests[1];
@@ -111,7 +111,7 @@ static void wakes(void)
  * one event more than a call takes. */
 static void batches(void)
 {
-    static const sgq_settings settings[] = {{0, 0, 1}};
+    static const sgq_settings settings[] = {{0, 0, 1, 0}};
     static sgq_gate gate;
     static sgq_guest guests[1];
     static sgq_request waiting[CAPACITY];

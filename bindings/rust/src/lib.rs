@@ -14,7 +14,7 @@
 //! let by = |phase, id, wake| Outcome { answer: sent(phase, id), wake };
 //! let nothing = |wake| Outcome { answer: Answer::Nothing, wake };
 //!
-//! let guests = [Settings { reservation: 100, limit: 250, shares: 1 }];
+//! let guests = [Settings { reservation: 100, limit: 250, shares: 1, credit: 0 }];
 //! let mut gate = Gate::open(4, 8, &guests)?;
 //! assert_eq!(gate.arrive(0, 1, 0)?, by(Phase::Reservation, 1, None));
 //! assert_eq!(gate.arrive(0, 2, 0)?, nothing(Some(4 * MS)));
@@ -56,7 +56,7 @@
 //! use sgq::{raw, Event, Gate, Refusal, Settings};
 //!
 //! # fn main() -> Result<(), Refusal> {
-//! let mut gate = Gate::open(1, 8, &[Settings { reservation: 0, limit: 0, shares: 1 }])?;
+//! let mut gate = Gate::open(1, 8, &[Settings { reservation: 0, limit: 0, shares: 1, credit: 0 }])?;
 //! let mut room = [raw::Answer::default(); 3];
 //! let events = [Event::arrival(0, 1, 5), Event::arrival(0, 2, 5), Event::completion(0, 1, 9)];
 //! for outcome in gate.batch(&events, &mut room)? {
@@ -104,3 +104,6 @@ pub const MOST_EVENTS: u64 = 256;
 
 /// The largest reservation, limit and number of shares.
 pub const MOST_RATE: u64 = 1_000_000;
+
+/// The most credit of a guest. Document 02, K6: "Each guest record gains a credit c from 0 to 256."
+pub const MOST_CREDIT: u64 = 256;

@@ -7,9 +7,9 @@
 /// How many numbers the gate is.
 pub const GATE_NUMBERS: usize = 6;
 /// How many numbers a guest's settings are.
-pub const SETTINGS_NUMBERS: usize = 3;
+pub const SETTINGS_NUMBERS: usize = 4;
 /// How many numbers a guest is.
-pub const GUEST_NUMBERS: usize = 6;
+pub const GUEST_NUMBERS: usize = 7;
 /// How many numbers a waiting request is.
 pub const REQUEST_NUMBERS: usize = 5;
 /// How many numbers a request in flight is.
@@ -60,6 +60,9 @@ pub struct Settings {
     pub limit: u64,
     /// Of what is left when the reservations are served, 1 to 1,000,000.
     pub shares: u64,
+    /// How many requests the guest may send by weight, after a quiet time, ahead of those that were busy meanwhile: 0 to
+    /// 256. Document 02, K6: "Reservations and limits do not read the credit."
+    pub credit: u64,
 }
 
 /// "A guest record holds its settings and three next numbers: the tag its next request would get were time not looked
@@ -79,6 +82,8 @@ pub struct Guest {
     pub lnext: u64,
     /// The next share number.
     pub snext: u64,
+    /// The credit, as the settings have it.
+    pub credit: u64,
 }
 
 /// A waiting request with its tags, which are times in nanoseconds.

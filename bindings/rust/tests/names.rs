@@ -1,7 +1,7 @@
 //! The names beside the numbers of the library, and the calls on tables that a `Gate` never lends.
 
 use sgq::raw::{self, FLIGHT_NUMBERS, GUEST_NUMBERS, REQUEST_NUMBERS};
-use sgq::{Answer, Flight, Gate, Guest, Outcome, Phase, Refusal, Request, CEILING};
+use sgq::{Answer, Flight, Gate, Guest, Outcome, Phase, Refusal, Request, CEILING, MOST_CREDIT};
 
 #[test]
 fn refusals_by_number() {
@@ -46,13 +46,30 @@ fn a_gate_goes_to_another_thread() {
     goes::<Gate>();
 }
 
+/// A guest with one share and this credit, to which nothing has happened.
+fn guest(credit: u64) -> Guest {
+    Guest {
+        shares: 1,
+        credit,
+        ..Guest::default()
+    }
+}
+
 /// What a tick answers on this gate, with the tables of one guest, depth 1 and capacity 1 lent to these lengths.
 fn tick(gate: raw::Numbers, guests: usize, waiting: usize, flight: usize) -> raw::Answer {
+    tick_of(gate, guest(0), guests, waiting, flight)
+}
+
+/// The same of any guest.
+fn tick_of(
+    gate: raw::Numbers,
+    guest: Guest,
+    guests: usize,
+    waiting: usize,
+    flight: usize,
+) -> raw::Answer {
     let mut gate = gate;
-    let mut guest_table = [Guest {
-        shares: 1,
-        ..Guest::default()
-    }];
+    let mut guest_table = [guest];
     let mut waiting_table = [Request::default()];
     let mut flight_table = [Flight::default()];
     assert!(guests <= GUEST_NUMBERS && waiting <= REQUEST_NUMBERS && flight <= FLIGHT_NUMBERS);
@@ -107,10 +124,7 @@ fn short_tables() {
 /// of the whole call.
 fn batch(gate: raw::Numbers, events: &[u64], room: &mut [u64]) -> u64 {
     let mut gate = gate;
-    let mut guests = [Guest {
-        shares: 1,
-        ..Guest::default()
-    }];
+    let mut guests = [guest(0)];
     let mut waiting = [Request::default()];
     let mut flight = [Flight::default()];
     // SAFETY: the tables, the events and the room are each their own memory, lent whole.
@@ -169,4 +183,15 @@ fn unsound_tables() {
         let answer = tick(unsound, GUEST_NUMBERS, REQUEST_NUMBERS, FLIGHT_NUMBERS);
         assert_eq!(answer, refused(Refusal::NotSound));
     }
+}
+
+#[test]
+fn credit_in_an_open_table() {
+    let tick = |credit| {
+        let (g, w, f) = (GUEST_NUMBERS, REQUEST_NUMBERS, FLIGHT_NUMBERS);
+        tick_of(SOUND, guest(credit), g, w, f)
+    };
+    assert_eq!(tick(MOST_CREDIT).kind, raw::NOTHING);
+    assert_eq!(tick(MOST_CREDIT + 1), refused(Refusal::NotSound));
+    assert_eq!(tick(u64::MAX), refused(Refusal::NotSound));
 }

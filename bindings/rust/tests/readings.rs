@@ -1,9 +1,10 @@
-//! Document 01's example and edge readings, each refusal, when to tick, and many events in one call, through the wrapper.
+//! Document 01's example and edge readings, each refusal, when to tick, credit for bursts, and many events in one call,
+//! through the wrapper.
 
 #![allow(clippy::unnecessary_wraps)] // what a call must give is compared as it is given
 
 use sgq::{raw, Answer, Event, Flight, Gate, Guest, Outcome, Phase, Refusal, Settings};
-use sgq::{CEILING, MOST_CAPACITY, MOST_DEPTH, MOST_EVENTS, MOST_GUESTS, MOST_RATE};
+use sgq::{CEILING, MOST_CAPACITY, MOST_CREDIT, MOST_DEPTH, MOST_EVENTS, MOST_GUESTS, MOST_RATE};
 
 const MS: u64 = 1_000_000;
 
@@ -12,7 +13,14 @@ fn settings(reservation: u64, limit: u64, shares: u64) -> Settings {
         reservation,
         limit,
         shares,
+        credit: 0,
     }
+}
+
+/// A guest without reservation and limit.
+fn credited(shares: u64, credit: u64) -> Settings {
+    let plain = settings(0, 0, shares);
+    Settings { credit, ..plain }
 }
 
 /// An outcome with no time to wake.
@@ -115,6 +123,7 @@ fn spacings() {
         rnext: 333_333_333,
         lnext: 333_333_334,
         snext: 3_333_333,
+        credit: 0,
     };
     assert_eq!(guest, expected);
 }
@@ -200,8 +209,70 @@ fn bad_settings() {
         settings(6, 5, 1),
         settings(0, 0, 0),
         settings(0, MOST_RATE + 1, 1),
+        credited(1, MOST_CREDIT + 1),
+        credited(1, u64::MAX),
     ] {
         assert_eq!(opened(1, 1, &[good, bad]), Some(Refusal::Setting));
+    }
+    assert_eq!(opened(1, 1, &[credited(1, MOST_CREDIT)]), None);
+}
+
+/// A's two wait since 0. B, with shares 10 and credit 3, comes at 1,000 ms with five: the first three lie back.
+#[test]
+fn a_burst() {
+    let mut gate = open(1, 8, &[settings(0, 0, 1), credited(10, 3)]);
+    assert_eq!(gate.arrive(0, 1, 0), by_weight(0, 1));
+    for (guest, id, time) in [(0, 2, 0), (0, 3, 0)] {
+        assert_eq!(gate.arrive(guest, id, time), NOTHING);
+    }
+    for id in 1..=5 {
+        assert_eq!(gate.arrive(1, id, 1_000 * MS), NOTHING);
+    }
+    let tags = [1_000, 2_000, 700, 800, 900, 1_000, 1_100];
+    assert_eq!(share_tags(&gate), tags.map(|tag| tag * MS));
+    let mut done = (0, 1);
+    for next in [(1, 1), (1, 2), (1, 3), (0, 2), (1, 4), (1, 5), (0, 3)] {
+        let sent = by_weight(next.0, next.1);
+        assert_eq!(gate.complete(done.0, done.1, 1_000 * MS), sent);
+        done = next;
+    }
+}
+
+/// Each goes at once, so the guest is idle again: credit is used up one spacing at a time, and then the tag is the time.
+#[test]
+fn credit_of_an_idle_guest() {
+    let mut gate = open(8, 8, &[credited(1, 2)]);
+    let mut nexts = Vec::new();
+    for id in 1..=4 {
+        assert_eq!(gate.arrive(0, id, 5_000 * MS), by_weight(0, id));
+        nexts.push(gate.guests()[0].snext / MS);
+    }
+    assert_eq!(nexts, [4_000, 5_000, 6_000, 6_000]);
+    assert_eq!(gate.guests()[0].credit, 2);
+}
+
+/// Before c spacings have passed the first tag is 0; and what stood in line for long lies no further back than the credit.
+#[test]
+fn where_credit_ends() {
+    let mut gate = open(1, 8, &[settings(0, 0, 1), credited(10, 3)]);
+    assert_eq!(gate.arrive(0, 1, 0), by_weight(0, 1));
+    assert_eq!(gate.arrive(1, 1, 200 * MS), NOTHING);
+    assert_eq!(gate.arrive(1, 2, 9_000 * MS), NOTHING);
+    assert_eq!(share_tags(&gate), [0, 8_700 * MS]);
+}
+
+/// The second at 2^62 - 1, the first still waiting, is refused without credit. With two it is not: there is room below.
+#[test]
+fn ceiling_with_credit() {
+    for (credit, last) in [(0, 3), (1, 3), (2, 4)] {
+        let mut gate = open(1, 8, &[credited(1, credit)]);
+        assert_eq!(gate.arrive(0, 1, CEILING), by_weight(0, 1));
+        for id in 2..last {
+            assert_eq!(gate.arrive(0, id, CEILING), NOTHING);
+        }
+        refused(&mut gate, Refusal::TagAboveCeiling, |gate| {
+            gate.arrive(0, last, CEILING)
+        });
     }
 }
 

@@ -6,7 +6,6 @@ use mathlib.Core.Bool.{true, false}
 use mathlib.Core.List.{List}
 use native.Mathlib.Omega.{arith}
 use lib.ListN.{length}
-use lib.Seq.{sets, length-sets}
 use borrow.Author.Tests.{le-ltb}
 use Rattle.lists.specs.Words.{all}
 use Rattle.lists.specs.Tab.{tab}
@@ -24,10 +23,10 @@ use Rattle.gate.specs.Calls.{taken}
 use Rattle.gate.proofs.Lending.{numbers-lawful}
 use Rattle.gate.proofs.Verdicts.{handed-numbers}
 use Rattle.gate.proofs.Opened.{opened-firm, opened-known}
-use Rattle.trace.specs.Header.{numberAt, settingsAt, settingsIn, headerOf}
+use Rattle.trace.specs.Header.{settingsAt, settingsIn, headerOf}
 use Rattle.trace.specs.declared.Header.the-variants.{Opened}
 use Rattle.trace.proofs.HeaderLaws.{Opens, opened as header-opens}
-use Rattle.trace.proofs.SettingsRows.{settings-rows}
+use Rattle.trace.proofs.SettingsRows.{filled, length-filled, settings-rows}
 use Rattle.feed.specs.Promise.{Became}
 use Rattle.begin.specs.Begin.{Largest}
 use Rattle.begin.proofs.Begins.{Sizes, sizes}
@@ -35,7 +34,7 @@ use Rattle.begin.proofs.Begins.{Sizes, sizes}
 module _ (bs old gs ws fs : List ℕ) (d n c : ℕ) (h : headerOf bs ≡ Opened d n c) (large : Largest old gs ws fs) where
   -- the settings as they were read from the header
   abbrev ss : List ℕ
-  ss = sets old 0 (tab (n * settingsWide) (numberAt bs))
+  ss = filled bs old n
 
   o : Opens bs d n c
   o = header-opens bs d n c h
@@ -49,7 +48,7 @@ module _ (bs old gs ws fs : List ℕ) (d n c : ℕ) (h : headerOf bs ≡ Opened 
   long : openShortIn numbers d n c ss gs ws fs ≡ false
   unfolding openShortIn
   long =
-      rw (le-ltb (length ss) (n * settingsWide) (omega (arith, z .guests, large .settings, length-sets old 0 (tab (n * settingsWide) (numberAt bs)))), le-ltb (length gs) (n * guestWide) (omega (arith, z .guests, large .guests)), le-ltb (length ws) (c * waitingWide) (omega (arith, z .capacity, large .waiting)), le-ltb (length fs) (d * flightWide) (omega (arith, z .depth, large .flight)))
+      rw (le-ltb (length ss) (n * settingsWide) (omega (arith, z .guests, large .settings, length-filled bs old n)), le-ltb (length gs) (n * guestWide) (omega (arith, z .guests, large .guests)), le-ltb (length ws) (c * waitingWide) (omega (arith, z .capacity, large .waiting)), le-ltb (length fs) (d * flightWide) (omega (arith, z .depth, large .flight)))
       refl
 
   accepts : openingIn numbers d n c ss gs ws fs ≡ accept

@@ -9,6 +9,7 @@ use Rattle.lists.specs.Words.{lowest}
 use Rattle.lists.specs.Lines.{lineAt}
 use Rattle.lists.specs.Rows.{overRows}
 use Rattle.lists.specs.RowsLaws.{length-rows, row-at, length-over-rows, rows-over}
+use Rattle.rules.specs.Numbers.{mostCredit}
 use Rattle.rules.specs.Tables.{Request, Table, owner, idle}
 use Rattle.rules.specs.declared.Settings.{Settings}
 use Rattle.rules.specs.declared.Guest.{Guest}
@@ -21,7 +22,7 @@ use Rattle.rules.proofs.Facts.{lawful-is}
 use Rattle.rules.proofs.SameSettings.{adjusted-settings, same-count, same-owner}
 use Rattle.rules.specs.declared.Gate.{Gate}
 use Rattle.rules.specs.declared.Refusal.the-variants.{TagAboveCeiling}
-use Rattle.table.specs.Columns.{guestWide, LIMIT}
+use Rattle.table.specs.Columns.{guestWide, LIMIT, CREDIT, guestAt}
 use Rattle.table.specs.View.{guestForm, requestForm, guestsOf, tableOf, Known}
 use Rattle.table.specs.ViewLaws.{guest-exact, request-exact}
 use Rattle.moves.specs.Moves.{appended, followed}
@@ -50,8 +51,12 @@ module _ (g : Gate) (gs ws fs : List ℕ) (k : Known g gs ws fs) (a : Arriving) 
   known = ready .timely .known
 
   -- the guest's row is there
-  pub row-asks : a .guest * guestWide + guestWide ≤ length gs
+  row-asks : a .guest * guestWide + guestWide ≤ length gs
   row-asks = omega (arith, known, k .guestRoom)
+
+  -- and its credit is in range
+  pub tags-ask : (a .guest * guestWide + guestWide ≤ length gs) × (guestAt gs (a .guest) CREDIT ≤ mostCredit)
+  tags-ask = (row-asks, subst (λ (h : Guest). h .settings .credit ≤ mostCredit) (guest-is g gs ws fs k (a .guest) known) (z .settles (a .guest) known .credits))
 
   -- the tags by the numbers are the request's
   module _ (s : Stamp) (es : s ≡ stampOf i now (guestForm .read (lineAt guestWide gs (a .guest)))) where

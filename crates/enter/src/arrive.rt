@@ -4,11 +4,13 @@ use crate::Entered;
 use rules::Arriving;
 use rules::Gate;
 use rules::Refusal;
+use table::columns::CREDIT;
 use table::columns::GUEST_WIDE;
 use table::columns::LIMIT;
 use table::columns::LNEXT;
 use table::columns::RESERVATION;
 use table::columns::RNEXT;
+use table::columns::SHARES;
 use table::columns::SNEXT;
 use table::gates;
 use table::numbers::CEILING;
@@ -20,10 +22,11 @@ ghost use mathlib.Core.List.{map};
 ghost use Prim.Native.Nat.{_+_, _*_, _≤_};
 ghost use lib.ListN.{length};
 ghost use Rattle.lists.specs.Lines.{lineAt};
+ghost use Rattle.rules.specs.Numbers.{mostCredit};
 ghost use Rattle.rules.specs.Tables.{idle as idleAt, lacks, name};
 ghost use Rattle.rules.specs.Events.{calledBy};
 ghost use Rattle.rules.specs.declared.Event.the-variants.{Arrival};
-ghost use Rattle.table.specs.Columns.{guestWide};
+ghost use Rattle.table.specs.Columns.{CREDIT, guestWide, guestAt};
 ghost use Rattle.table.specs.View.{guestForm, waitingOf, tableOf, Known};
 ghost use Rattle.enter.specs.Enters.{Enters};
 ghost use Rattle.enter.specs.Arrive.{stampOf, Timely, Ready, Placeable, Placed};
@@ -35,9 +38,10 @@ pub struct Stamp {
     pub stag: u64,
 }
 
-// The tags of a request of `guest`: of each kind it has, the larger of the next number and the time; the share tag of an idle guest is the time.
+// The tags of a request of `guest`: of each kind it has, the larger of the next number and the time; but the share tag may lie back by its credit, and at
+// an idle guest it is not later than the time.
 fn tags_of(guests: &[u64], guest: u64, time: u64, idle: bool) -> Stamp
-    requires { ⌜ guest * guestWide + guestWide ≤ length (now guests) ⌝ }
+    requires { ⌜ (guest * guestWide + guestWide ≤ length (now guests)) × (guestAt (now guests) guest CREDIT ≤ mostCredit) ⌝ }
     ensures { λ r. ⌜ r ≡ stampOf idle time (guestForm .read (lineAt guestWide (now (guests .entry)) guest)) ⌝ }
 {
     let g = guest as usize;
@@ -46,9 +50,11 @@ fn tags_of(guests: &[u64], guest: u64, time: u64, idle: bool) -> Stamp
     let rnext = guests[g * GUEST_WIDE + RNEXT];
     let lnext = guests[g * GUEST_WIDE + LNEXT];
     let snext = guests[g * GUEST_WIDE + SNEXT];
+    let shares = guests[g * GUEST_WIDE + SHARES];
+    let credit = guests[g * GUEST_WIDE + CREDIT];
     let rtag = table::numbers::tag_if(0 < reservation, time, rnext);
     let ltag = table::numbers::tag_if(0 < limit, time, lnext);
-    let stag = table::numbers::share_tag(idle, time, snext);
+    let stag = table::numbers::share_tag(idle, time, snext, shares, credit);
     Stamp {
         rtag: rtag,
         ltag: ltag,

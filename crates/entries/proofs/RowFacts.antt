@@ -14,7 +14,7 @@ use Rattle.rules.specs.Sound.{lawful}
 use Rattle.rules.specs.Refused.{Good}
 use Rattle.rules.proofs.Facts.{Lawful, lawful-is}
 use Rattle.rules.proofs.Conditions.{settled-good}
-use Rattle.table.specs.Columns.{RESERVATION, LIMIT, SHARES, GUEST, ID, RTAG, guestAt, waitingAt}
+use Rattle.table.specs.Columns.{RESERVATION, LIMIT, SHARES, CREDIT, GUEST, ID, RTAG, guestAt, waitingAt}
 use Rattle.table.specs.View.{guestForm, requestForm, guestsOf, waitingOf}
 use Rattle.entries.specs.Tests.{settingsAre, settledGuest, named}
 use Rattle.entries.specs.Kinds.{Tested}
@@ -43,9 +43,9 @@ owner-is ws count i h = ap Request.guest (row-at requestForm ws count i h)
 
 module _ (gs : List ℕ) (known : ℕ) (ws : List ℕ) (count : ℕ) (t : Tested gs known ws count) where
   -- a guest's settings lie in their ranges
-  pub in-range : (g : ℕ) → g < known → Good (settingsAre (guestAt gs g RESERVATION) (guestAt gs g LIMIT) (guestAt gs g SHARES))
+  pub in-range : (g : ℕ) → g < known → Good (settingsAre (guestAt gs g RESERVATION) (guestAt gs g LIMIT) (guestAt gs g SHARES) (guestAt gs g CREDIT))
   in-range g h =
-      settled-good (settingsAre (guestAt gs g RESERVATION) (guestAt gs g LIMIT) (guestAt gs g SHARES)) .0
+      settled-good (settingsAre (guestAt gs g RESERVATION) (guestAt gs g LIMIT) (guestAt gs g SHARES) (guestAt gs g CREDIT)) .0
       (sym (ap settledGuest (row-at guestForm gs known g h)) ∙ all-at settledGuest (guestsOf gs known) (guestForm .read []) (t .isSettled) g (omega (arith, length-rows guestForm gs known)))
 
   -- each is small

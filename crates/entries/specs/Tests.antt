@@ -7,9 +7,9 @@ use Rattle.rules.specs.declared.Guest.{Guest}
 use Rattle.rules.specs.declared.Flight.{Flight}
 use Rattle.rules.specs.Sound.{settled}
 
--- settings from three numbers
-abbrev pub settingsAre : ℕ → ℕ → ℕ → Settings
-settingsAre r l s = record { reservation = r; limit = l; shares = s }
+-- settings from four numbers
+abbrev pub settingsAre : ℕ → ℕ → ℕ → ℕ → Settings
+settingsAre r l s c = record { reservation = r; limit = l; shares = s; credit = c }
 
 -- the guest's settings lie in the ranges
 abbrev pub settledGuest : Guest → Bool

@@ -1,6 +1,8 @@
 // Whether the settings of all guests lie in their ranges.
+use table::columns::CREDIT;
 use table::columns::GUEST_WIDE;
 use table::columns::LIMIT;
+use table::columns::LISTCREDIT;
 use table::columns::RESERVATION;
 use table::columns::SETTINGS_WIDE;
 use table::columns::SHARES;
@@ -26,7 +28,8 @@ pub fn all_settled_list(settings: &[u64], known: usize) -> bool
         let r = settings[i * SETTINGS_WIDE + RESERVATION];
         let l = settings[i * SETTINGS_WIDE + LIMIT];
         let s = settings[i * SETTINGS_WIDE + SHARES];
-        if !is_settled(r, l, s) {
+        let c = settings[i * SETTINGS_WIDE + LISTCREDIT];
+        if !is_settled(r, l, s, c) {
             return false;
         }
     }
@@ -44,7 +47,8 @@ pub fn all_settled(guests: &[u64], known: usize) -> bool
         let r = guests[i * GUEST_WIDE + RESERVATION];
         let l = guests[i * GUEST_WIDE + LIMIT];
         let s = guests[i * GUEST_WIDE + SHARES];
-        if !is_settled(r, l, s) {
+        let c = guests[i * GUEST_WIDE + CREDIT];
+        if !is_settled(r, l, s, c) {
             return false;
         }
     }

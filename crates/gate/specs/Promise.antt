@@ -40,7 +40,7 @@ pub record Lending : Type 1 where
 abbrev pub numbers : Lending
 numbers = record { Cell = ℕ; needs = λ n. n * guestWide; shows = guestsOf; over = λ hs gs. overRows guestForm (length hs) hs gs }
 
--- the settings of n guests, three numbers each
+-- the settings of n guests, four numbers each
 abbrev pub settingsIn : List ℕ → ℕ → List Settings
 settingsIn ss n = rowsOf settingsForm ss n
 

@@ -169,7 +169,7 @@ fn judge_opening(
     Judged::Good
 }
 
-// Opening: the lent tables become a fresh table of these settings, three numbers a guest. Nothing waits in it, so no tick would send.
+// Opening: the lent tables become a fresh table of these settings, four numbers a guest. Nothing waits in it, so no tick would send.
 pub fn open(
     depth: u64,
     known: u64,

@@ -1,10 +1,12 @@
 // The moves that write the lent tables: send, take out, append, drop, follow, start and clear. Each contract says what becomes of the
 // numbers; MovesLaws, DropLaws and FollowLaws in specs/ say which lists of document 01 they then show.
+use table::columns::CREDIT;
 use table::columns::FLIGHT_WIDE;
 use table::columns::GUEST;
 use table::columns::GUEST_WIDE;
 use table::columns::ID;
 use table::columns::LIMIT;
+use table::columns::LISTCREDIT;
 use table::columns::LNEXT;
 use table::columns::LTAG;
 use table::columns::RESERVATION;
@@ -164,7 +166,7 @@ pub fn follow(guests: &mut [u64], guest: u64, rtag: u64, ltag: u64, stag: u64)
     guests[g * GUEST_WIDE + SNEXT] = stag + s;
 }
 
-// At opening: each guest has its three settings, and its next numbers are 0.
+// At opening: each guest has its four settings, and its next numbers are 0.
 pub fn start(guests: &mut [u64], settings: &[u64], known: usize)
     requires { ⌜ (known * guestWide ≤ length (now guests)) × (known * settingsWide ≤ length (now settings)) ⌝ }
     ensures { λ _. ⌜ now (guests .exit) ≡ started (now (settings .entry)) known (now (guests .entry)) ⌝ }
@@ -174,12 +176,14 @@ pub fn start(guests: &mut [u64], settings: &[u64], known: usize)
         let reservation = settings[i * SETTINGS_WIDE + RESERVATION];
         let limit = settings[i * SETTINGS_WIDE + LIMIT];
         let shares = settings[i * SETTINGS_WIDE + SHARES];
+        let credit = settings[i * SETTINGS_WIDE + LISTCREDIT];
         guests[i * GUEST_WIDE + RESERVATION] = reservation;
         guests[i * GUEST_WIDE + LIMIT] = limit;
         guests[i * GUEST_WIDE + SHARES] = shares;
         guests[i * GUEST_WIDE + RNEXT] = 0;
         guests[i * GUEST_WIDE + LNEXT] = 0;
         guests[i * GUEST_WIDE + SNEXT] = 0;
+        guests[i * GUEST_WIDE + CREDIT] = credit;
         i += 1;
     }
 }

@@ -4,6 +4,8 @@ use Rattle.rules.proofs.Arrived.{step-described, step-once}
 use Rattle.rules.proofs.StepSound.{step-sound}
 use Rattle.rules.proofs.TurnAt.{demand-3-places, no-place-no-send}
 use Rattle.rules.proofs.Readings.{readings}
+use Rattle.rules.proofs.Credit.{credit-0}
+use Rattle.rules.proofs.Bursts.{bursts}
 use Rattle.rules.proofs.WakeFits.{accepted-wakes, accepted-none, wakes-once}
 use Rattle.gate.specs.Promise.{Lending, numbers}
 use Rattle.gate.proofs.Lending.{Lawful, numbers-lawful}
@@ -23,6 +25,7 @@ use Rattle.host.proofs.Runs.{through-exactly, through-open-exactly, through-ope
 use Rattle.host.proofs.Wakes.{through-wakes, through-refused-wakes, through-opening-wakes, through-refused-opening-wakes}
 use Rattle.trace.proofs.HeaderExactly.{header-exactly}
 use Rattle.trace.proofs.LineExactly.{line-exactly, line-numbers, table-sound}
+use Rattle.trace.proofs.NoCredit.{no-credit}
 use Rattle.trace.proofs.Order.{trace-in-order}
 use Rattle.trace.proofs.Demand3.{trace-demand-3-places}
 use Rattle.batch.proofs.Exactly.{batch-exactly}
@@ -48,7 +51,9 @@ rules-kept =
       wakes = accepted-wakes;
       wakes-none = accepted-none;
       wakes-once = wakes-once;
+      credit-0 = credit-0;
       readings = readings;
+      bursts = bursts;
     }
 
 lent-kept : (v : Lending) (lawful : Lawful v) → OverLent v lawful
@@ -113,6 +118,7 @@ trace-kept =
       line-exactly = line-exactly;
       line-numbers = line-numbers;
       table-sound = table-sound;
+      no-credit = no-credit;
       in-order = trace-in-order;
       demand-3 = trace-demand-3-places;
     }

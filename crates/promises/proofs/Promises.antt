@@ -2,16 +2,17 @@
 -- `called` and `opened` (crates/gate/specs/Promise.antt); what these say is here. Kept.antt has its one inhabitant.
 use Prim.Native.Nat.{ℕ, _+_, _*_, _^_, _≤_, _<_}
 use mathlib.Core.Path.{_≡_}
-use mathlib.Core.Bool.{true, false, not}
+use mathlib.Core.Bool.{Bool, true, false, not}
 use mathlib.Core.List.{List, [], _++_, map}
 use mathlib.Core.Logic.{_↔_, _⊎_}
 use lib.ListN.{length, take, drop}
-use Rattle.lists.specs.Words.{all}
-use Rattle.rules.specs.Tables.{Table}
+use Rattle.lists.specs.Words.{if_then_else_, all}
+use Rattle.rules.specs.Numbers.{tagAt}
+use Rattle.rules.specs.Tables.{Table, owner}
 use Rattle.rules.specs.Sound.{sound}
 use Rattle.rules.specs.Answers.{shown, taken}
 use Rattle.rules.specs.Choice.{Result}
-use Rattle.rules.specs.Events.{moment, enter}
+use Rattle.rules.specs.Events.{moment, shareTag, enter}
 use Rattle.rules.specs.Chosen.{Chosen}
 use Rattle.rules.specs.Arrived.{Entered}
 use Rattle.rules.specs.Refusals.{accept, judged, accepted}
@@ -23,6 +24,7 @@ use Rattle.rules.specs.TurnAt.{DueAt, InTurnAt}
 use Rattle.rules.specs.Waking.{told}
 use Rattle.rules.specs.Woken.{Wakes}
 use Rattle.rules.specs.declared.Settings.{Settings}
+use Rattle.rules.specs.declared.Guest.{Guest}
 use Rattle.rules.specs.declared.Event.{Event}
 use Rattle.rules.specs.declared.Phase.{Phase}
 use Rattle.rules.specs.declared.Gate.{Gate}
@@ -33,6 +35,7 @@ use Rattle.rules.specs.declared.Answer.the-variants.{Nothing, Sent, Refused}
 use Rattle.rules.specs.declared.Wake.{Wake}
 use Rattle.rules.specs.declared.Wake.the-variants.{Never}
 use Rattle.rules.proofs.Readings.{Readings}
+use Rattle.rules.proofs.Bursts.{Bursts}
 use Rattle.rules.proofs.Trials.{X}
 use Rattle.table.specs.Columns.{settingsWide}
 use Rattle.gate.specs.Promise.{Lending, numbers, HandedIn, tableIn, seenIn, shortIn, soundIn, unchangedIn, calledIn, settingsIn, openShortIn, unopened, openedIn, opened}
@@ -69,7 +72,8 @@ use Rattle.book.proofs.Sums.{WaitsAre}
 
 -- ON THE RULES
 
--- an accepted event in plain facts, which fit one outcome only, demand 3, and when to wake, in plain facts that fit one value only
+-- an accepted event in plain facts, which fit one outcome only, demand 3, and when to wake, in plain facts that fit one value only; document 02, K6: "Credit
+-- 0 is the rule of K3"
 pub record OnTheRules : Type 0 where
   pub described : (t : Table) (e : Event) → accepted t e ≡ true → (u : Table) × Entered t e u × Chosen u (step t e)
   pub once : (t : Table) (e : Event) (u : Table) (r : Result) → accepted t e ≡ true → Entered t e u → Chosen u r → r ≡ step t e
@@ -80,7 +84,9 @@ pub record OnTheRules : Type 0 where
   pub wakes-none : (t : Table) (e : Event) → accepted t e ≡ true
       → (told (step t e) ≡ Never) ↔ ((step t e .table .setup .depth ≤ length (step t e .table .flight)) ⊎ (step t e .table .waiting ≡ []))
   pub wakes-once : (t : Table) → sound t ≡ true → (w x : Wake) → Wakes t w → Wakes t x → w ≡ x
+  pub credit-0 : (now : ℕ) (h : Guest) → h .settings .credit ≡ 0 → (idle : Bool) → shareTag idle now h ≡ (if idle then now else tagAt now (h .snext))
   pub readings : Readings
+  pub bursts : Bursts
 
 -- OVER LENT TABLES, in a way of lending guests
 
@@ -175,6 +181,8 @@ pub record OfATrace : Type 0 where
       → RefusedExactly (lineCases (tableAt bs k) (bytesAt bs k)) (λ n. shown (answerAt bs k) ≡ X n) (taken (answerAt bs k) ≡ true)
   pub line-numbers : (bs : List ℕ) → NoneHolds (headerCases bs) → (k : ℕ) → k * 14 < length (eventBytes bs) → (n : ℕ) → shown (answerAt bs k) ≡ X n → 3 < n
   pub table-sound : (bs : List ℕ) → NoneHolds (headerCases bs) → (k : ℕ) → sound (tableAt bs k) ≡ true
+  -- a trace of version 1 says no credit, so no guest has one
+  pub no-credit : (bs : List ℕ) (k g : ℕ) → (owner ((tableAt bs k) .guests) g) .settings .credit ≡ 0
   pub in-order : (g : ℕ) (bs : List ℕ) → acceptedIds g (readsOf (eventBytes bs)) (answersOf bs) ≡ left g (answersOf bs) ++ waits g (tableAt bs (whole (eventBytes bs)))
   pub demand-3 : (bs : List ℕ) → NoneHolds (headerCases bs) → (k : ℕ) → k ≤ whole (eventBytes bs) → (i : ℕ) → DueAt (tableAt bs k) i → InTurnAt (tableAt bs k) i (freeFrom bs k)
 

@@ -13,6 +13,7 @@ use denote.Laws.{Is, Tells, Copy, Makes}
 use denote.Slice.{Room}
 use denote.Struct.Laws as LL
 use Rattle.rules.specs.declared.Guest.{Guest}
+use Rattle.table.specs.Columns.{guestWide}
 use Rattle.rules.proofs.Guest as G
 use Rattle.rules.proofs.Guest.Laws as G′
 use Rattle.lent.proofs.ByValue.{ByValue}
@@ -30,8 +31,12 @@ val = LL.val G.the-type G′.the-laws
 pub tells : Tells Rec (Is Rec) vals
 tells = LL.tells G.the-type G′.the-laws
 
+-- how many bytes a record has: eight for each of its numbers
+abbrev pub bytes : ℕ
+bytes = 8 * guestWide
+
 -- the place of an element fits a word
-pub place-fits : (n i : ℕ) → Room Rec n → i < n → i * 48 < 2 ^ 64
+pub place-fits : (n i : ℕ) → Room Rec n → i < n → i * bytes < 2 ^ 64
 place-fits n i r l = omega (arith, r .1)
 
 module _ {M : Type 1} (𝓤 : URA M) (H : Heap 𝓤) (A : Atoms 𝓤) (W : Given 𝓤 H A) where

@@ -8,7 +8,7 @@ use Rattle.table.specs.View.{Handed}
 
 -- the record that stands where none is lent
 abbrev pub blank : Guest
-blank = record { settings = record { reservation = 0; limit = 0; shares = 0 }; rnext = 0; lnext = 0; snext = 0 }
+blank = record { settings = record { reservation = 0; limit = 0; shares = 0; credit = 0 }; rnext = 0; lnext = 0; snext = 0 }
 
 -- how many of the lent records a call looks at: no more than the settings ask for, than are lent, and than there may be guests
 abbrev pub inUse : (wanted lent : ℕ) → ℕ

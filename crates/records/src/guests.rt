@@ -2,6 +2,7 @@
 // stand in a lent list of numbers, a row for each record.
 use rules::Guest;
 use rules::Settings;
+use table::columns::CREDIT;
 use table::columns::GUEST_WIDE;
 use table::columns::LIMIT;
 use table::columns::LNEXT;
@@ -66,6 +67,7 @@ pub fn put_row(rows: &mut [u64], at: usize, guest: Guest)
     rows[at * GUEST_WIDE + RNEXT] = guest.rnext;
     rows[at * GUEST_WIDE + LNEXT] = guest.lnext;
     rows[at * GUEST_WIDE + SNEXT] = guest.snext;
+    rows[at * GUEST_WIDE + CREDIT] = guest.settings.credit;
 }
 
 // The record that a row of numbers holds.
@@ -78,6 +80,7 @@ pub fn row_at(rows: &[u64], at: usize) -> Guest
             reservation: rows[at * GUEST_WIDE + RESERVATION],
             limit: rows[at * GUEST_WIDE + LIMIT],
             shares: rows[at * GUEST_WIDE + SHARES],
+            credit: rows[at * GUEST_WIDE + CREDIT],
         },
         rnext: rows[at * GUEST_WIDE + RNEXT],
         lnext: rows[at * GUEST_WIDE + LNEXT],

@@ -35,7 +35,7 @@ pub fn call(
     r
 }
 
-// Opening: the lent tables become a fresh table of these settings, three numbers a guest.
+// Opening: the lent tables become a fresh table of these settings, four numbers a guest.
 pub fn open(
     depth: u64,
     known: u64,

@@ -15,7 +15,7 @@ use Rattle.lists.specs.WordsLaws.{both, all-at, places-all, all-filter, none-le
 use Rattle.lists.specs.Tab.{removeAt, lt-or-le}
 use Rattle.rules.specs.Tables.{Guest, Request, Flight, Table, reserved, limited, rspacing, lspacing, sspacing, nobodys, owner, of, mine, idle, name, same}
 use Rattle.rules.specs.Sound.{kept, sound}
-use Rattle.rules.specs.Events.{Arriving, Event, Arrival, Completion, Tick, smallest, shifted, shiftedNext, adjusted, tagIf, shareTag, stamped, following, placed, stampedFor, arriveAs, arrive, complete, wait, enter}
+use Rattle.rules.specs.Events.{Arriving, Event, Arrival, Completion, Tick, smallest, shifted, shiftedNext, adjusted, tagIf, back, shareTag, stamped, following, placed, stampedFor, arriveAs, arrive, complete, wait, enter}
 use Rattle.rules.specs.Refusals.{tests, eventTests, accepted}
 use Rattle.rules.specs.Choice.{Result, choice}
 use Rattle.rules.specs.Run.{step}
@@ -24,6 +24,7 @@ use Rattle.rules.specs.Arrived.{Idle, Busy, Smallest, Moved, Given, arri
 use Rattle.rules.proofs.Judged.{passed}
 use Rattle.rules.proofs.Conditions.{same-is}
 use Rattle.rules.proofs.Chains.{kept-above}
+use Rattle.rules.proofs.Credit.{back-is, back-once}
 use Rattle.rules.proofs.SameSettings.{same-count, same-owner, adjusted-settings, enter-settings}
 use Rattle.rules.proofs.Facts.{Sound, orderly-is, is-sound}
 use Rattle.rules.proofs.ArriveSound.{adjusted-length, adjusted-owner}
@@ -242,8 +243,8 @@ arrived t a now h =
       share-nexts-stay = nexts-stay t now a b refl;
       reservation-tag = given-is (reserved (x .settings)) now (x .rnext) ((lastOf t (arriveAs b now a t)) .rtag) (ap Request.rtag last);
       limit-tag = given-is (limited (x .settings)) now (x .lnext) ((lastOf t (arriveAs b now a t)) .ltag) (ap Request.ltag last);
-      share-tag = λ u. ap Request.stag last ∙ rw (is-busy t (a .guest) u);
-      share-tag-idle = λ d. ap Request.stag last ∙ rw (is-idle t (a .guest) d);
+      share-tag = λ n z u. ap Request.stag last ∙ rw (is-busy t (a .guest) u, sym (back-once now (x .settings) n z));
+      share-tag-idle = λ n z d. ap Request.stag last ∙ rw (is-idle t (a .guest) d, sym (back-once now (x .settings) n z));
       reservation-next = ap Guest.rnext own ∙ ap (λ (q : Request). q .rtag + rspacing (x .settings) q) (sym last);
       limit-next = ap Guest.lnext own ∙ ap (λ (q : Request). q .ltag + lspacing (x .settings) q) (sym last);
       share-next = ap Guest.snext own ∙ ap (λ (q : Request). q .stag + sspacing (x .settings) q) (sym last);
@@ -285,8 +286,14 @@ module _ (t : Table) (a : Arriving) (now : ℕ) (u v : Table) (x : Arrived t a n
 
   -- the same share tag of the new one
   same-share : (b : Bool) → idle t (a .guest) ≡ b → (lastOf t u) .stag ≡ (lastOf t v) .stag
-  same-share true e = let d = idle-is t (a .guest) e in x .share-tag-idle d ∙ sym (y .share-tag-idle d)
-  same-share false e = let d = busy-is t (a .guest) e in x .share-tag d ∙ sym (y .share-tag d)
+  same-share true e =
+      let d = idle-is t (a .guest) e in
+      let s = (arrivesAt t a) .settings in
+      x .share-tag-idle (back now s) (back-is now s) d ∙ sym (y .share-tag-idle (back now s) (back-is now s) d)
+  same-share false e =
+      let d = busy-is t (a .guest) e in
+      let s = (arrivesAt t a) .settings in
+      x .share-tag (back now s) (back-is now s) d ∙ sym (y .share-tag (back now s) (back-is now s) d)
 
   -- and the same request at each place
   same-last : lastOf t u ≡ lastOf t v

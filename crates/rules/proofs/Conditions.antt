@@ -8,7 +8,7 @@ use lib.Dec.{ltb, leb, eqb}
 use borrow.Author.Tests.{ltb-true, ltb-false, lt-ltb, le-ltb, leb-true, leb-false, le-leb, lt-leb, eqb-true, eqb-false, eq-eqb, ne-eqb, not-true, not-false}
 use Rattle.lists.specs.Words.{all}
 use Rattle.lists.specs.WordsLaws.{both, join, either-fails, left-fails, right-fails, all-of-map, all-each, each-all, all-but, but-all}
-use Rattle.rules.specs.Numbers.{ceiling, within}
+use Rattle.rules.specs.Numbers.{ceiling, mostCredit, within}
 use Rattle.rules.specs.Tables.{Settings, Request, Flight, Table, limited, same, lacks}
 use Rattle.rules.specs.Sound.{counted, settled, lawful}
 use Rattle.rules.specs.Events.{Arriving, smallest, shifted, adjusted, stampedFor}
@@ -150,18 +150,23 @@ settled-good s = (to, back)
     w : Bool
     w = within 1 1000000 (s .shares)
 
+    c : Bool
+    c = leb (s .credit) mostCredit
+
     a : Bool
     a = not (limited s) || leb (s .reservation) (s .limit)
 
-    to : r && l && w && a ≡ true → Good s
+    to : r && l && w && c && a ≡ true → Good s
     to h =
-        let p = both (r && l && w) a h in
-        let q = both (r && l) w (p .0) in
+        let p = both (r && l && w && c) a h in
+        let m = both (r && l && w) c (p .0) in
+        let q = both (r && l) w (m .0) in
         let o = both r l (q .0) in
         record {
           reservations = leb-true (s .reservation) 1000000 (o .0);
           limits = leb-true (s .limit) 1000000 (o .1);
           share-count = within-means 1 1000000 (s .shares) .0 (q .1);
+          credits = leb-true (s .credit) mostCredit (m .1);
           not-above = λ k. leb-true (s .reservation) (s .limit) (rw (lt-ltb 0 (s .limit) k) at (p .1));
         }
 
@@ -169,10 +174,12 @@ settled-good s = (to, back)
     beside g true e = le-leb (s .reservation) (s .limit) (g .not-above (ltb-true 0 (s .limit) e))
     beside g false e = refl
 
-    back : Good s → r && l && w && a ≡ true
+    back : Good s → r && l && w && c && a ≡ true
     back g =
         join
+        (join
         (join (join (le-leb (s .reservation) 1000000 (g .reservations)) (le-leb (s .limit) 1000000 (g .limits))) (within-means 1 1000000 (s .shares) .1 (g .share-count)))
+        (le-leb (s .credit) mostCredit (g .credits)))
         (beside g (limited s) refl)
 
 -- the settings of all guests are good, or there are some that are not

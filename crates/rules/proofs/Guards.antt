@@ -1,5 +1,5 @@
--- More readings, as one table under a single statement: document 01's unmarked ones, and small runs that shut out its plausible errors; share tags at
--- an idle guest by document 02, K3.
+-- More readings, as one table under a single statement: document 01's unmarked ones, and small runs that shut out its plausible errors. No guest here
+-- has credit, so share tags are by document 02, K3; Bursts.antt has runs with credit.
 -- Assumes nothing.
 use mathlib.Core.Path.{_≡_, refl, ap, _∙_}
 use mathlib.Core.List.{List, [], _∷_, map}

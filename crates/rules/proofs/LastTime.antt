@@ -1,34 +1,35 @@
 -- Document 02, K3: "The 2^62 − 1 case of 01 is refused 9 only while the first request still waits or the guest has a reservation or a limit", exactly and
--- from any sound table: a second arrival of a guest at the ceiling, at once, or after any run of other events. Assumes nothing.
+-- from any sound table: a second arrival of a guest at the ceiling, at once, or after any run of other events. K6: the "case is for credit 0", of the guest
+-- itself at once, and of every guest after a run: Bursts.antt has one where it is refused 9 for another guest's credit. Assumes nothing.
 use mathlib.Core.Path.{_≡_, refl, sym, ap, _∙_}
 use mathlib.Core.Bool.{Bool, true, false, not, true≢false, false≢true}
 use mathlib.Core.List.{List, [], _∷_, _++_, map, append-nil, List·Memᴰ, List·Memᴰ·head, List·Memᴰ·tail}
 use mathlib.Core.Logic.{_↔_, _⊎_, inl, inr, ⊎-elim}
-use Prim.Native.Nat.{ℕ, suc, _+_, _-_, _≤_, _<_, max}
+use Prim.Native.Nat.{ℕ, suc, _+_, _-_, _≤_, _<_, max, min}
 use native.Mathlib.Omega.{arith}
 use native.Mathlib.Nat.{div-lt-iff-lt-mul}
 use lib.Dec.{leb, eqb}
-use lib.ListN.{length, getD, drop, length-append}
+use lib.ListN.{length, getD, drop, length-append, List·getD-eq-default}
 use borrow.Author.Tests.{leb-true, leb-false, le-leb, ltb-true, lt-ltb, eqb-true, eq-eqb, not-true}
 use Rattle.lists.specs.Words.{if_then_else_, all, empty}
 use Rattle.lists.specs.WordsLaws.{both, join, all-append, all-map, all-mid, all-at, all-same, all-each}
 use Rattle.lists.specs.Tab.{lt-or-le}
 use Rattle.rules.specs.Numbers.{ceiling, second, down, up}
-use Rattle.rules.specs.Tables.{Guest, Request, Flight, Table, reserved, limited, owner, settingsOf, of, mine, idle, name, names}
+use Rattle.rules.specs.Tables.{Settings, Guest, Request, Flight, Table, reserved, limited, nobodys, owner, settingsOf, of, mine, idle, name, names}
 use Rattle.rules.specs.Sound.{counted, settled, ranges, lawful, sound}
-use Rattle.rules.specs.Events.{Arriving, Event, Arrival, Completion, Tick, moment, calledBy, smallest, shifted, adjusted, shareTag, stamped, placed, stampedFor, arriveAs, arrive, complete, wait, enter}
+use Rattle.rules.specs.Events.{Arriving, Event, Arrival, Completion, Tick, moment, calledBy, smallest, shifted, adjusted, busyTag, shareTag, stamped, placed, stampedFor, arriveAs, arrive, complete, wait, enter}
 use Rattle.rules.specs.Refusals.{tests, eventTests, accepted}
 use Rattle.rules.specs.Refused.{FirstOf, Passing, given, moved, Good, eventCases, callCases}
 use Rattle.rules.specs.Choice.{nobody, least, dueAt, due, sending, earlier, sooner, dropOf, dropped, choice}
 use Rattle.rules.specs.Run.{step, after, answers}
 use Rattle.rules.specs.Order.{waits, brings, sends, came, left}
 use Rattle.rules.specs.Chosen.{blank, at}
-use Rattle.rules.specs.Arrived.{Idle, Busy, Smallest, Arrived, arrivesAt, lastOf}
+use Rattle.rules.specs.Arrived.{Idle, Busy, Smallest, Back, Arrived, arrivesAt, lastOf}
 use Rattle.rules.specs.declared.Answer.{Answer}
 use Rattle.rules.specs.declared.Answer.the-variants.{Nothing, Sent, Refused}
 use Rattle.rules.proofs.Judged.{passed}
 use Rattle.rules.proofs.Conditions.{settled-good}
-use Rattle.rules.proofs.SameSettings.{same-count, choice-settings, enter-settings}
+use Rattle.rules.proofs.SameSettings.{same-count, same-owner, choice-settings, enter-settings, step-settings}
 use Rattle.rules.proofs.Facts.{Sound, is-sound, lawful-is}
 use Rattle.rules.proofs.Firsts.{passes-all}
 use Rattle.rules.proofs.Picks.{Goes, due-goes, open-goes, none-ok}
@@ -40,6 +41,7 @@ use Rattle.rules.proofs.StepSound.{accepted-step, refused-keeps}
 use Rattle.rules.proofs.Bounds.{choice-time}
 use Rattle.rules.proofs.Cases.{choice-by}
 use Rattle.rules.proofs.InOrder.{step-waits, in-order}
+use Rattle.rules.proofs.Credit.{back-is, back-0, not-before}
 use Rattle.rules.proofs.Arrived.{idle-is, busy-is, is-idle, is-busy, smallest-is, arrived}
 use Rattle.rules.proofs.Answered.{Prints, refused-exactly}
 
@@ -54,6 +56,14 @@ pub record StillWaits (u : Table) (f : Flight) : Type 0 where
 -- document 02, K3: "the guest has a reservation or a limit"
 abbrev pub Held : Table → ℕ → Type 0
 Held u g = (0 < (owner (u .guests) g) .settings .reservation) ⊎ (0 < (owner (u .guests) g) .settings .limit)
+
+-- document 02, K6: guest g has "credit 0"
+abbrev pub NoCredit : Table → ℕ → Type 0
+NoCredit u g = (owner (u .guests) g) .settings .credit ≡ 0
+
+-- every guest has it
+abbrev pub NoneCredited : Table → Type 0
+NoneCredited u = (g : ℕ) → g < length (u .guests) → NoCredit u g
 
 -- another request of the guest that a comes from
 abbrev pub another : Arriving → ℕ → Arriving
@@ -85,6 +95,20 @@ good-own t s g h =
     let c = both (counted (t .setup .depth) (length (t .guests)) (t .setup .capacity)) (all f (t .guests)) (s .in-range) in
     settled-good ((owner (t .guests) g) .settings) .0 (all-at f (t .guests) _ (c .1) g h)
 
+-- with credit 0 share tags do not lie back
+at-once : {s : Settings} {now : ℕ} → s .credit ≡ 0 → Back s now now
+at-once {s} {now} e = rw (back-0 now s e) at (back-is now s)
+
+-- where no guest has credit, a number that no guest has does not either
+none-credited : (t : Table) → NoneCredited t → (g : ℕ) → NoCredit t g
+none-credited t free g =
+    ⊎-elim (free g) (λ l. ap (λ (h : Guest). h .settings .credit) (List·getD-eq-default (t .guests) nobodys l)) (lt-or-le g (length (t .guests)))
+
+-- and so after an event
+step-free : (t : Table) (e : Event) → NoneCredited t → NoneCredited ((step t e) .table)
+step-free t e free g h =
+    ap Settings.credit (same-owner ((step t e) .table) t (step-settings t e) g) ∙ none-credited t free g
+
 -- NEXT NUMBERS PAST THE CEILING
 
 -- the next numbers that a guest has lie past the ceiling
@@ -105,8 +129,9 @@ record Last (g : ℕ) (u : Table) : Type 0 where
   past : PastOf g u
 
 -- the first arrival makes them so
-first-past : (t : Table) (a : Arriving) → accepted t (Arrival a ceiling) ≡ true → a .guest < length (t .guests) → PastOf (a .guest) (enter t (Arrival a ceiling))
-first-past t a h k =
+first-past : (t : Table) (a : Arriving) → NoCredit t (a .guest) → accepted t (Arrival a ceiling) ≡ true → a .guest < length (t .guests)
+    → PastOf (a .guest) (enter t (Arrival a ceiling))
+first-past t a free h k =
     let x = arrived t a ceiling h in
     let u = enter t (Arrival a ceiling) in
     let o = good-own t (accepted-finds t (Arrival a ceiling) h) (a .guest) k in
@@ -123,8 +148,8 @@ first-past t a h k =
     }
   where
     late : (b : Bool) → idle t (a .guest) ≡ b → Arrived t a ceiling (enter t (Arrival a ceiling)) → ceiling ≤ (lastOf t (enter t (Arrival a ceiling))) .stag
-    late true e x = omega (arith, x .share-tag-idle (idle-is t (a .guest) e))
-    late false e x = omega (arith, x .share-tag (busy-is t (a .guest) e))
+    late true e x = omega (arith, x .share-tag-idle ceiling (at-once free) (idle-is t (a .guest) e))
+    late false e x = omega (arith, x .share-tag ceiling (at-once free) (busy-is t (a .guest) e))
 
 -- the smallest share tag is no larger than the ceiling
 smallest-fits : (t : Table) → Sound t → (m : ℕ) → Smallest t m → m ≤ ceiling
@@ -241,9 +266,9 @@ step-last g u e l b = go (accepted u e) refl
         })
 
 -- the first arrival
-first-last : (t : Table) (a : Arriving) → accepted t (Arrival a ceiling) ≡ true → Last (a .guest) ((step t (Arrival a ceiling)) .table)
+first-last : (t : Table) (a : Arriving) → NoCredit t (a .guest) → accepted t (Arrival a ceiling) ≡ true → Last (a .guest) ((step t (Arrival a ceiling)) .table)
 unfolding eventTests
-first-last t a h =
+first-last t a free h =
     let e = Arrival a ceiling in
     let u = enter t e in
     let s = enter-sound t e h in
@@ -253,7 +278,7 @@ first-last t a h =
       is-sound = choice-sound u s;
       last-time = choice-time u ∙ enter-time t e;
       known = omega (arith, k, same-count u t (enter-settings t e), same-count ((choice u) .table) u (choice-settings u));
-      past = choice-past (a .guest) u s (enter-time t e) (first-past t a h k);
+      past = choice-past (a .guest) u s (enter-time t e) (first-past t a free h k);
     })
 
 -- two lists that are empty together are so one by one
@@ -275,25 +300,29 @@ run-last g (e ∷ es) u l n =
 abbrev high : Request → Bool
 high q = leb ceiling (q .stag)
 
--- an arrival at the ceiling brings a share tag there, and at an idle guest it moves all others there
-arrive-high : (t : Table) (a : Arriving) (b : Bool) → (b ≡ false → all high (t .waiting) ≡ true) → all high ((arriveAs b ceiling a t) .waiting) ≡ true
-unfolding arriveAs placed adjusted shifted stamped shareTag
-arrive-high t a false h =
-    all-append high (t .waiting) (stampedFor false ceiling a t ∷ []) (h refl)
-    (join (le-leb ceiling (max ((arrivesAt t a) .snext) ceiling) (omega arith)) refl)
-arrive-high t a true h =
+-- an arrival at the ceiling of a guest without credit brings a share tag there, and at an idle guest it moves all others there
+stamped-high : (t : Table) (a : Arriving) (b : Bool) → NoCredit t (a .guest) → all high (stampedFor b ceiling a t ∷ []) ≡ true
+unfolding stamped
+stamped-high t a b free =
+    let h = arrivesAt t a in
+    join (le-leb ceiling (shareTag b ceiling h) (omega (arith, back-0 ceiling (h .settings) free, not-before ceiling h b))) refl
+
+arrive-high : (t : Table) (a : Arriving) (b : Bool) → NoCredit t (a .guest) → (b ≡ false → all high (t .waiting) ≡ true) → all high ((arriveAs b ceiling a t) .waiting) ≡ true
+unfolding arriveAs placed adjusted shifted
+arrive-high t a false free h = all-append high (t .waiting) (stampedFor false ceiling a t ∷ []) (h refl) (stamped-high t a false free)
+arrive-high t a true free h =
     let f = shifted ceiling (smallest t) in
     all-append high (map f (t .waiting)) (stampedFor true ceiling a t ∷ [])
     (all-map (λ q. leb (smallest t) (q .stag)) high f
     (λ q e. le-leb ceiling (q .stag + ceiling - smallest t) (omega (arith, leb-true (smallest t) (q .stag) e))) (t .waiting) (smallest-all t))
-    (join (le-leb ceiling ceiling (omega arith)) refl)
+    (stamped-high t a true free)
 
 -- any event at the ceiling leaves them there
-enter-high : (t : Table) (e : Event) → moment e ≡ ceiling → all high (t .waiting) ≡ true → all high ((enter t e) .waiting) ≡ true
+enter-high : (t : Table) (e : Event) → NoneCredited t → moment e ≡ ceiling → all high (t .waiting) ≡ true → all high ((enter t e) .waiting) ≡ true
 unfolding enter arrive complete wait
-enter-high t (Arrival a now) c h = rw c (arrive-high t a (idle t (a .guest)) (λ z. h))
-enter-high t (Completion f now) c h = h
-enter-high t (Tick now) c h = h
+enter-high t (Arrival a now) free c h = rw c (arrive-high t a (idle t (a .guest)) (none-credited t free (a .guest)) (λ z. h))
+enter-high t (Completion f now) free c h = h
+enter-high t (Tick now) free c h = h
 
 -- what stays of them when one goes
 stays-high : (t : Table) (p : Request) (v : List Request) → Goes t p v → all high (t .waiting) ≡ true → all high v ≡ true
@@ -312,28 +341,30 @@ choice-high t s h =
     (λ p v f e. stays-high t p v (due-goes t s p v e) h)
     (λ p v f n e. dropped-high p (sending t p v) ∙ stays-high t p v (open-goes t s p v e) h)
 
-step-high : (g : ℕ) (u : Table) (e : Event) → Last g u → all high (u .waiting) ≡ true → all high (((step u e) .table) .waiting) ≡ true
-step-high g u e l h = go (accepted u e) refl
+step-high : (g : ℕ) (u : Table) (e : Event) → Last g u → NoneCredited u → all high (u .waiting) ≡ true → all high (((step u e) .table) .waiting) ≡ true
+step-high g u e l free h = go (accepted u e) refl
   where
     go : (c : Bool) → accepted u e ≡ c → all high (((step u e) .table) .waiting) ≡ true
     go false a = rw (refused-keeps u e a) h
     go true a =
         let m : moment e ≡ ceiling = omega (arith, accepted-fits u e a, accepted-later u e a, l .last-time) in
-        rw (accepted-step u e a) (choice-high (enter u e) (enter-sound u e a) (enter-high u e m h))
+        rw (accepted-step u e a) (choice-high (enter u e) (enter-sound u e a) (enter-high u e free m h))
 
-run-high : (g : ℕ) (es : List Event) (u : Table) → Last g u → came g u es ≡ [] → all high (u .waiting) ≡ true → all high ((after u es) .waiting) ≡ true
+run-high : (g : ℕ) (es : List Event) (u : Table) → Last g u → NoneCredited u → came g u es ≡ [] → all high (u .waiting) ≡ true
+    → all high ((after u es) .waiting) ≡ true
 unfolding came after
-run-high g [] u l n h = h
-run-high g (e ∷ es) u l n h =
+run-high g [] u l free n h = h
+run-high g (e ∷ es) u l free n h =
     let p = none-both (if accepted u e then brings g e else []) (came g ((step u e) .table) es) n in
-    run-high g es ((step u e) .table) (step-last g u e l (p .0)) (p .1) (step-high g u e l h)
+    run-high g es ((step u e) .table) (step-last g u e l (p .0)) (step-free u e free) (p .1) (step-high g u e l free h)
 
 -- after the first arrival, where it came to an idle guest
-first-high : (t : Table) (a : Arriving) → accepted t (Arrival a ceiling) ≡ true → idle t (a .guest) ≡ true → all high (((step t (Arrival a ceiling)) .table) .waiting) ≡ true
+first-high : (t : Table) (a : Arriving) → NoCredit t (a .guest) → accepted t (Arrival a ceiling) ≡ true → idle t (a .guest) ≡ true
+    → all high (((step t (Arrival a ceiling)) .table) .waiting) ≡ true
 unfolding enter arrive
-first-high t a h d =
+first-high t a free h d =
     rw (accepted-step t (Arrival a ceiling) h)
-    (choice-high (enter t (Arrival a ceiling)) (enter-sound t (Arrival a ceiling) h) (arrive-high t a (idle t (a .guest)) (λ z. absurd (true≢false (sym d ∙ z)))))
+    (choice-high (enter t (Arrival a ceiling)) (enter-sound t (Arrival a ceiling) h) (arrive-high t a (idle t (a .guest)) free (λ z. absurd (true≢false (sym d ∙ z)))))
 
 -- THE SECOND ARRIVAL
 
@@ -418,7 +449,7 @@ module _ (u : Table) (a : Arriving) (i : ℕ) (l : Last (a .guest) u) where
       go false e r = absurd (omega arith)
   only-if (inr h) (given (inr (inr r))) = inl (go (idle u (a .guest)) refl r)
     where
-      go : (b : Bool) → idle u (a .guest) ≡ b → ceiling < (if b then ceiling else max (guest .snext) ceiling) → Busy u (a .guest)
+      go : (b : Bool) → idle u (a .guest) ≡ b → ceiling < (if b then min ceiling (busyTag ceiling guest) else busyTag ceiling guest) → Busy u (a .guest)
       go true e r = absurd (omega arith)
       go false e r = busy-is u (a .guest) e
   only-if (inr h) (moved d q m r) =
@@ -511,27 +542,30 @@ module _ (t : Table) (a : Arriving) (first : accepted t (Arrival a ceiling) ≡ 
     not-idle : StillWaits (after begun es) (calledBy a) → Busy (after begun es) (a .guest)
     not-idle w = record { place = w .place; inside = w .inside; its-own = ap Flight.guest (w .its-name) }
 
-    exactly : Busy (after begun es) (a .guest) ⊎ (all high ((after begun es) .waiting) ≡ true) → (i : ℕ) → MayCome (after begun es) (another a i)
+    exactly : NoCredit t (a .guest) → Busy (after begun es) (a .guest) ⊎ (all high ((after begun es) .waiting) ≡ true) → (i : ℕ) → MayCome (after begun es) (another a i)
         → Prints (after begun es) (Arrival (another a i) ceiling) 9 ↔ (StillWaits (after begun es) (calledBy a) ⊎ Held (after begun es) (a .guest))
-    exactly c i m =
+    exactly free c i m =
         let u = after begun es in
-        let l = run-last (a .guest) es begun (first-last t a first) alone in
+        let l = run-last (a .guest) es begun (first-last t a free first) alone in
         let r = only-nine u a i l m in
         (λ p. ⊎-elim (λ b. inl (still b)) inr (only-if u a i l c (r .0 p)), λ p. r .1 (passes-if u a i l (⊎-elim (λ w. inl (not-idle w)) inr p)))
 
-    -- A guest is idle in a sound table, and its first request is accepted at the ceiling; then comes any run of events that accepts none of this guest. A
-    -- second arrival of it there, "with a new id and room to wait", is refused 9 exactly where the first request still waits or the guest has a reservation
-    -- or a limit. In a fresh table every guest is idle.
-    pub second-later : Idle t (a .guest) → (i : ℕ) → MayCome (after begun es) (another a i)
+    -- A guest is idle in a sound table where no guest has credit, and its first request is accepted at the ceiling; then comes any run of events that accepts
+    -- none of this guest. A second arrival of it there, "with a new id and room to wait", is refused 9 exactly where the first request still waits or the
+    -- guest has a reservation or a limit. In a fresh table every guest is idle.
+    pub second-later : NoneCredited t → Idle t (a .guest) → (i : ℕ) → MayCome (after begun es) (another a i)
         → Prints (after begun es) (Arrival (another a i) ceiling) 9 ↔ (StillWaits (after begun es) (calledBy a) ⊎ Held (after begun es) (a .guest))
-    second-later d =
-        exactly (inr (run-high (a .guest) es begun (first-last t a first) alone (first-high t a first (is-idle t (a .guest) d))))
+    second-later free d =
+        let own = none-credited t free (a .guest) in
+        exactly own
+        (inr
+        (run-high (a .guest) es begun (first-last t a own first) (step-free t (Arrival a ceiling) free) alone (first-high t a own first (is-idle t (a .guest) d))))
 
-  -- The same at once after the first arrival, from any sound table, the guest idle or not.
-  pub second-at-once : (i : ℕ) → MayCome begun (another a i)
+  -- The same at once after the first arrival, from any sound table, the guest idle or not, where it has no credit itself.
+  pub second-at-once : NoCredit t (a .guest) → (i : ℕ) → MayCome begun (another a i)
       → Prints begun (Arrival (another a i) ceiling) 9 ↔ (StillWaits begun (calledBy a) ⊎ Held begun (a .guest))
   unfolding came after
-  second-at-once = go (idle t (a .guest)) refl
+  second-at-once free = go (idle t (a .guest)) refl
     where
       busy : idle t (a .guest) ≡ false → Busy begun (a .guest)
       busy e =
@@ -549,5 +583,5 @@ module _ (t : Table) (a : Arriving) (first : accepted t (Arrival a ceiling) ≡ 
 
       go : (b : Bool) → idle t (a .guest) ≡ b → (i : ℕ) → MayCome begun (another a i)
           → Prints begun (Arrival (another a i) ceiling) 9 ↔ (StillWaits begun (calledBy a) ⊎ Held begun (a .guest))
-      go true e = exactly [] refl (inr (first-high t a first e))
-      go false e = exactly [] refl (inl (busy e))
+      go true e = exactly [] refl free (inr (first-high t a free first e))
+      go false e = exactly [] refl free (inl (busy e))

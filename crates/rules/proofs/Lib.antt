@@ -34,7 +34,9 @@ pub mod Refused
 pub mod Trials
 pub mod Answered
 pub mod Guards
+pub mod Bursts
 pub mod InFlight
+pub mod Credit
 pub mod Arrived
 pub mod LastTime
 pub mod Soundness

@@ -1,4 +1,5 @@
--- Document 01's marked edge readings, as one table under a single statement; those of share tags as document 02, K3 has them. Assumes nothing.
+-- Document 01's marked edge readings, as one table under a single statement; those of share tags as document 02, K3 has them, which is credit 0.
+-- Assumes nothing.
 use mathlib.Core.Path.{_≡_, refl}
 use mathlib.Core.Bool.{Bool, true, false}
 use mathlib.Core.List.{List, [], _∷_}

@@ -1,12 +1,13 @@
 -- What an event does before the choice is made, described without computing it: document 01, "Arrival at time t", with completion and tick,
--- as facts about places; the share tag at an idle guest by document 02, K3.
+-- as facts about places; the share tag by document 02, K6.
 use mathlib.Core.Path.{_≡_}
 use mathlib.Core.Bool.{Bool, true, false}
 use mathlib.Core.Logic.{_⊎_}
-use Prim.Native.Nat.{ℕ, _+_, _≤_, _<_, max}
+use Prim.Native.Nat.{ℕ, _+_, _*_, _≤_, _<_, max, min}
 use lib.ListN.{length, getD}
 use Rattle.lists.specs.Tab.{removeAt}
-use Rattle.rules.specs.Tables.{Guest, Request, Flight, Table, reserved, limited, rspacing, lspacing, sspacing, owner, name}
+use Rattle.rules.specs.Numbers.{down}
+use Rattle.rules.specs.Tables.{Settings, Guest, Request, Flight, Table, reserved, limited, rspacing, lspacing, sspacing, owner, name}
 use Rattle.rules.specs.Events.{Arriving, Event, Arrival, Completion, Tick, calledBy}
 use Rattle.rules.specs.Chosen.{at}
 
@@ -36,6 +37,15 @@ pub record Given (has : Bool) (now next tag : ℕ) : Type 0 where
   pub larger : has ≡ true → tag ≡ max next now
   pub none : has ≡ false → tag ≡ 0
 
+-- how far back the share tags of a guest with these settings may lie, document 02, K6: "c share spacings"
+abbrev pub reach : Settings → ℕ
+reach s = s .credit * down (s .shares)
+
+-- K6: "Let b be t minus c share spacings, or 0 if that is below 0."
+pub record Back (s : Settings) (now b : ℕ) : Type 0 where
+  pub behind : reach s ≤ now → b + reach s ≡ now
+  pub cut-off : now ≤ reach s → b ≡ 0
+
 -- the guest that a request arrives at, with the next numbers that its tags are given by
 abbrev pub arrivesAt : Table → Arriving → Guest
 arrivesAt t a = owner (t .guests) (a .guest)
@@ -56,11 +66,12 @@ pub record Arrived (t : Table) (a : Arriving) (now : ℕ) (u : Table) : Type 0 w
   pub share-tags-stay : Busy t (a .guest) → (i : ℕ) → i < length (t .waiting) → (at (u .waiting) i) .stag ≡ (at (t .waiting) i) .stag
   pub share-nexts-stay : (g : ℕ) → g < length (t .guests) → (g ≡ a .guest → ⊥) → Busy t (a .guest) ⊎ Idle t g
       → (owner (u .guests) g) .snext ≡ (owner (t .guests) g) .snext
-  -- 2. "Each tag it has is the larger of the next number and t", but, document 02, K3: "the share tag of a request arriving at an idle guest is t itself"
+  -- 2. "Each tag it has is the larger of the next number and t", but the share tag by document 02, K6: "A busy guest's share tag is the larger of its next
+  -- number and b; at an idle guest it is that number too, but not later than t."
   pub reservation-tag : Given (reserved ((arrivesAt t a) .settings)) now ((arrivesAt t a) .rnext) ((lastOf t u) .rtag)
   pub limit-tag : Given (limited ((arrivesAt t a) .settings)) now ((arrivesAt t a) .lnext) ((lastOf t u) .ltag)
-  pub share-tag : Busy t (a .guest) → (lastOf t u) .stag ≡ max ((arrivesAt t a) .snext) now
-  pub share-tag-idle : Idle t (a .guest) → (lastOf t u) .stag ≡ now
+  pub share-tag : (b : ℕ) → Back ((arrivesAt t a) .settings) now b → Busy t (a .guest) → (lastOf t u) .stag ≡ max ((arrivesAt t a) .snext) b
+  pub share-tag-idle : (b : ℕ) → Back ((arrivesAt t a) .settings) now b → Idle t (a .guest) → (lastOf t u) .stag ≡ min now (max ((arrivesAt t a) .snext) b)
   -- 3. "Each next number becomes that tag plus the spacing."
   pub reservation-next : (owner (u .guests) (a .guest)) .rnext ≡ (lastOf t u) .rtag + rspacing ((arrivesAt t a) .settings) (lastOf t u)
   pub limit-next : (owner (u .guests) (a .guest)) .lnext ≡ (lastOf t u) .ltag + lspacing ((arrivesAt t a) .settings) (lastOf t u)

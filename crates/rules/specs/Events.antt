@@ -1,11 +1,11 @@
 -- Document 01, "Arrival at time t", with completion and tick: what an event does before the choice is made.
 use mathlib.Core.Bool.{Bool, true, false}
 use mathlib.Core.List.{[], _∷_, _++_, map}
-use Prim.Native.Nat.{ℕ, _+_, _-_}
+use Prim.Native.Nat.{ℕ, _+_, _-_, _*_, min}
 use lib.ListN.{set}
 use Rattle.lists.specs.Words.{if_then_else_, each, lowest, without}
-use Rattle.rules.specs.Numbers.{tagAt}
-use Rattle.rules.specs.Tables.{Guest, Request, Flight, Table, reserved, limited, rspacing, lspacing, sspacing, owner, idle, same}
+use Rattle.rules.specs.Numbers.{down, tagAt}
+use Rattle.rules.specs.Tables.{Settings, Guest, Request, Flight, Table, reserved, limited, rspacing, lspacing, sspacing, owner, idle, same}
 -- the request that an arrival brings: its guest, and its id
 pub use Rattle.rules.specs.declared.Arriving.{Arriving}
 -- "Events: an arrival (guest, 32-bit id, time), a completion (guest, id, time), a tick (time)."
@@ -51,12 +51,21 @@ adjusted true now t =
 abbrev pub tagIf : (has : Bool) (now next : ℕ) → ℕ
 tagIf has now next = if has then tagAt now next else 0
 
--- the share tag of a request of the guest h. Document 02, K3: "the share tag of a request arriving at an idle guest is t itself; busy guests keep the
--- old rule", which is the larger of the next number and t
-unfoldable pub shareTag : (idle : Bool) (now : ℕ) → Guest → ℕ
-shareTag idle now h = if idle then now else tagAt now (h .snext)
+-- Document 02, K6: "Let b be t minus c share spacings, or 0 if that is below 0." A difference of these numbers is 0 where it would be below 0
+unfoldable pub back : (now : ℕ) → Settings → ℕ
+back now s = now - s .credit * down (s .shares)
 
--- the request with its tags: "Each tag it has is the larger of the next number and t", but for the share tag at an idle guest
+-- K6: "A busy guest's share tag is the larger of its next number and b"
+abbrev pub busyTag : (now : ℕ) → Guest → ℕ
+busyTag now h = tagAt (back now (h .settings)) (h .snext)
+
+-- the share tag of a request of the guest h. K6: "at an idle guest it is that number too, but not later than t". That credit 0 is the rule of K3,
+-- Credit.antt shows
+unfoldable pub shareTag : (idle : Bool) (now : ℕ) → Guest → ℕ
+shareTag idle now h = if idle then min now (busyTag now h) else busyTag now h
+
+-- the request with its tags: "Each tag it has is the larger of the next number and t", but for the share tag. K6: "Reservations and limits do not
+-- read the credit."
 unfoldable pub stamped : (idle : Bool) (now : ℕ) → Arriving → Guest → Request
 stamped idle now a h =
     record {

@@ -12,6 +12,10 @@ ceiling = 4611686018427387903
 abbrev pub second : ℕ
 second = 1000000000
 
+-- document 02, K6: "a credit c from 0 to 256"
+abbrev pub mostCredit : ℕ
+mostCredit = 256
+
 -- n lies from a to b, both included
 abbrev pub within : ℕ → ℕ → ℕ → Bool
 within a b n = leb a n && leb n b

@@ -7,7 +7,7 @@ use mathlib.Core.List.{List, [], _∷_, List·Memᴰ}
 use mathlib.Core.Logic.{_↔_, _⊎_}
 use Prim.Native.Nat.{ℕ, _+_, _-_, _≤_, _<_}
 use lib.ListN.{length}
-use Rattle.rules.specs.Numbers.{ceiling}
+use Rattle.rules.specs.Numbers.{ceiling, mostCredit}
 use Rattle.rules.specs.Tables.{Settings, Request, Table, idle, names}
 use Rattle.rules.specs.Events.{Arriving, Event, Arrival, Completion, Tick, calledBy, smallest, stampedFor}
 
@@ -52,10 +52,12 @@ pub record Countable (depth guests capacity : ℕ) : Type 0 where
   pub capacities : (1 ≤ capacity) × (capacity ≤ 1024)
 
 -- what `settled` tests: "reservation 0 to 1,000,000 .. limit 0 to 1,000,000 .. shares 1 to 1,000,000. A reservation above a non-zero limit is bad; equal is good."
+-- Document 02, K6: "a credit above 256 is 1 at opening, 3 in an open table"
 pub record Good (s : Settings) : Type 0 where
   pub reservations : s .reservation ≤ 1000000
   pub limits : s .limit ≤ 1000000
   pub share-count : (1 ≤ s .shares) × (s .shares ≤ 1000000)
+  pub credits : s .credit ≤ mostCredit
   pub not-above : 0 < s .limit → s .reservation ≤ s .limit
 
 -- THE CASES OF EACH CALL

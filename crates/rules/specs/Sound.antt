@@ -5,7 +5,7 @@ use Prim.Native.Nat.{ℕ, _+_}
 use lib.Dec.{ltb, leb, eqb}
 use lib.ListN.{length}
 use Rattle.lists.specs.Words.{all, below}
-use Rattle.rules.specs.Numbers.{ceiling, within, idleBound}
+use Rattle.rules.specs.Numbers.{ceiling, mostCredit, within, idleBound}
 use Rattle.rules.specs.Tables.{Settings, Guest, Request, Flight, Table, reserved, limited, rspacing, lspacing, sspacing, owner, mine, lacks, names}
 
 -- "Depth .. 1 to 64", "1 to 64 guests", "Capacity .. 1 to 1,024"
@@ -13,9 +13,10 @@ unfoldable pub counted : (depth guests capacity : ℕ) → Bool
 counted d n c = within 1 64 d && within 1 64 n && within 1 1024 c
 
 -- "reservation 0 to 1,000,000 .. limit 0 to 1,000,000 .. shares 1 to 1,000,000. A reservation above a non-zero limit is bad; equal is good."
+-- Document 02, K6: "a credit c from 0 to 256"
 unfoldable pub settled : Settings → Bool
 settled s =
-    leb (s .reservation) 1000000 && leb (s .limit) 1000000 && within 1 1000000 (s .shares)
+    leb (s .reservation) 1000000 && leb (s .limit) 1000000 && within 1 1000000 (s .shares) && leb (s .credit) mostCredit
     && (not (limited s) || leb (s .reservation) (s .limit))
 
 -- "settings lie in the ranges"

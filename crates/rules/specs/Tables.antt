@@ -7,7 +7,8 @@ use lib.Dec.{ltb, eqb}
 use lib.ListN.{getD}
 use Rattle.lists.specs.Words.{all, filter, empty}
 use Rattle.rules.specs.Numbers.{down, up}
--- "Per guest: reservation .. 0 meaning none; limit .. 0 meaning unlimited; shares": the fields reservation, limit, shares
+-- "Per guest: reservation .. 0 meaning none; limit .. 0 meaning unlimited; shares", and document 02, K6: "Each guest record gains a credit c": the fields
+-- reservation, limit, shares, credit
 pub use Rattle.rules.specs.declared.Settings.{Settings}
 -- "A guest record holds its settings and three next numbers: the tag its next request would get were time not looked at.": settings, rnext,
 -- lnext, snext
@@ -56,7 +57,7 @@ sspacing s q = down (s .shares)
 
 -- the guest that stands where there is none
 abbrev pub nobodys : Guest
-nobodys = record { settings = record { reservation = 0; limit = 0; shares = 0 }; rnext = 0; lnext = 0; snext = 0 }
+nobodys = record { settings = record { reservation = 0; limit = 0; shares = 0; credit = 0 }; rnext = 0; lnext = 0; snext = 0 }
 
 -- guest number g of the table, counted from 0
 abbrev pub owner : List Guest → ℕ → Guest

@@ -2,11 +2,13 @@
 ghost use mathlib.Core.Path.{_≡_};
 ghost use Rattle.rules.specs.Answers.{numberOf};
 
-// What is set of a guest: its reservation, 0 for none, its limit, 0 for unlimited, and its shares.
+// What is set of a guest: its reservation, 0 for none, its limit, 0 for unlimited, its shares, and its credit, the spacings that its share tags may
+// lie back.
 pub struct Settings {
     pub reservation: u64,
     pub limit: u64,
     pub shares: u64,
+    pub credit: u64,
 }
 
 // One guest: its settings and its three next numbers. A host lends a slice of these.

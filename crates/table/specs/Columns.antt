@@ -29,13 +29,23 @@ LNEXT = 4
 abbrev pub SNEXT : ℕ
 SNEXT = 5
 
+-- its credit: the last number of its row, behind the next numbers
+abbrev pub CREDIT : ℕ
+CREDIT = 6
+
 -- how many numbers it has
 abbrev pub guestWide : ℕ
-guestWide = 6
+guestWide = 7
 
--- how many its settings have in a list of settings
+-- A GUEST'S SETTINGS in a list of settings: its reservation, limit and shares stand as in its row
+
+-- its credit, behind its shares: there are no next numbers here
+abbrev pub LISTCREDIT : ℕ
+LISTCREDIT = 3
+
+-- how many numbers they are
 abbrev pub settingsWide : ℕ
-settingsWide = 3
+settingsWide = 4
 
 -- A REQUEST, waiting or in flight
 

@@ -20,24 +20,24 @@ use Rattle.rules.specs.declared.Wake.{Wake}
 use Rattle.rules.specs.declared.Outcome.{Outcome}
 use Rattle.rules.specs.Waking.{told}
 use Rattle.table.specs.declared.gates.Decision.{Decision}
-use Rattle.table.specs.Columns.{RESERVATION, LIMIT, SHARES, RNEXT, LNEXT, SNEXT, GUEST, ID, RTAG, LTAG, STAG, guestWide, settingsWide, waitingWide, flightWide}
+use Rattle.table.specs.Columns.{RESERVATION, LIMIT, SHARES, RNEXT, LNEXT, SNEXT, CREDIT, LISTCREDIT, GUEST, ID, RTAG, LTAG, STAG, guestWide, settingsWide, waitingWide, flightWide}
 
 -- a guest's settings as numbers
 abbrev pub settingsForm : Form Settings
 settingsForm =
     record {
       wide = settingsWide;
-      read = λ v. record { reservation = getD v RESERVATION 0; limit = getD v LIMIT 0; shares = getD v SHARES 0 };
-      line = λ s. s .reservation ∷ s .limit ∷ s .shares ∷ [];
+      read = λ v. record { reservation = getD v RESERVATION 0; limit = getD v LIMIT 0; shares = getD v SHARES 0; credit = getD v LISTCREDIT 0 };
+      line = λ s. s .reservation ∷ s .limit ∷ s .shares ∷ s .credit ∷ [];
     }
 
--- a guest as numbers: its settings, then its next numbers
+-- a guest as numbers: its settings but for its credit, its next numbers, and its credit
 abbrev pub guestForm : Form Guest
 guestForm =
     record {
       wide = guestWide;
-      read = λ v. record { settings = record { reservation = getD v RESERVATION 0; limit = getD v LIMIT 0; shares = getD v SHARES 0 }; rnext = getD v RNEXT 0; lnext = getD v LNEXT 0; snext = getD v SNEXT 0 };
-      line = λ h. h .settings .reservation ∷ h .settings .limit ∷ h .settings .shares ∷ h .rnext ∷ h .lnext ∷ h .snext ∷ [];
+      read = λ v. record { settings = record { reservation = getD v RESERVATION 0; limit = getD v LIMIT 0; shares = getD v SHARES 0; credit = getD v CREDIT 0 }; rnext = getD v RNEXT 0; lnext = getD v LNEXT 0; snext = getD v SNEXT 0 };
+      line = λ h. h .settings .reservation ∷ h .settings .limit ∷ h .settings .shares ∷ h .rnext ∷ h .lnext ∷ h .snext ∷ h .settings .credit ∷ [];
     }
 
 -- a waiting request as numbers

@@ -19,11 +19,17 @@ pub const LNEXT: usize = 4;
 // A guest's next share number.
 pub const SNEXT: usize = 5;
 
+// A guest's credit: the last number of its row, behind the next numbers.
+pub const CREDIT: usize = 6;
+
 // The numbers of a guest.
-pub const GUEST_WIDE: usize = 6;
+pub const GUEST_WIDE: usize = 7;
+
+// A guest's credit in a list of settings, behind its shares: there are no next numbers there.
+pub const LISTCREDIT: usize = 3;
 
 // The numbers of a guest's settings in a list of settings.
-pub const SETTINGS_WIDE: usize = 3;
+pub const SETTINGS_WIDE: usize = 4;
 
 // Whose a request is, waiting or in flight.
 pub const GUEST: usize = 0;

@@ -1,9 +1,10 @@
 // Spacings and tags as functions on plain numbers.
 ghost use mathlib.Core.Path.{_≡_};
 ghost use Prim.Native.Nat.{_≤_};
-ghost use Rattle.rules.specs.Numbers.{down, up, tagAt};
+ghost use Rattle.rules.specs.Numbers.{mostCredit, down, up, tagAt};
+ghost use Rattle.rules.specs.declared.Settings.{Settings};
 ghost use Rattle.rules.specs.declared.Guest.{Guest};
-ghost use Rattle.rules.specs.Events.{tagIf, shareTag};
+ghost use Rattle.rules.specs.Events.{tagIf, back as backTo, shareTag};
 ghost use Rattle.table.specs.Stamp.{lawfulTags};
 
 // The largest time and the largest tag.
@@ -38,11 +39,26 @@ pub fn tag_if(has: bool, time: u64, next: u64) -> u64
     if has { tag_at(time, next) } else { 0 }
 }
 
-// The share tag of an arriving request: at an idle guest the time itself.
-pub fn share_tag(idle: bool, time: u64, next: u64) -> u64
-    ensures { λ r. ⌜ ((h : Guest) → h .snext ≡ next → r ≡ shareTag idle time h) ⌝ }
+// As many share spacings before the time as the credit says, or 0 where that would be below 0.
+fn back(time: u64, shares: u64, credit: u64) -> u64
+    requires { ⌜ credit ≤ mostCredit ⌝ }
+    ensures { λ r. ⌜ ((s : Settings) → s .shares ≡ shares → s .credit ≡ credit → r ≡ backTo time s) ⌝ }
 {
-    if idle { time } else { tag_at(time, next) }
+    let reach = credit * spacing_down(shares);
+    if time < reach { 0 } else { time - reach }
+}
+
+// The share tag of an arriving request: the larger of the next number and what the credit gives, but at an idle guest not later than the time.
+pub fn share_tag(idle: bool, time: u64, next: u64, shares: u64, credit: u64) -> u64
+    requires { ⌜ credit ≤ mostCredit ⌝ }
+    ensures { λ r. ⌜ ((h : Guest) → h .snext ≡ next → h .settings .shares ≡ shares → h .settings .credit ≡ credit → r ≡ shareTag idle time h) ⌝ }
+{
+    let least = back(time, shares, credit);
+    let tag = tag_at(least, next);
+    if !idle {
+        return tag;
+    }
+    if time < tag { time } else { tag }
 }
 
 // Whether no tag passes the ceiling.

@@ -9,6 +9,9 @@ ghost use Rattle.rules.specs.Sound.{counted, settled};
 // The most that a setting may be.
 const MOST: u64 = 1000000;
 
+// The most that a credit may be.
+const MOST_CREDIT: u64 = 256;
+
 // n lies from low to high, both included.
 fn within(low: u64, high: u64, n: u64) -> bool
     ensures { λ b. ⌜ b ≡ withinOf low high n ⌝ }
@@ -33,8 +36,8 @@ pub fn is_counted(depth: u64, guests: u64, capacity: u64) -> bool
 }
 
 // One guest's settings lie in their ranges. A reservation above a non-zero limit is bad; equal is good.
-pub fn is_settled(reservation: u64, limit: u64, shares: u64) -> bool
-    ensures { λ b. ⌜ b ≡ settled (record { reservation = reservation; limit = limit; shares = shares }) ⌝ }
+pub fn is_settled(reservation: u64, limit: u64, shares: u64, credit: u64) -> bool
+    ensures { λ b. ⌜ b ≡ settled (record { reservation = reservation; limit = limit; shares = shares; credit = credit }) ⌝ }
 {
     if MOST < reservation {
         return false;
@@ -43,6 +46,9 @@ pub fn is_settled(reservation: u64, limit: u64, shares: u64) -> bool
         return false;
     }
     if !within(1, MOST, shares) {
+        return false;
+    }
+    if MOST_CREDIT < credit {
         return false;
     }
     if 0 < limit {

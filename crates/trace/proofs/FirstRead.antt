@@ -13,9 +13,9 @@ use Rattle.lists.specs.Tab.{tab, tab-ext}
 use Rattle.rules.specs.Sound.{counted, settled}
 use Rattle.rules.specs.Refusals.{Verdict, accept, refuse, judged}
 use Rattle.trace.specs.Little.{byteAt}
-use Rattle.trace.specs.Header.{mark, same, versionOf, depthOf, guestsOf, capacityOf, body, numberAt, settingsAt, settingsIn, headerTests, headerBy, headerOf}
+use Rattle.trace.specs.Header.{mark, same, versionOf, depthOf, guestsOf, capacityOf, body, numberAt, recordWide, settingsAt, settingsIn, headerTests, headerBy, headerOf}
 use Rattle.rules.proofs.Conditions.{counted-means}
-use Rattle.table.specs.Columns.{settingsWide, LIMIT, SHARES, mostGuests}
+use Rattle.table.specs.Columns.{LIMIT, SHARES, mostGuests}
 
 -- the most bytes of a header
 abbrev pub longest : ℕ
@@ -33,10 +33,10 @@ module _ (xs ys : List ℕ) (long : longest ≤ length xs) where
   -- a record
   one-guest : (k : ℕ) → k < mostGuests → settingsAt (xs ++ ys) k ≡ settingsAt xs k
   one-guest k h =
-      let r = number (k * settingsWide) (omega arith) in
-      let l = number (k * settingsWide + LIMIT) (omega arith) in
-      let s = number (k * settingsWide + SHARES) (omega arith) in
-      λ i. record { reservation = r i; limit = l i; shares = s i }
+      let r = number (k * recordWide) (omega arith) in
+      let l = number (k * recordWide + LIMIT) (omega arith) in
+      let s = number (k * recordWide + SHARES) (omega arith) in
+      λ i. record { reservation = r i; limit = l i; shares = s i; credit = 0 }
 
   -- how many guests there are
   guests-same : guestsOf (xs ++ ys) ≡ guestsOf xs

@@ -8,6 +8,7 @@ pub mod Split
 pub mod FirstRead
 pub mod AnySplit
 pub mod Example
+pub mod NoCredit
 pub mod Answers
 pub mod HeaderExactly
 pub mod LineExactly

@@ -1,39 +1,49 @@
--- The numbers that `read_settings` writes are what the opening call takes: the rows of the settings that the header has. Assumes nothing.
-use Prim.Native.Nat.{ℕ, _+_, _*_, _≤_, _<_}
-use mathlib.Core.Path.{_≡_, ap, _∙_}
+-- The rows that `read_settings` writes are the settings that the header has, as the opening call takes them. Assumes nothing.
+use Prim.Native.Nat.{ℕ, _+_, _*_, _≤_}
+use mathlib.Core.Path.{_≡_, refl, sym, ap, _∙_}
 use mathlib.Core.List.{List}
+use native.Mathlib.Numerals.{add-one}
 use native.Mathlib.Omega.{arith}
+use lib.Dec.{lit<}
 use lib.ListN.{length, getD}
-use lib.Seq.{sets}
-use Rattle.lists.specs.Tab.{tab, length-tab, getD-tab, tab-ext}
-use Rattle.lists.specs.Lines.{lineAt}
-use Rattle.lists.specs.Rows.{rowsOf}
-use Rattle.lists.specs.RowsLaws.{rows-tab}
-use Rattle.lists.specs.Sets.{getD-sets}
-use Rattle.table.specs.Columns.{settingsWide, RESERVATION, LIMIT, SHARES}
+use Rattle.lists.specs.Tab.{tab, length-tab, tab-snoc}
+use Rattle.lists.specs.Stores.{stores}
+use Rattle.lists.specs.Lines.{linesOf}
+use Rattle.lists.specs.Rows.{rowsOf, overRows, Exact}
+use Rattle.lists.specs.RowsLaws.{length-over-rows, rows-over, over-same, all-used}
+use Rattle.lists.specs.FillLaws.{row-next}
+use Rattle.rules.specs.declared.Settings.{Settings}
+use Rattle.table.specs.Columns.{settingsWide}
 use Rattle.table.specs.View.{settingsForm}
-use Rattle.trace.specs.Header.{numberAt, settingsAt}
+use Rattle.trace.specs.Header.{settingsAt}
 
-module _ (bs old : List ℕ) (n : ℕ) (room : n * settingsWide ≤ length old) where
-  -- what `read_settings` leaves
-  abbrev written : List ℕ
-  written = sets old 0 (tab (n * settingsWide) (numberAt bs))
+-- the settings of a guest and their row say the same
+settings-exact : Exact settingsForm
+settings-exact = record { some = lit< tt; size = λ a. refl; back = λ a. refl; forth = λ v. refl }
 
-  -- number j of it
-  at : (j : ℕ) → j < n * settingsWide → getD written j 0 ≡ numberAt bs j
-  at j h =
-      getD-sets old (tab (n * settingsWide) (numberAt bs)) j 0 (omega (arith, length-tab (n * settingsWide) (numberAt bs))) (omega (arith, length-tab (n * settingsWide) (numberAt bs)))
-      ∙ getD-tab (n * settingsWide) (numberAt bs) j 0 h
+module _ (bs old : List ℕ) where
+  -- the list once k guests are in
+  abbrev pub filled : ℕ → List ℕ
+  filled k = overRows settingsForm k (tab k (settingsAt bs)) old
 
-  -- row k of it
-  row : (k : ℕ) → k < n → settingsForm .read (lineAt settingsWide written k) ≡ settingsAt bs k
-  row k h =
-      let z : k * settingsWide + RESERVATION ≡ k * settingsWide = omega arith in
-      let r : getD written (k * settingsWide + RESERVATION) 0 ≡ numberAt bs (k * settingsWide) = ap (λ (i : ℕ). getD written i 0) z ∙ at (k * settingsWide) (omega arith) in
-      let l = at (k * settingsWide + LIMIT) (omega arith) in
-      let s = at (k * settingsWide + SHARES) (omega arith) in
-      λ i. record { reservation = r i; limit = l i; shares = s i }
+  -- before the first it is as it was
+  pub filled-none : filled 0 ≡ old
+  unfolding rowsOf linesOf
+  filled-none = over-same settingsForm settings-exact 0 0 old (all-used settingsForm settings-exact 0 old)
 
-  -- all rows of it
-  pub settings-rows : rowsOf settingsForm written n ≡ tab n (settingsAt bs)
-  settings-rows = rows-tab settingsForm written n ∙ tab-ext n (λ k. settingsForm .read (lineAt settingsWide written k)) (settingsAt bs) row
+  -- it is as long as before
+  pub length-filled : (k : ℕ) → length (filled k) ≡ length old
+  length-filled k = length-over-rows settingsForm settings-exact k (tab k (settingsAt bs)) old
+
+  -- one guest more
+  pub filled-next : (k : ℕ) → k * settingsWide + settingsWide ≤ length old
+      → stores (λ j. k * settingsWide + j) (λ j. getD (settingsForm .line (settingsAt bs k)) j 0) settingsWide (filled k) ≡ filled (k + 1)
+  filled-next k room =
+      row-next settingsForm settings-exact k (tab k (settingsAt bs)) (settingsAt bs k) old (length-tab k (settingsAt bs)) room
+      ∙ ap (λ (l : List Settings). overRows settingsForm (k + 1) l old) (sym (tab-snoc k (settingsAt bs)) ∙ ap (λ (n : ℕ). tab n (settingsAt bs)) (sym (add-one k)))
+
+  -- all guests are read again
+  pub settings-rows : (n : ℕ) → n * settingsWide ≤ length old → rowsOf settingsForm (filled n) n ≡ tab n (settingsAt bs)
+  settings-rows n room =
+      ap (rowsOf settingsForm (filled n)) (sym (length-tab n (settingsAt bs)))
+      ∙ rows-over settingsForm settings-exact n (tab n (settingsAt bs)) old room (omega (arith, length-tab n (settingsAt bs)))

@@ -16,7 +16,7 @@ use Rattle.rules.specs.declared.Refusal.the-variants.{BadSetting, BadMark, BadV
 use Rattle.trace.specs.Little.{byteAt, twoAt, fourAt}
 use Rattle.trace.specs.declared.Header.{Header}
 use Rattle.trace.specs.declared.Header.the-variants.{Opened, Refused}
-use Rattle.table.specs.Columns.{settingsWide, LIMIT, SHARES}
+use Rattle.table.specs.Columns.{LIMIT, SHARES}
 
 -- the letters S, G and Q as bytes
 abbrev pub mark : List ℕ
@@ -53,11 +53,22 @@ body n = 9 + 12 * n
 abbrev pub numberAt : List ℕ → ℕ → ℕ
 numberAt bs j = fourAt bs (9 + 4 * j)
 
--- the record of guest k: "reservation, limit, shares"
-abbrev pub settingsAt : List ℕ → ℕ → Settings
-settingsAt bs k = record { reservation = numberAt bs (k * settingsWide); limit = numberAt bs (k * settingsWide + LIMIT); shares = numberAt bs (k * settingsWide + SHARES) }
+-- how many numbers the record of a guest has: "reservation, limit, shares"
+abbrev pub recordWide : ℕ
+recordWide = 3
 
--- the records of all guests
+-- the settings of guest k: what its record has, and no credit, for a trace of version 1 cannot say one. Document 02, K9: "from version 1 to 2 (rule 1,
+-- credit 0, cost 1)"
+abbrev pub settingsAt : List ℕ → ℕ → Settings
+settingsAt bs k =
+    record {
+      reservation = numberAt bs (k * recordWide);
+      limit = numberAt bs (k * recordWide + LIMIT);
+      shares = numberAt bs (k * recordWide + SHARES);
+      credit = 0;
+    }
+
+-- the settings of all guests
 abbrev pub settingsIn : List ℕ → List Settings
 settingsIn bs = tab (guestsOf bs) (settingsAt bs)
 

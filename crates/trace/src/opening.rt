@@ -4,19 +4,28 @@ use crate::little::four;
 use crate::little::two;
 use crate::little::wide;
 use rules::Refusal;
+use table::columns::LIMIT;
+use table::columns::LISTCREDIT;
+use table::columns::RESERVATION;
 use table::columns::SETTINGS_WIDE;
+use table::columns::SHARES;
 use table::ranges::is_counted;
 use table::ranges::is_settled;
 ghost use mathlib.Core.Path.{_≡_};
 ghost use Prim.Native.Nat.{_+_, _*_, _≤_, _<_};
-ghost use lib.ListN.{length, take};
-ghost use lib.Seq.{sets};
+ghost use lib.ListN.{length, getD, take};
 ghost use lib.Dec.{eqb};
 ghost use Rattle.lists.specs.Words.{all};
 ghost use Rattle.lists.specs.Tab.{tab};
+ghost use Rattle.lists.specs.Stores.{stores};
+ghost use Rattle.lists.specs.Rows.{overRows};
 ghost use Rattle.rules.specs.Sound.{counted, settled};
 ghost use Rattle.trace.specs.Header.{mark, same, versionOf, depthOf, guestsOf, capacityOf, body, numberAt, settingsAt, headerShown, headerOf};
 ghost use Rattle.table.specs.Columns.{settingsWide};
+ghost use Rattle.table.specs.View.{settingsForm};
+
+// The numbers of a guest in the header: its settings but for the credit, which a trace of version 1 cannot say.
+const RECORD_WIDE: usize = 3;
 
 // The three letters.
 fn is_marked(bytes: &[u8]) -> bool
@@ -75,20 +84,21 @@ fn number_at(bytes: &[u8], j: usize) -> u64
     four(bytes[at], bytes[at + 1], bytes[at + 2], bytes[at + 3]) as u64
 }
 
-// The record of guest k lies in its ranges.
+// The settings of guest k lie in their ranges.
 fn has_settings_at(bytes: &[u8], k: usize) -> bool
     requires { ⌜ 21 + 12 * k ≤ length (now bytes) ⌝ }
     ensures { λ r. ⌜ r ≡ settled (settingsAt (now (bytes .entry)) k) ⌝ }
 {
-    let j = k * SETTINGS_WIDE;
+    let j = k * RECORD_WIDE;
     is_settled(
         number_at(bytes, j),
-        number_at(bytes, j + 1),
-        number_at(bytes, j + 2),
+        number_at(bytes, j + LIMIT),
+        number_at(bytes, j + SHARES),
+        0,
     )
 }
 
-// The records of all guests do.
+// The settings of all guests do.
 fn has_settings(bytes: &[u8], guests: usize) -> bool
     requires { ⌜ body guests ≤ length (now bytes) ⌝ }
     ensures { λ r. ⌜ r ≡ all settled (tab guests (settingsAt (now (bytes .entry)))) ⌝ }
@@ -135,15 +145,27 @@ pub fn read_header(bytes: &[u8]) -> Header
     }
 }
 
-// The settings of the guests, three numbers for each, as the opening call takes them.
+// The settings of guest k into their row.
+fn put_settings(bytes: &[u8], k: usize, into: &mut [u64])
+    requires { ⌜ (21 + 12 * k ≤ length (now bytes)) × (k * settingsWide + settingsWide ≤ length (now into)) ⌝ }
+    ensures { λ _. ⌜ now (into .exit) ≡ stores (λ j. k * settingsWide + j) (λ j. getD (settingsForm .line (settingsAt (now (bytes .entry)) k)) j 0) settingsWide (now (into .entry)) ⌝ }
+{
+    let j = k * RECORD_WIDE;
+    let at = k * SETTINGS_WIDE;
+    into[at + RESERVATION] = number_at(bytes, j);
+    into[at + LIMIT] = number_at(bytes, j + LIMIT);
+    into[at + SHARES] = number_at(bytes, j + SHARES);
+    into[at + LISTCREDIT] = 0;
+}
+
+// The settings of the guests, a row for each, as the opening call takes them.
 pub fn read_settings(bytes: &[u8], guests: usize, into: &mut [u64])
     requires { ⌜ (body guests ≤ length (now bytes)) × (guests * settingsWide ≤ length (now into)) ⌝ }
-    ensures { λ _. ⌜ now (into .exit) ≡ sets (now (into .entry)) 0 (tab (guests * settingsWide) (numberAt (now (bytes .entry)))) ⌝ }
+    ensures { λ _. ⌜ now (into .exit) ≡ overRows settingsForm guests (tab guests (settingsAt (now (bytes .entry)))) (now (into .entry)) ⌝ }
 {
-    let n = guests * SETTINGS_WIDE;
-    let mut j: usize = 0;
-    while j < n {
-        into[j] = number_at(bytes, j);
-        j += 1;
+    let mut k: usize = 0;
+    while k < guests {
+        put_settings(bytes, k, into);
+        k += 1;
     }
 }

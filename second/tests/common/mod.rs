@@ -12,7 +12,12 @@ pub fn guest(reservation: u64, limit: u64, shares: u64) -> Settings {
         reservation,
         limit,
         shares,
+        credit: 0,
     }
+}
+
+pub fn credited(credit: u64, settings: Settings) -> Settings {
+    Settings { credit, ..settings }
 }
 
 pub fn reservation(guest: u64, id: u64) -> Answer {
@@ -75,7 +80,7 @@ pub fn opened(depth: u64, capacity: u64, settings: &[Settings]) -> Owned {
     let mut owned = dusty(depth as usize, guests, capacity as usize, 0);
     let list: Vec<u64> = settings
         .iter()
-        .flat_map(|s| [s.reservation, s.limit, s.shares])
+        .flat_map(|s| [s.reservation, s.limit, s.shares, s.credit])
         .collect();
     let reply = open(depth, guests as u64, capacity, &list, &mut owned.lend());
     assert_eq!(reply.answer, Answer::Nothing);

@@ -1,11 +1,13 @@
-//! Sound tables through many calls: a gate is opened and the events of a random trace are played on it.
+//! Sound tables through many calls: a gate is opened and the events of a random trace are played on it. A trace cannot
+//! say a credit, so each guest is given one here.
 
 use crate::calls::{hold, Call, Fences, Opening};
 use crate::tally::Seen;
 use second::kinds::{fixed, trace};
-use second::sample::Owned;
+use second::numbers::MOST_CREDIT;
+use second::sample::{Owned, Prng};
 use second::tables::{FLIGHT_NUMBERS, GATE_NUMBERS, GUEST_NUMBERS, WAITING_NUMBERS};
-use second::trace::{Event, EVENT_BYTES, GUEST_BYTES, START_BYTES};
+use second::trace::{settings_of, Event, EVENT_BYTES, GUEST_BYTES, START_BYTES};
 
 /// Numbers past the need of each table, which must stay as they are.
 const REST: usize = 3;
@@ -25,7 +27,7 @@ pub fn play(
         "fixed" => fixed(WAITING, most as u64),
         _ => trace(kind, seed).ok_or("there is no such kind of trace")?,
     };
-    let opening = opening(&bytes);
+    let opening = opening(&bytes, &mut Prng::new(seed));
     let events = &bytes[START_BYTES + opening.guests as usize * GUEST_BYTES..];
     let mut tables = dusty(&opening);
     let mut make = |call: &Call, number: usize| {
@@ -41,16 +43,20 @@ pub fn play(
     Ok(tables)
 }
 
-/// What the header of a good trace asks for.
-fn opening(bytes: &[u8]) -> Opening {
+/// What the header of a good trace asks for, with any credits.
+fn opening(bytes: &[u8], rng: &mut Prng) -> Opening {
     let guests = bytes[6] as usize;
     let records = &bytes[START_BYTES..START_BYTES + guests * GUEST_BYTES];
-    let number = |b: &[u8]| u32::from_le_bytes([b[0], b[1], b[2], b[3]]) as u64;
+    let row = |record: &[u8]| {
+        let rates = settings_of(record);
+        let credit = rng.pick(&[0, 0, 1, 2, 30, MOST_CREDIT]);
+        [rates.reservation, rates.limit, rates.shares, credit]
+    };
     Opening {
         depth: bytes[5] as u64,
         guests: guests as u64,
         capacity: u16::from_le_bytes([bytes[7], bytes[8]]) as u64,
-        settings: records.chunks_exact(4).map(number).collect(),
+        settings: records.chunks_exact(GUEST_BYTES).flat_map(row).collect(),
     }
 }
 

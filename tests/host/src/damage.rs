@@ -1,12 +1,16 @@
 //! Random tables, most of them damaged, and random calls on them.
 
 use crate::calls::{Call, Opening};
-use second::numbers::{CEILING, MOST_CAPACITY, MOST_DEPTH, MOST_GUESTS, MOST_RATE};
+use second::numbers::{CEILING, MOST_CAPACITY, MOST_CREDIT, MOST_DEPTH, MOST_GUESTS, MOST_RATE};
 use second::sample::{sound_tables, spoil, Owned, Prng};
 use second::tables::Flight;
 use second::tables::{
-    FLIGHT_NUMBERS, GATE_NUMBERS, GUEST_NUMBERS, SETTINGS_NUMBERS, WAITING_NUMBERS,
+    CREDIT, FLIGHT_NUMBERS, GATE_NUMBERS, GUEST_NUMBERS, SETTINGS_CREDIT, SETTINGS_NUMBERS,
+    WAITING_NUMBERS,
 };
+
+/// Credits at the end of their range and out of it.
+const CREDITS: [u64; 5] = [0, MOST_CREDIT, MOST_CREDIT + 1, 1 << 32, u64::MAX];
 
 /// Tables with no damage or up to three.
 pub fn tables(rng: &mut Prng) -> Owned {
@@ -20,11 +24,21 @@ pub fn tables(rng: &mut Prng) -> Owned {
 
 /// One damage, or none that can be seen.
 pub fn damage(rng: &mut Prng, tables: &mut Owned) {
-    match rng.below(10) {
+    match rng.below(11) {
         0 => rubbish(rng, tables),
         1 => cut(rng, tables),
         2..=3 => repeat_id(rng, tables),
+        4 => another_credit(rng, tables),
         _ => spoil_lent(rng, tables),
+    }
+}
+
+/// A guest gets another credit, or one that none may have. Nothing else is wrong then.
+fn another_credit(rng: &mut Prng, tables: &mut Owned) {
+    let guests = (tables.guests.len() / GUEST_NUMBERS) as u64;
+    if guests > 0 {
+        let at = rng.below(guests) as usize * GUEST_NUMBERS + CREDIT;
+        tables.guests[at] = rng.pick(&CREDITS);
     }
 }
 
@@ -190,14 +204,19 @@ fn opening(rng: &mut Prng, tables: &Owned) -> Opening {
 
 fn settings(rng: &mut Prng) -> [u64; SETTINGS_NUMBERS] {
     let settings = second::sample::any_settings(rng);
-    [settings.reservation, settings.limit, settings.shares]
+    [
+        settings.reservation,
+        settings.limit,
+        settings.shares,
+        settings.credit,
+    ]
 }
 
 fn spoil_opening(rng: &mut Prng, opening: &mut Opening) {
     // The most guests are as many as the most depth.
     let out = [0, MOST_DEPTH + 1, MOST_CAPACITY + 1, u64::MAX, 1 << 32 | 1];
     let listed = opening.settings.len();
-    match rng.below(10) {
+    match rng.below(11) {
         0 => opening.depth = rng.pick(&out),
         1 => opening.guests = rng.pick(&out),
         2 => opening.capacity = rng.pick(&out),
@@ -207,6 +226,10 @@ fn spoil_opening(rng: &mut Prng, opening: &mut Opening) {
         5 => opening.capacity += 1,
         6 => opening.settings.truncate(listed.saturating_sub(1)),
         7 => opening.settings.push(rng.sized(64)),
+        8 if listed >= SETTINGS_NUMBERS => {
+            let row = rng.below((listed / SETTINGS_NUMBERS) as u64) as usize;
+            opening.settings[row * SETTINGS_NUMBERS + SETTINGS_CREDIT] = rng.pick(&CREDITS);
+        }
         _ if listed > 0 => {
             let at = rng.below(listed as u64) as usize;
             opening.settings[at] = rng.pick(&[0, 1, MOST_RATE, MOST_RATE + 1, u64::MAX]);

@@ -3,14 +3,16 @@ use mathlib.Core.Path.{refl, sym, _∙_}
 use mathlib.Core.Bool.{false}
 use native.Mathlib.Omega.{arith}
 use borrow.Author.Tests.{not-true, not-false}
-use Rattle.enter.proofs.ArriveReturns.{stamp-passes, ready-enters, placeable}
+use Rattle.enter.proofs.ArriveReturns.{tags-ask, stamp-passes, ready-enters, placeable}
 use Rattle.enter.proofs.Settles.{busy-guests, busy-waiting}
 use borrow.Author.Needs.{needs}
 use Rattle.enter.proofs.arrive.arrive_busy.Statement.{statement}
 use Rattle.enter.proofs.arrive.arrive_busy.Tie as tie
 
 tags-of-requires : tie.Need-tags-of-requires
-tags-of-requires c κs = search needs
+tags-of-requires c κs =
+    let s = c .before .before .before .before in
+    tags-ask (s .args .gate) (s .args .guests .now) (s .args .waiting .now) (s .args .flight .now) (s .pre .0) (s .args .what) (s .args .time) (s .pre .1 .0) false (s .pre .1 .1)
 
 stamp-fits-requires : tie.Need-stamp-fits-requires
 stamp-fits-requires c κs = search needs

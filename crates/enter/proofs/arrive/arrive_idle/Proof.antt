@@ -4,14 +4,16 @@ use mathlib.Core.Bool.{true}
 use native.Mathlib.Omega.{arith}
 use borrow.Author.Tests.{not-true, not-false}
 use Rattle.table.proofs.Facts.{rows-ask}
-use Rattle.enter.proofs.ArriveReturns.{stamp-passes, move-passes, ready-enters, placeable}
+use Rattle.enter.proofs.ArriveReturns.{tags-ask, stamp-passes, move-passes, ready-enters, placeable}
 use Rattle.enter.proofs.Settles.{ends-fit, settle-asks, settled-guests, settled-waiting, move-past, move-within}
 use borrow.Author.Needs.{needs}
 use Rattle.enter.proofs.arrive.arrive_idle.Statement.{statement}
 use Rattle.enter.proofs.arrive.arrive_idle.Tie as tie
 
 tags-of-requires : tie.Need-tags-of-requires
-tags-of-requires c κs = search needs
+tags-of-requires c κs =
+    let s = c .before .before .before .before in
+    tags-ask (s .args .gate) (s .args .guests .now) (s .args .waiting .now) (s .args .flight .now) (s .pre .0) (s .args .what) (s .args .time) (s .pre .1 .0) true (s .pre .1 .1)
 
 stamp-fits-requires : tie.Need-stamp-fits-requires
 stamp-fits-requires c κs = search needs

@@ -66,6 +66,30 @@ mul-snext-2 c = search needs
 shared-slice-read-snext : tie.Need-shared-slice-read-snext
 shared-slice-read-snext c = search needs
 
+mul-shares : tie.Need-mul-shares
+mul-shares c = search needs
+
+add-shares : tie.Need-add-shares
+add-shares c = search needs
+
+mul-shares-2 : tie.Need-mul-shares-2
+mul-shares-2 c = search needs
+
+shared-slice-read-shares : tie.Need-shared-slice-read-shares
+shared-slice-read-shares c = search needs
+
+mul-credit : tie.Need-mul-credit
+mul-credit c = search needs
+
+add-credit : tie.Need-add-credit
+add-credit c = search needs
+
+mul-credit-2 : tie.Need-mul-credit-2
+mul-credit-2 c = search needs
+
+shared-slice-read-credit : tie.Need-shared-slice-read-credit
+shared-slice-read-credit c = search needs
+
 tag-if-requires : tie.Need-tag-if-requires
 tag-if-requires c κs = search needs
 
@@ -77,10 +101,10 @@ share-tag-requires c κs = search needs
 
 returns : tie.Need-returns
 returns c =
-    let s = c .before .before .before .before .before .before .before .before .before in
+    let s = c .before .before .before .before .before .before .before .before .before .before .before in
     let a = c .before .before .tag-if .ensures in
     let b = c .before .tag-if2 .ensures in
-    let d = c .share-tag .ensures (guestForm .read (lineAt guestWide (s .args .guests .now) (s .args .guest))) refl in
+    let d = c .share-tag .ensures (guestForm .read (lineAt guestWide (s .args .guests .now) (s .args .guest))) refl refl refl in
     λ i. record { rtag = a i; ltag = b i; stag = d i }
 
 pub tags-of-spec : {M : Type 1} → statement M
@@ -107,6 +131,14 @@ tags-of-spec =
     add-snext
     mul-snext-2
     shared-slice-read-snext
+    mul-shares
+    add-shares
+    mul-shares-2
+    shared-slice-read-shares
+    mul-credit
+    add-credit
+    mul-credit-2
+    shared-slice-read-credit
     tag-if-requires
     tag-if-requires-2
     share-tag-requires

@@ -56,23 +56,35 @@ mul-s-2 c = omega arith
 shared-slice-read-s : tie.Need-shared-slice-read-s Inv-loop μ-loop
 shared-slice-read-s c = omega arith
 
+mul-c : tie.Need-mul-c Inv-loop μ-loop
+mul-c c = omega arith
+
+add-c : tie.Need-add-c Inv-loop μ-loop
+add-c c = omega arith
+
+mul-c-2 : tie.Need-mul-c-2 Inv-loop μ-loop
+mul-c-2 c = omega arith
+
+shared-slice-read-c : tie.Need-shared-slice-read-c Inv-loop μ-loop
+shared-slice-read-c c = omega arith
+
 is-settled-requires : tie.Need-is-settled-requires Inv-loop μ-loop
 is-settled-requires c κs = tt
 
 returns : tie.Need-returns Inv-loop μ-loop
 returns c =
-    let a = c .before .before .before .before .before .before .before .before .args in
-    let s = c .before .before .before .before .before .before .loop in
-    rows-fail settingsForm settled (a .settings .now) (a .known) (s .i) (s .inv) (c .before .before .before .before .before .loop-test .taken) (sym (c .before .is-settled .ensures) ∙ not-true _ (c .if1 .taken))
+    let a = c .before .before .before .before .before .before .before .before .before .args in
+    let s = c .before .before .before .before .before .before .before .loop in
+    rows-fail settingsForm settled (a .settings .now) (a .known) (s .i) (s .inv) (c .before .before .before .before .before .before .loop-test .taken) (sym (c .before .is-settled .ensures) ∙ not-true _ (c .if1 .taken))
 
 loop-less : tie.Need-loop-less Inv-loop μ-loop
 loop-less c = omega arith
 
 loop-again : tie.Need-loop-again Inv-loop μ-loop
 loop-again c =
-    let a = c .before .before .before .before .before .before .before .before .args in
-    let s = c .before .before .before .before .before .before .loop in
-    rows-next settingsForm settled (a .settings .now) (a .known) (s .i) (s .inv) (c .before .before .before .before .before .loop-test .taken) (sym (c .before .is-settled .ensures) ∙ not-false _ (c .if1 .left))
+    let a = c .before .before .before .before .before .before .before .before .before .args in
+    let s = c .before .before .before .before .before .before .before .loop in
+    rows-next settingsForm settled (a .settings .now) (a .known) (s .i) (s .inv) (c .before .before .before .before .before .before .loop-test .taken) (sym (c .before .is-settled .ensures) ∙ not-false _ (c .if1 .left))
 
 returns-2 : tie.Need-returns-2 Inv-loop μ-loop
 returns-2 c =
@@ -100,6 +112,10 @@ all-settled-list-spec =
     add-s
     mul-s-2
     shared-slice-read-s
+    mul-c
+    add-c
+    mul-c-2
+    shared-slice-read-c
     is-settled-requires
     returns
     loop-less

@@ -55,6 +55,18 @@ mul-shares-2 c = omega arith
 shared-slice-read-shares : tie.Need-shared-slice-read-shares Inv-loop μ-loop
 shared-slice-read-shares c = omega arith
 
+mul-credit : tie.Need-mul-credit Inv-loop μ-loop
+mul-credit c = omega arith
+
+add-credit : tie.Need-add-credit Inv-loop μ-loop
+add-credit c = omega arith
+
+mul-credit-2 : tie.Need-mul-credit-2 Inv-loop μ-loop
+mul-credit-2 c = omega arith
+
+shared-slice-read-credit : tie.Need-shared-slice-read-credit Inv-loop μ-loop
+shared-slice-read-credit c = omega arith
+
 mul-guests : tie.Need-mul-guests Inv-loop μ-loop
 mul-guests c = omega arith
 
@@ -127,6 +139,18 @@ mul-guests-12 c = omega arith
 slice-write-guests-6 : tie.Need-slice-write-guests-6 Inv-loop μ-loop
 slice-write-guests-6 c = simp length-set (omega arith)
 
+mul-guests-13 : tie.Need-mul-guests-13 Inv-loop μ-loop
+mul-guests-13 c = omega arith
+
+add-guests-7 : tie.Need-add-guests-7 Inv-loop μ-loop
+add-guests-7 c = omega arith
+
+mul-guests-14 : tie.Need-mul-guests-14 Inv-loop μ-loop
+mul-guests-14 c = omega arith
+
+slice-write-guests-7 : tie.Need-slice-write-guests-7 Inv-loop μ-loop
+slice-write-guests-7 c = simp length-set (omega arith)
+
 add-i : tie.Need-add-i Inv-loop μ-loop
 add-i c = omega arith
 
@@ -136,8 +160,8 @@ loop-less c = omega arith
 loop-again : tie.Need-loop-again Inv-loop μ-loop
 unfolding stores
 loop-again c =
-    let s = c .before .before .before .before .loop in
-    let a = c .before .before .before .before .before .args in
+    let s = c .before .before .before .before .before .loop in
+    let a = c .before .before .before .before .before .before .args in
     (omega arith, simp length-set (omega arith), started-next (a .settings .now) (a .guests .now) (s .guests) (s .i) (s .inv .2) (omega arith))
 
 same-length : tie.Need-same-length Inv-loop μ-loop
@@ -168,6 +192,10 @@ start-spec =
     add-shares
     mul-shares-2
     shared-slice-read-shares
+    mul-credit
+    add-credit
+    mul-credit-2
+    shared-slice-read-credit
     mul-guests
     add-guests
     mul-guests-2
@@ -192,6 +220,10 @@ start-spec =
     add-guests-6
     mul-guests-12
     slice-write-guests-6
+    mul-guests-13
+    add-guests-7
+    mul-guests-14
+    slice-write-guests-7
     add-i
     loop-less
     loop-again

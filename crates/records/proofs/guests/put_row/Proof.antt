@@ -78,6 +78,18 @@ mul-rows-12 c = search needs
 slice-write-rows-6 : tie.Need-slice-write-rows-6
 slice-write-rows-6 c = simp length-set (omega arith)
 
+mul-rows-13 : tie.Need-mul-rows-13
+mul-rows-13 c = search needs
+
+add-rows-7 : tie.Need-add-rows-7
+add-rows-7 c = search needs
+
+mul-rows-14 : tie.Need-mul-rows-14
+mul-rows-14 c = search needs
+
+slice-write-rows-7 : tie.Need-slice-write-rows-7
+slice-write-rows-7 c = simp length-set (omega arith)
+
 same-length : tie.Need-same-length
 same-length c = search needs
 
@@ -113,5 +125,9 @@ put-row-spec =
     add-rows-6
     mul-rows-12
     slice-write-rows-6
+    mul-rows-13
+    add-rows-7
+    mul-rows-14
+    slice-write-rows-7
     same-length
     returns)

@@ -36,7 +36,7 @@ use denote.Triple.Table.{entered}
 use denote.Triple.Walked.{says, needs, Stays, stay-none, stay-none-slice, walkOf, Walks, ends-at, walked, goes-none, goes-none-slice, walk-meets}
 use Rattle.rules.specs.declared.Guest.{Guest}
 use Rattle.records.specs.Records.{blank}
-use Rattle.records.proofs.Rec.{Rec, vals, val, tells, place-fits, copies, makes, typed}
+use Rattle.records.proofs.Rec.{Rec, vals, val, tells, bytes, place-fits, copies, makes, typed}
 use Rattle.lent.proofs.Steps.{gone}
 use Rattle.records.proofs.guests.read.Key.{name as #records·guests·read}
 use Rattle.records.proofs.guests.read as f
@@ -87,7 +87,7 @@ module _ {M : Type 1} (𝓤 : URA M) (H : Heap 𝓤) (A : Atoms 𝓤) (W : Given
         -- the place of the record
         assigns ! (bin ! (load ! (from ! (stop !)) (look ! 6 refl)) (lit ! tt) (record { fits = place-fits (length gs) i room lt })) (from ! (stop !)) (init ! 4 refl (tt, record { fits = place-fits (length gs) i room lt })) $
         assigns ! (bin ! (load ! (from ! (fld ! refl (stop !))) (look-in ! 8 (sub ! 0 refl (whole !)))) (load ! (from ! (stop !)) (look ! 4 refl)) tt) (from ! (stop !)) (init ! 2 refl (tt, tt)) $
-        rewrite ! 2 (λ (p : ℕ). ‵ (fat fullShare tyPtr l₄ 0 (vptr b p))) (sym (place-is 48 o i)) refl $
+        rewrite ! 2 (λ (p : ℕ). ‵ (fat fullShare tyPtr l₄ 0 (vptr b p))) (sym (place-is bytes o i)) refl $
         -- one copy of what the slice owns is kept for the exit, and the other is looked into
         move ! (13 ∷ []) $ fsplit ! $ use1 W (‵ Own ⊛ ‵ Own) (shr-slice-copy 𝓤 H A W (named 0) κ Rec .twice x (s ∷ [])) $ split ! $ fsplit ! $ drop ! $ fsplit ! $ drop ! $
         move ! (15 ∷ []) $ split ! $ move ! (2 ∷ 0 ∷ []) $

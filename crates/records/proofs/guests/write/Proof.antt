@@ -38,7 +38,7 @@ use denote.Triple.Table.{entered}
 use denote.Triple.Walked.{says, needs, Stays, stay-none, stay-slice, walkOf, Walks, ends-at, walked, goes-none, goes-slice, walk-meets}
 use Rattle.rules.specs.declared.Guest.{Guest}
 use Rattle.records.specs.Records.{blank}
-use Rattle.records.proofs.Rec.{Rec, vals, val, tells, place-fits, makes, typed}
+use Rattle.records.proofs.Rec.{Rec, vals, val, tells, bytes, place-fits, makes, typed}
 use Rattle.lent.proofs.Steps.{gone}
 use Rattle.records.proofs.guests.write.Key.{name as #records·guests·write}
 use Rattle.records.proofs.guests.write as f
@@ -93,7 +93,7 @@ module _ {M : Type 1} (𝓤 : URA M) (H : Heap 𝓤) (A : Atoms 𝓤) (W : Given
         -- the place of the record
         assigns ! (bin ! (load ! (from ! (stop !)) (look ! 6 refl)) (lit ! tt) (record { fits = place-fits (length gs) i room lt })) (from ! (stop !)) (init ! 2 refl (tt, record { fits = place-fits (length gs) i room lt })) $
         assigns ! (bin ! (load ! (from ! (fld ! refl (stop !))) (look-in ! 8 (sub ! 0 refl (whole !)))) (load ! (from ! (stop !)) (look ! 2 refl)) tt) (from ! (stop !)) (init ! 0 refl (tt, tt)) $
-        rewrite ! 0 (λ (p : ℕ). ‵ (fat fullShare tyPtr l₅ 0 (vptr b p))) (sym (place-is 48 o i)) refl $
+        rewrite ! 0 (λ (p : ℕ). ‵ (fat fullShare tyPtr l₅ 0 (vptr b p))) (sym (place-is bytes o i)) refl $
         -- the borrow is opened, and the record taken out
         move ! (13 ∷ []) $ fsplit ! $ fsplit ! $ drop ! $ fsplit ! $ move ! (15 ∷ []) $ split ! $ move ! (2 ∷ 3 ∷ 0 ∷ []) $ opens-slice ! tt Rec gs b o $
         elem-out ! Rec (Is Rec) (shows 𝓤 H A Rec) vals tells fullShare gs i blank b o lt (λ _.

@@ -23,13 +23,18 @@ returns-3 c = simp (le-leb _ _ (c .before .before .before .if1 .left), le-leb _ 
 returns-4 : tie.Need-returns-4
 unfolding settled
 returns-4 c =
-    simp (le-leb _ _ (c .before .before .before .before .if1 .left), le-leb _ _ (c .before .before .before .if2 .left), sym (c .before .before .within .ensures) ∙ not-false _ (c .before .if3 .left), lt-ltb _ _ (c .if4 .taken))
+    simp (le-leb _ _ (c .before .before .before .before .if1 .left), le-leb _ _ (c .before .before .before .if2 .left), sym (c .before .before .within .ensures) ∙ not-false _ (c .before .if3 .left), lt-leb _ _ (c .if4 .taken))
 
 returns-5 : tie.Need-returns-5
 unfolding settled
 returns-5 c =
-    simp (le-leb _ _ (c .before .before .before .before .if1 .left), le-leb _ _ (c .before .before .before .if2 .left), sym (c .before .before .within .ensures) ∙ not-false _ (c .before .if3 .left), le-ltb _ _ (c .if4 .left))
+    simp (le-leb _ _ (c .before .before .before .before .before .if1 .left), le-leb _ _ (c .before .before .before .before .if2 .left), sym (c .before .before .before .within .ensures) ∙ not-false _ (c .before .before .if3 .left), le-leb _ _ (c .before .if4 .left), lt-ltb _ _ (c .if5 .taken))
+
+returns-6 : tie.Need-returns-6
+unfolding settled
+returns-6 c =
+    simp (le-leb _ _ (c .before .before .before .before .before .if1 .left), le-leb _ _ (c .before .before .before .before .if2 .left), sym (c .before .before .before .within .ensures) ∙ not-false _ (c .before .before .if3 .left), le-leb _ _ (c .before .if4 .left), le-ltb _ _ (c .if5 .left))
 
 pub is-settled-spec : {M : Type 1} → statement M
 is-settled-spec =
-    tie.close (tie.spec returns returns-2 within-requires returns-3 returns-4 returns-5)
+    tie.close (tie.spec returns returns-2 within-requires returns-3 returns-4 returns-5 returns-6)

@@ -1,46 +1,43 @@
-use Prim.Native.Nat.{ℕ, _*_, _≤_, _-_}
+use Prim.Native.Nat.{ℕ, _+_, _*_, _≤_, _-_}
 use native.Mathlib.Omega.{arith}
-use mathlib.Core.Path.{_≡_, refl, _∙_, ap}
-use lib.ListN.{length, length-set}
-use lib.Seq.{sets}
-use Rattle.lists.specs.Tab.{tab}
-use Rattle.lists.specs.Sets.{sets-tab}
-use Rattle.trace.specs.Header.{numberAt}
+use mathlib.Core.Path.{_≡_, refl, sym, _∙_, ap}
+use mathlib.Core.List.{List}
+use lib.ListN.{length, getD}
+use Rattle.lists.specs.Stores.{stores}
+use Rattle.table.specs.Columns.{settingsWide}
+use Rattle.table.specs.View.{settingsForm}
+use Rattle.trace.specs.Header.{settingsAt}
+use Rattle.trace.proofs.SettingsRows.{filled, filled-none, length-filled, filled-next}
 use Rattle.trace.proofs.opening.read_settings.Statement.{statement}
 use Rattle.trace.proofs.opening.read_settings.Tie as tie
-use Rattle.table.specs.Columns.{settingsWide}
 
 abbrev Inv-loop : tie.InvT-loop
-Inv-loop bytes guests into₀ n j₀ into j = (j ≤ n) × (length into ≡ length into₀) × (into ≡ sets into₀ 0 (tab j (numberAt bytes)))
+Inv-loop bytes guests into₀ k₀ into k = (k ≤ guests) × (length into ≡ length into₀) × (into ≡ filled bytes into₀ k)
 
 abbrev μ-loop : tie.MeasureT-loop
-μ-loop bytes guests into₀ n j₀ into j = n - j
-
-mul-n : tie.Need-mul-n Inv-loop μ-loop
-mul-n c = omega arith
+μ-loop bytes guests into₀ k₀ into k = guests - k
 
 loop-holds : tie.Need-loop-holds Inv-loop μ-loop
-loop-holds c = (omega arith, refl, refl)
+loop-holds c =
+    let a = c .before .before .args in
+    (omega arith, refl, sym (filled-none (a .bytes .now) (a .into .now)))
 
-number-at-requires : tie.Need-number-at-requires Inv-loop μ-loop
-number-at-requires c κs = omega arith
+put-settings-requires : tie.Need-put-settings-requires Inv-loop μ-loop
+put-settings-requires c κs = omega arith
 
-mul-into : tie.Need-mul-into Inv-loop μ-loop
-mul-into c = omega arith
-
-slice-write-into : tie.Need-slice-write-into Inv-loop μ-loop
-slice-write-into c = omega arith
-
-add-j : tie.Need-add-j Inv-loop μ-loop
-add-j c = omega arith
+add-k : tie.Need-add-k Inv-loop μ-loop
+add-k c = omega arith
 
 loop-less : tie.Need-loop-less Inv-loop μ-loop
 loop-less c = omega arith
 
 loop-again : tie.Need-loop-again Inv-loop μ-loop
 loop-again c =
-    let s = c .before .before .loop in
-    (omega arith, simp length-set (omega arith), sets-tab _ _ _ (s .j) _ (s .inv .2) (c .number-at .ensures))
+    let s = c .before .before .before .before .before .loop in
+    let a = c .before .before .before .before .before .before .before .before .args in
+    let put : List ℕ → List ℕ = λ (l : List ℕ). stores (λ j. s .k * settingsWide + j) (λ j. getD (settingsForm .line (settingsAt (a .bytes .now) (s .k))) j 0) settingsWide l in
+    let e = c .before .before .put-settings .ensures ∙ ap put (s .inv .2) ∙ filled-next (a .bytes .now) (a .into .now) (s .k) (omega arith) in
+    (omega arith, ap length e ∙ length-filled (a .bytes .now) (a .into .now) (s .k + 1), e)
 
 same-length : tie.Need-same-length Inv-loop μ-loop
 same-length c = c .before .loop .inv .1
@@ -49,8 +46,8 @@ returns : tie.Need-returns Inv-loop μ-loop
 returns c =
     let s = c .before .loop in
     let a = c .before .before .before .before .args in
-    let e : s .j ≡ a .guests * settingsWide = omega arith in
-    s .inv .2 ∙ ap (λ (n : ℕ). sets (a .into .now) 0 (tab n (numberAt (a .bytes .now)))) e
+    let e : s .k ≡ a .guests = omega arith in
+    s .inv .2 ∙ ap (filled (a .bytes .now) (a .into .now)) e
 
 pub read-settings-spec : {M : Type 1} → statement M
 read-settings-spec =
@@ -58,12 +55,9 @@ read-settings-spec =
     (tie.spec
     Inv-loop
     μ-loop
-    mul-n
     loop-holds
-    number-at-requires
-    mul-into
-    slice-write-into
-    add-j
+    put-settings-requires
+    add-k
     loop-less
     loop-again
     same-length

@@ -1,0 +1,97 @@
+use mathlib.Core.Path.{refl}
+use native.Mathlib.Omega.{arith}
+use lib.ListN.{length-set}
+use Rattle.lists.specs.Stores.{stores}
+use borrow.Author.Needs.{needs}
+use Rattle.trace.proofs.opening.put_settings.Statement.{statement}
+use Rattle.trace.proofs.opening.put_settings.Tie as tie
+
+mul-j : tie.Need-mul-j
+mul-j c = search needs
+
+mul-at : tie.Need-mul-at
+mul-at c = search needs
+
+number-at-requires : tie.Need-number-at-requires
+number-at-requires c κs = search needs
+
+add-into : tie.Need-add-into
+add-into c = search needs
+
+mul-into : tie.Need-mul-into
+mul-into c = search needs
+
+slice-write-into : tie.Need-slice-write-into
+slice-write-into c = search needs
+
+add-number-at : tie.Need-add-number-at
+add-number-at c = search needs
+
+number-at-requires-2 : tie.Need-number-at-requires-2
+number-at-requires-2 c κs = search needs
+
+add-into-2 : tie.Need-add-into-2
+add-into-2 c = search needs
+
+mul-into-2 : tie.Need-mul-into-2
+mul-into-2 c = search needs
+
+slice-write-into-2 : tie.Need-slice-write-into-2
+slice-write-into-2 c = simp length-set (omega arith)
+
+add-number-at-2 : tie.Need-add-number-at-2
+add-number-at-2 c = search needs
+
+number-at-requires-3 : tie.Need-number-at-requires-3
+number-at-requires-3 c κs = search needs
+
+add-into-3 : tie.Need-add-into-3
+add-into-3 c = search needs
+
+mul-into-3 : tie.Need-mul-into-3
+mul-into-3 c = search needs
+
+slice-write-into-3 : tie.Need-slice-write-into-3
+slice-write-into-3 c = simp length-set (omega arith)
+
+add-into-4 : tie.Need-add-into-4
+add-into-4 c = search needs
+
+mul-into-4 : tie.Need-mul-into-4
+mul-into-4 c = search needs
+
+slice-write-into-4 : tie.Need-slice-write-into-4
+slice-write-into-4 c = simp length-set (omega arith)
+
+same-length : tie.Need-same-length
+same-length c = search needs
+
+returns : tie.Need-returns
+unfolding stores
+returns c = rw (c .before .before .number-at .ensures, c .before .number-at2 .ensures, c .number-at3 .ensures) refl
+
+pub put-settings-spec : {M : Type 1} → statement M
+put-settings-spec =
+    tie.close
+    (tie.spec
+    mul-j
+    mul-at
+    number-at-requires
+    add-into
+    mul-into
+    slice-write-into
+    add-number-at
+    number-at-requires-2
+    add-into-2
+    mul-into-2
+    slice-write-into-2
+    add-number-at-2
+    number-at-requires-3
+    add-into-3
+    mul-into-3
+    slice-write-into-3
+    add-into-4
+    mul-into-4
+    slice-write-into-4
+    same-length
+    returns)
