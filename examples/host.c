@@ -124,7 +124,7 @@ static void open_gate(struct host *host, uint64_t credit)
         chosen[guest] = settings[guest];
     chosen[TELEPHONE].credit = credit;
     host->lent = (sgq_tables)SGQ_TABLES(host->gate, host->guests, host->waiting, host->flight);
-    sgq_answer answer = sgq_tables_open_all(&host->lent, chosen, GUESTS);
+    sgq_answer answer = sgq_tables_open_all(&host->lent, SGQ_RULE_1, chosen, GUESTS);
     if (answer.kind == SGQ_REFUSED)
         stop("opening", answer.refusal);
     host->wake = answer.wake;

@@ -28,7 +28,7 @@
 /* The version of this header and of the library that it belongs to. While the major number is 0, another minor number
  * means other calls or other rows. SGQ_VERSION is the text "MAJOR.MINOR.PATCH". */
 #define SGQ_VERSION_MAJOR 0
-#define SGQ_VERSION_MINOR 4
+#define SGQ_VERSION_MINOR 5
 #define SGQ_VERSION_PATCH 0
 #define SGQ_VERSION \
     SGQ_TEXT_OF(SGQ_VERSION_MAJOR) "." SGQ_TEXT_OF(SGQ_VERSION_MINOR) "." SGQ_TEXT_OF(SGQ_VERSION_PATCH)
@@ -67,8 +67,17 @@ extern "C" {
 /* The most credit of a guest. Document 02, K6: "Each guest record gains a credit c from 0 to 256." */
 #define SGQ_MOST_CREDIT 256
 
+/* The rule for limits, chosen at opening and kept by the gate. Under rule 1, document 01's, a request that is due by
+ * reservation goes though its limit lies ahead: "The limit is not looked at." Rule 2 is for houses that bill by limit.
+ * Document 02, K7: "Under rule 2 the reservation phase also wants the request unlimited or its limit tag at or before
+ * t." So no request goes before its limit tag, by reservation or by weight. */
+enum sgq_rule {
+    SGQ_RULE_1 = 1,
+    SGQ_RULE_2 = 2
+};
+
 /* How many 64-bit numbers each record has; the structs below are these rows. They stand here once. */
-#define SGQ_GATE_NUMBERS 6
+#define SGQ_GATE_NUMBERS 7
 #define SGQ_SETTINGS_NUMBERS 4
 #define SGQ_GUEST_NUMBERS 7
 #define SGQ_REQUEST_NUMBERS 5
@@ -85,6 +94,7 @@ typedef struct sgq_gate {
     uint64_t time;     /* of the last accepted event, in nanoseconds */
     uint64_t waiting;  /* how many requests wait */
     uint64_t flight;   /* how many are in flight, that is at the array */
+    uint64_t rule;     /* enum sgq_rule */
 } sgq_gate;
 
 /* A guest's settings, as opening takes them. "A reservation above a non-zero limit is bad; equal is good." Credit 0 is
@@ -115,7 +125,7 @@ typedef struct sgq_request {
     uint64_t guest; /* its number, from 0 */
     uint64_t id;    /* 32 bits, the guest's own */
     uint64_t rtag;  /* reservation tag: at or before the time the request is due by reservation */
-    uint64_t ltag;  /* limit tag: at or before the time it may go by weight */
+    uint64_t ltag;  /* limit tag: at or before the time it may go by weight, under rule 2 also by reservation */
     uint64_t stag;  /* share tag: by weight the smallest goes first */
 } sgq_request;
 
@@ -159,7 +169,8 @@ typedef struct sgq_answer {
 enum sgq_kind {
     SGQ_NOTHING = 0,             /* accepted (at opening: opened), and nothing is sent */
     SGQ_SENT_BY_RESERVATION = 1, /* accepted, and "of the waiting requests with a reservation tag at or before t, the
-                                  * one with the smallest, ties to the earlier accepted" is sent */
+                                  * one with the smallest, ties to the earlier accepted" is sent; under rule 2, of those
+                                  * of them that are unlimited or have a limit tag at or before t */
     SGQ_SENT_BY_WEIGHT = 2,      /* accepted, none was due, and "of those that are unlimited or have a limit tag at or
                                   * before t, the one with the smallest share tag, same tie rule" is sent */
     SGQ_REFUSED = 3              /* refused, and nothing has changed */
@@ -167,13 +178,13 @@ enum sgq_kind {
 
 /* The refusal numbers, each with the condition of document 01's table. Where several hold, the first in the call's
  * order is given:
- *   opening     depth, guests and capacity (1), lengths (2), guest settings (1)
+ *   opening     depth, guests, capacity and the rule (1), lengths (2), guest settings (1)
  *   arrival     2, 3, 4, 5, 6, 7, 8, 9
  *   completion  2, 3, 4, 5, 6, 10
  *   tick        2, 3, 5, 6
  *   batch       16, 17; then each event by itself: 14, and then as the call of its kind
  * "Settings inside an open table are judged by 3; to know the lengths needed, guests, depth and capacity out of range
- * give 3 at once." */
+ * give 3 at once." No length depends on the rule, so in an open gate it is judged after 2. */
 enum sgq_refusal {
     SGQ_REFUSED_SETTING = 1,            /* "a setting is out of range, when opening" */
     SGQ_REFUSED_SHORT_TABLE = 2,        /* "a lent table, or at opening the lent list of guest settings, is shorter than
@@ -205,10 +216,11 @@ enum sgq_refusal {
  * gate, SGQ_GUEST_NUMBERS for each guest, SGQ_REQUEST_NUMBERS for each of the capacity's waiting places and
  * SGQ_FLIGHT_NUMBERS for each of the depth's places in flight. */
 
-/* Opens a gate: the answer is SGQ_NOTHING, or refused with 1 or 2. Settings are SGQ_SETTINGS_NUMBERS a guest. The gate
- * and the tables may hold anything before; after it, "a fresh table has time 0, nothing waiting or in flight, all next
- * numbers 0", and "every place past the count holds zeros". So wake is SGQ_NEVER. */
-SGQ_MUST_USE sgq_answer sgq_open(uint64_t *gate, uint64_t depth, uint64_t guests, uint64_t capacity,
+/* Opens a gate under a rule, enum sgq_rule: the answer is SGQ_NOTHING, or refused with 1 or 2. Settings are
+ * SGQ_SETTINGS_NUMBERS a guest. The gate and the tables may hold anything before; after it, "a fresh table has time 0,
+ * nothing waiting or in flight, all next numbers 0", and "every place past the count holds zeros". So wake is
+ * SGQ_NEVER. */
+SGQ_MUST_USE sgq_answer sgq_open(uint64_t *gate, uint64_t depth, uint64_t guests, uint64_t capacity, uint64_t rule,
                                  const uint64_t *settings, size_t settings_length,
                                  uint64_t *guest_table, size_t guest_table_length,
                                  uint64_t *waiting, size_t waiting_length,
@@ -297,11 +309,11 @@ static inline uint64_t *sgq_flight_numbers(const sgq_tables *lent, uint64_t *spa
 
 /* sgq_open over records. */
 SGQ_MUST_USE static inline sgq_answer sgq_tables_open(const sgq_tables *lent, uint64_t depth, uint64_t guests,
-                                                      uint64_t capacity, const sgq_settings *settings,
-                                                      size_t settings_count)
+                                                      uint64_t capacity, uint64_t rule,
+                                                      const sgq_settings *settings, size_t settings_count)
 {
     uint64_t spare = 0;
-    return sgq_open(&lent->gate->depth, depth, guests, capacity,
+    return sgq_open(&lent->gate->depth, depth, guests, capacity, rule,
                     settings_count == 0 ? &spare : &settings->reservation, settings_count * SGQ_SETTINGS_NUMBERS,
                     sgq_guest_numbers(lent, &spare), lent->guest_count * SGQ_GUEST_NUMBERS,
                     sgq_waiting_numbers(lent, &spare), lent->waiting_count * SGQ_REQUEST_NUMBERS,
@@ -310,10 +322,11 @@ SGQ_MUST_USE static inline sgq_answer sgq_tables_open(const sgq_tables *lent, ui
 
 /* sgq_open over records with every place that is lent: the depth and the capacity are the counts of the tables, and
  * there are as many guests as settings. */
-SGQ_MUST_USE static inline sgq_answer sgq_tables_open_all(const sgq_tables *lent, const sgq_settings *settings,
-                                                          size_t settings_count)
+SGQ_MUST_USE static inline sgq_answer sgq_tables_open_all(const sgq_tables *lent, uint64_t rule,
+                                                          const sgq_settings *settings, size_t settings_count)
 {
-    return sgq_tables_open(lent, lent->flight_count, settings_count, lent->waiting_count, settings, settings_count);
+    return sgq_tables_open(lent, lent->flight_count, settings_count, lent->waiting_count, rule, settings,
+                           settings_count);
 }
 
 /* sgq_arrive over records. */

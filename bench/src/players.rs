@@ -47,6 +47,7 @@ fn tables(state: &State) -> Owned {
         time: state.time,
         waiting: state.waiting.len() as u64,
         flight: state.flight.len() as u64,
+        rule: state.rule,
     };
     let mut waiting: Vec<u64> = state.waiting.iter().flat_map(|w| w.numbers()).collect();
     waiting.resize(state.capacity * WAITING_NUMBERS, 0);

@@ -151,16 +151,17 @@ void gates_figures(void)
 void refusals_figures(void)
 {
     const sgq_settings settings[1] = {{0, 1000000, 1, 0}};
-    sgq_gate gate = {0, 0, 0, 0, 0, 0};
+    sgq_gate gate = {0, 0, 0, 0, 0, 0, 0};
     sgq_guest guests[1];
     sgq_request waiting[1];
     sgq_flight flight[1];
     const sgq_tables lent = SGQ_TABLES(gate, guests, waiting, flight);
     const uint64_t end = SGQ_CEILING;
-    print_answer("opening with depth 65", sgq_tables_open(&lent, 65, 1, 1, settings, 1));
-    print_answer("opening with depth 2, a table of 1", sgq_tables_open(&lent, 2, 1, 1, settings, 1));
+    print_answer("opening with depth 65", sgq_tables_open(&lent, 65, 1, 1, SGQ_RULE_1, settings, 1));
+    print_answer("opening under rule 3", sgq_tables_open(&lent, 1, 1, 1, 3, settings, 1));
+    print_answer("opening with depth 2, a table of 1", sgq_tables_open(&lent, 2, 1, 1, SGQ_RULE_1, settings, 1));
     print_answer("a tick before any opening", sgq_tables_tick(&lent, 0));
-    print_answer("opening", sgq_tables_open_all(&lent, settings, 1));
+    print_answer("opening", sgq_tables_open_all(&lent, SGQ_RULE_1, settings, 1));
     print_answer("guest 1 of one", sgq_tables_arrive(&lent, 1, 1, 0));
     print_answer("time 2^62", sgq_tables_tick(&lent, end + 1));
     print_answer("guest 0, id 1 at 5 ns", sgq_tables_arrive(&lent, 0, 1, 5));
@@ -187,7 +188,7 @@ static void send_to_array(sgq_answer answer)
 static uint64_t open_again(const sgq_tables *lent, const sgq_settings *settings, size_t guests,
                            const struct jobs *waited, uint64_t now)
 {
-    sgq_answer answer = sgq_tables_open_all(lent, settings, guests);
+    sgq_answer answer = sgq_tables_open_all(lent, SGQ_RULE_1, settings, guests);
     for (size_t place = 0; place < waited->count && answer.kind != SGQ_REFUSED; place++) {
         const struct job *job = &waited->job[place];
         answer = sgq_tables_arrive(lent, job->guest, (uint32_t)job->id, now);
@@ -208,7 +209,7 @@ void reopen_figures(void)
     static sgq_flight flight[4];
     static struct jobs waited; /* the host's own list */
     const sgq_tables lent = SGQ_TABLES(gate, guests, waiting, flight);
-    print_answer("opening", sgq_tables_open_all(&lent, settings, SGQ_COUNT(settings)));
+    print_answer("opening", sgq_tables_open_all(&lent, SGQ_RULE_1, settings, SGQ_COUNT(settings)));
     for (uint32_t id = 0; id < 10; id++)
         if (!sgq_sent(sgq_tables_arrive(&lent, 1, id, SECOND)))
             waited.job[waited.count++] = (struct job){1, id, SECOND, 0};

@@ -41,7 +41,7 @@ static const struct part {
     {"shares", shares_figures}, {"ahead", ahead_figures},       {"alone", alone_figures},
     {"parts", parts_figures},   {"limit", limit_figures},       {"overbooked", overbooked_figures},
     {"reopen", reopen_figures}, {"refusals", refusals_figures}, {"withdrawn", withdrawn_figures},
-    {"batch", batch_figures},   {"credit", credit_figures},
+    {"batch", batch_figures},   {"credit", credit_figures},     {"rules", rules_figures},
 };
 
 int main(void)

@@ -17,6 +17,7 @@ void parts_figures(void);
 void credit_figures(void);
 void overbooked_figures(void);
 void limit_figures(void);
+void rules_figures(void);
 
 /* duties.c */
 void clock_figures(void);

@@ -22,7 +22,7 @@ void house_open(struct house *house, uint64_t depth, uint64_t capacity, const sg
     for (size_t guest = 0; guest < GUESTS; guest++)
         house->next_ask[guest] = SGQ_NEVER;
     house->lent = (sgq_tables)SGQ_TABLES(house->gate, house->guests, house->waiting, house->flight);
-    sgq_answer answer = sgq_tables_open(&house->lent, depth, guests, capacity, settings, guests);
+    sgq_answer answer = sgq_tables_open(&house->lent, depth, guests, capacity, SGQ_RULE_1, settings, guests);
     if (answer.kind == SGQ_REFUSED)
         stop_at("opening", answer);
     house->wake = answer.wake;

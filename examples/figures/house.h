@@ -50,7 +50,7 @@ struct house {
     uint64_t now, wake;                 /* the time, and when to tick, as the gate said last */
 };
 
-/* Opens the gate, with an array that works on `servers` requests at once for `service` ns each. */
+/* Opens the gate under rule 1, with an array that works on `servers` requests at once for `service` ns each. */
 void house_open(struct house *house, uint64_t depth, uint64_t capacity, const sgq_settings *settings, size_t guests,
                 uint64_t servers, uint64_t service);
 

@@ -1,4 +1,5 @@
-/* rates.c: shares, credit, reservations and limits over time, at an array that does 1,000 requests a second. */
+/* rates.c: shares, credit, reservations, limits and their rules over time, at an array that does 1,000 requests a
+ * second. */
 #include "figures.h"
 
 #include <inttypes.h>
@@ -243,4 +244,42 @@ void limit_figures(void)
 {
     held_back();
     after_a_pause();
+}
+
+/* The rules for limits. */
+
+/* A guest with 100 a second reserved and a limit of 250 asks for more, for a second, at an array that is never full:
+ * how many go, and how many of them before their limit tag. They go in order, so the first waiting goes next. */
+static void bill(uint64_t rule)
+{
+    static const sgq_settings settings[] = {{100, 250, 1, 0}};
+    static sgq_gate gate;
+    static sgq_guest guests[1];
+    static sgq_request waiting[512];
+    static sgq_flight flight[2];
+    const sgq_tables lent = SGQ_TABLES(gate, guests, waiting, flight);
+    sgq_answer answer = sgq_tables_open_all(&lent, rule, settings, 1);
+    for (uint32_t id = 0; id < SGQ_COUNT(waiting) && answer.kind != SGQ_REFUSED; id++)
+        answer = sgq_tables_arrive(&lent, 0, id, 0);
+    if (answer.kind == SGQ_REFUSED)
+        stop_at("the bill", answer);
+    uint64_t sent = 1, early = 0, most = 0; /* id 0 went at 0 */
+    for (uint32_t last = 0; answer.wake < SECOND; last = (uint32_t)answer.id, sent++) {
+        const uint64_t now = answer.wake, limit = waiting[0].ltag;
+        early += limit > now;
+        most = limit > now && limit - now > most ? limit - now : most;
+        answer = sgq_tables_complete(&lent, 0, last, now);
+    }
+    printf("%4" PRIu64 "  %16" PRIu64 "  %22" PRIu64 "  ", rule, sent, early);
+    printf("%3s", "");
+    print_ms(most);
+    printf("\n");
+}
+
+void rules_figures(void)
+{
+    printf("a guest with 100 a second reserved and a limit of 250 asks for more\n");
+    printf("rule  sent in a second  before their limit tag  by at most, ms\n");
+    bill(SGQ_RULE_1);
+    bill(SGQ_RULE_2);
 }

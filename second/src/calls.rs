@@ -2,7 +2,7 @@
 //! every call; a refusal changes no lent number. The reply to an accepted
 //! event says when to wake the host.
 
-use crate::numbers::counts_good;
+use crate::numbers::{counts_good, rule_good};
 use crate::rules::{Answer, Phase, State};
 use crate::sound::first_broken;
 use crate::tables::{
@@ -55,10 +55,17 @@ impl Reply {
     }
 }
 
-/// Opens a gate. The settings are reservation, limit, shares and credit of
+/// Opens a gate under a rule for limits. The settings are reservation, limit, shares and credit of
 /// each guest. Nothing waits in a fresh table, so there is no time to wake.
-pub fn open(depth: u64, guests: u64, capacity: u64, settings: &[u64], lent: &mut Tables) -> Reply {
-    if !counts_good(depth, guests, capacity) {
+pub fn open(
+    depth: u64,
+    guests: u64,
+    capacity: u64,
+    rule: u64,
+    settings: &[u64],
+    lent: &mut Tables,
+) -> Reply {
+    if !counts_good(depth, guests, capacity) || !rule_good(rule) {
         return Reply::refused(1);
     }
     let listed = settings.len() >= guests as usize * SETTINGS_NUMBERS;
@@ -70,7 +77,7 @@ pub fn open(depth: u64, guests: u64, capacity: u64, settings: &[u64], lent: &mut
         return Reply::refused(1);
     }
     let settings: Vec<_> = (0..guests as usize).map(settings_of).collect();
-    let fresh = State::fresh(depth as usize, capacity as usize, &settings);
+    let fresh = State::fresh_under(rule, depth as usize, capacity as usize, &settings);
     write_back(&fresh, lent);
     Reply {
         answer: Answer::Nothing,
@@ -107,7 +114,8 @@ fn play(lent: &mut Tables, event: impl FnOnce(&mut State) -> Answer) -> Reply {
 }
 
 /// 2, 3. Without guests, depth and capacity in their ranges the lengths
-/// needed are not known, so these give 3 at once.
+/// needed are not known, so these give 3 at once; no length depends on the
+/// rule, which is judged with the rest of soundness.
 pub fn table_refusal(lent: &View) -> Option<u8> {
     if lent.gate.len() < GATE_NUMBERS {
         return Some(2);
@@ -137,6 +145,7 @@ pub fn read(lent: &View) -> State {
         depth: gate.depth as usize,
         capacity: gate.capacity as usize,
         time: gate.time,
+        rule: gate.rule,
         guests: (0..gate.guests as usize).map(guest).collect(),
         waiting: (0..gate.waiting as usize)
             .map(|place| lent.waiting(place))
@@ -157,6 +166,7 @@ fn write_back(state: &State, lent: &mut Tables) {
         time: state.time,
         waiting: state.waiting.len() as u64,
         flight: state.flight.len() as u64,
+        rule: state.rule,
     };
     lent.gate[..GATE_NUMBERS].copy_from_slice(&gate.numbers());
     let guests = state.guests.iter().map(|g| g.numbers());

@@ -21,6 +21,15 @@ pub fn counts_good(depth: u64, guests: u64, capacity: u64) -> bool {
         && (1..=MOST_CAPACITY).contains(&capacity)
 }
 
+/// The rules for limits: under rule 1 the reservation phase does not look at
+/// the limit, under rule 2 it does.
+pub const RULE_1: u64 = 1;
+pub const RULE_2: u64 = 2;
+
+pub fn rule_good(rule: u64) -> bool {
+    rule == RULE_1 || rule == RULE_2
+}
+
 /// What a guest is opened with. Reservation 0 is none, limit 0 is unlimited.
 /// The credit is how many share spacings before the time a share tag may lie.
 #[derive(Clone, Copy, Debug, PartialEq, Eq)]

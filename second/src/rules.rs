@@ -4,7 +4,7 @@
 //! Soundness is not tested here. In a sound state every sum below fits 64
 //! bits: a tag is below 2^62, a next number below 2^62 + 10^9.
 
-use crate::numbers::{Settings, CEILING};
+use crate::numbers::{Settings, CEILING, RULE_1, RULE_2};
 use crate::tables::{Flight, Guest, Waiting};
 
 #[derive(Clone, Copy, Debug, PartialEq, Eq)]
@@ -28,6 +28,8 @@ pub struct State {
     pub depth: usize,
     pub capacity: usize,
     pub time: u64,
+    /// The rule for limits, 1 or 2.
+    pub rule: u64,
     pub guests: Vec<Guest>,
     pub waiting: Vec<Waiting>,
     pub flight: Vec<Flight>,
@@ -42,11 +44,17 @@ struct Tags {
 }
 
 impl State {
+    /// A fresh gate under rule 1.
     pub fn fresh(depth: usize, capacity: usize, settings: &[Settings]) -> State {
+        State::fresh_under(RULE_1, depth, capacity, settings)
+    }
+
+    pub fn fresh_under(rule: u64, depth: usize, capacity: usize, settings: &[Settings]) -> State {
         State {
             depth,
             capacity,
             time: 0,
+            rule,
             guests: settings.iter().copied().map(Guest::fresh).collect(),
             waiting: Vec::with_capacity(capacity),
             flight: Vec::with_capacity(depth),
@@ -231,25 +239,30 @@ impl State {
         Answer::Nothing
     }
 
-    /// The smallest reservation tag at or before the time. `min_by_key`
-    /// gives the first of equals, so ties go to the earlier accepted.
+    /// Is the request unlimited, or its limit tag at or before the time?
+    fn open(&self, w: &Waiting) -> bool {
+        w.ltag <= self.time || !self.guests[w.guest as usize].settings.has_limit()
+    }
+
+    /// The smallest reservation tag at or before the time, under rule 2
+    /// among the open. `min_by_key` gives the first of equals, so ties go to
+    /// the earlier accepted.
     fn due_by_reservation(&self) -> Option<usize> {
         let due = |w: &Waiting| {
-            w.rtag <= self.time && self.guests[w.guest as usize].settings.has_reservation()
+            w.rtag <= self.time
+                && self.guests[w.guest as usize].settings.has_reservation()
+                && (self.rule != RULE_2 || self.open(w))
         };
         let waiting = self.waiting.iter().enumerate();
         let first = waiting.filter(|(_, w)| due(w)).min_by_key(|(_, w)| w.rtag);
         first.map(|(place, _)| place)
     }
 
-    /// The smallest share tag among the unlimited and those whose limit
-    /// tag is at or before the time; same tie rule.
+    /// The smallest share tag among the open; same tie rule.
     fn due_by_weight(&self) -> Option<usize> {
-        let may = |w: &Waiting| {
-            w.ltag <= self.time || !self.guests[w.guest as usize].settings.has_limit()
-        };
         let waiting = self.waiting.iter().enumerate();
-        let first = waiting.filter(|(_, w)| may(w)).min_by_key(|(_, w)| w.stag);
+        let open = waiting.filter(|(_, w)| self.open(w));
+        let first = open.min_by_key(|(_, w)| w.stag);
         first.map(|(place, _)| place)
     }
 
@@ -262,8 +275,9 @@ impl State {
     }
 
     /// After a weight send: the guest does not pay its reservation for
-    /// spare service. No reservation tag was due and the sent one was its
-    /// first, so what is left stays above the time and cannot fall below 0.
+    /// spare service. The sent one was its first, and open, so under either
+    /// rule its reservation tag was not due: what is left stays above the
+    /// time and cannot fall below 0.
     fn drop_reservation(&mut self, guest: u64) {
         let record = &mut self.guests[guest as usize];
         if !record.settings.has_reservation() {

@@ -3,7 +3,7 @@
 
 use crate::batch::{ANSWER_NUMBERS, EVENT_NUMBERS, MOST_EVENTS};
 use crate::calls::{read, table_refusal};
-use crate::numbers::{Settings, CEILING, MOST_CREDIT, MOST_RATE, SECOND};
+use crate::numbers::{Settings, CEILING, MOST_CREDIT, MOST_RATE, RULE_1, RULE_2, SECOND};
 use crate::rules::State;
 use crate::tables::{Flight, Gate, Guest, Tables, View, Waiting, FLIGHT_NUMBERS, WAITING_NUMBERS};
 use crate::trace::{ARRIVAL, COMPLETION, TICK};
@@ -151,6 +151,7 @@ pub fn sound_tables(rng: &mut Prng) -> Owned {
         time,
         waiting: waiting.len() as u64,
         flight: flight.len() as u64,
+        rule: rng.pick(&[RULE_1, RULE_2]),
     };
     Owned {
         gate: with_rest(rng, gate.numbers().to_vec()),

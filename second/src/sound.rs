@@ -1,7 +1,7 @@
 //! When a table is sound: document 01's rules, in its order. The numbers
 //! may be anything here, so sums are made in 128 bits.
 
-use crate::numbers::{counts_good, CEILING, MOST_GUESTS, SECOND};
+use crate::numbers::{counts_good, rule_good, CEILING, MOST_GUESTS, SECOND};
 use crate::tables::{Guest, View, Waiting, FLIGHT_NUMBERS, WAITING_NUMBERS};
 
 /// The rules, in the order in which they are tested.
@@ -52,6 +52,7 @@ pub fn first_broken(t: &View) -> Option<Rule> {
 fn settings_in_range(t: &View) -> bool {
     let g = t.gate();
     counts_good(g.depth, g.guests, g.capacity)
+        && rule_good(g.rule)
         && (0..g.guests as usize).all(|i| t.guest(i).settings.good())
 }
 

@@ -5,13 +5,14 @@
 
 use crate::numbers::Settings;
 
-pub const GATE_NUMBERS: usize = 6;
+pub const GATE_NUMBERS: usize = 7;
 pub const DEPTH: usize = 0;
 pub const GUESTS: usize = 1;
 pub const CAPACITY: usize = 2;
 pub const TIME: usize = 3;
 pub const WAITING: usize = 4;
 pub const FLIGHT: usize = 5;
+pub const RULE: usize = 6;
 
 /// A guest's rates, in a list of settings and in its record.
 pub const RESERVATION: usize = 0;
@@ -110,6 +111,7 @@ pub struct Gate {
     pub time: u64,
     pub waiting: u64,
     pub flight: u64,
+    pub rule: u64,
 }
 
 impl Gate {
@@ -121,6 +123,7 @@ impl Gate {
             self.time,
             self.waiting,
             self.flight,
+            self.rule,
         ]
     }
 }
@@ -164,6 +167,7 @@ impl View<'_> {
             time: g[TIME],
             waiting: g[WAITING],
             flight: g[FLIGHT],
+            rule: g[RULE],
         }
     }
 

@@ -103,7 +103,8 @@ pub(crate) fn print_refused(output: &mut impl Write, number: u8) -> io::Result<(
     writeln!(output, "trace refused {number}")
 }
 
-/// A fresh state, or the number of the header's refusal.
+/// A fresh state, or the number of the header's refusal. A header says no
+/// rule, so it is rule 1.
 pub(crate) fn read_header<R: Read>(input: &mut Input<R>) -> io::Result<Result<State, u8>> {
     let mut b = [0; START_BYTES];
     if input.fill(&mut b)? < START_BYTES {

@@ -11,9 +11,15 @@ use second::{first_broken, Answer, Tables, CEILING, NEVER};
 
 const SETTINGS: [u64; 2 * SETTINGS_NUMBERS] = [100, 250, 1, 9, 0, 0, 7, 256];
 
-/// The answer to an opening, which never has a time to wake.
+/// The answer to an opening with rule 1.
 fn open(depth: u64, guests: u64, capacity: u64, settings: &[u64], lent: &mut Tables) -> Answer {
-    let reply = second::open(depth, guests, capacity, settings, lent);
+    open_under(1, [depth, guests, capacity], settings, lent)
+}
+
+/// The answer to an opening, which never has a time to wake.
+fn open_under(rule: u64, counts: [u64; 3], settings: &[u64], lent: &mut Tables) -> Answer {
+    let [depth, guests, capacity] = counts;
+    let reply = second::open(depth, guests, capacity, rule, settings, lent);
     assert_eq!(reply.wake, None);
     let number = if refused(reply.answer) { 0 } else { NEVER };
     assert_eq!(reply.wake_number(), number);
@@ -29,7 +35,7 @@ fn room() -> Owned {
 fn opening_writes_a_fresh_table_and_nothing_beyond() {
     let mut t = room();
     assert_eq!(open(2, 2, 3, &SETTINGS, &mut t.lend()), Nothing);
-    assert_eq!(t.gate, [2, 2, 3, 0, 0, 0, 77]);
+    assert_eq!(t.gate, [2, 2, 3, 0, 0, 0, 1, 77]);
     assert_eq!(
         t.guests,
         [100, 250, 1, 0, 0, 0, 9, 0, 0, 7, 0, 0, 0, 256, 77]
@@ -56,6 +62,14 @@ fn opening_counts_then_lengths_then_settings() {
     ] {
         let answer = open(depth, guests, capacity, &[], &mut t.lend());
         assert_eq!(answer, Refused(1));
+    }
+    for rule in [0, 3, 256, u64::MAX] {
+        let answer = open_under(rule, [2, 2, 3], &[], &mut t.lend());
+        assert_eq!(answer, Refused(1));
+    }
+    for rule in [1, 2] {
+        let answer = open_under(rule, [2, 2, 3], &[], &mut t.lend());
+        assert_eq!(answer, Refused(2));
     }
     let bad = [9, 8, 1, 0, 0, 0, 0, 0];
     assert_eq!(
@@ -145,6 +159,15 @@ fn short_tables_and_counts_out_of_range() {
         assert_eq!(with(&needs_more), Refused(2));
     }
     assert_eq!(with(&|t| t.gate[TIME] = u64::MAX), Refused(3));
+    // A rule that is none comes after the lengths.
+    for rule in [0, 3, u64::MAX] {
+        let short = |t: &mut Owned| {
+            t.gate[RULE] = rule;
+            t.flight.pop();
+        };
+        assert_eq!(with(&|t| t.gate[RULE] = rule), Refused(3));
+        assert_eq!(with(&short), Refused(2));
+    }
 }
 
 /// One guest waits with id 1 and has id 0 in flight; capacity 1.
@@ -207,14 +230,14 @@ fn a_send_closes_up_and_leaves_zeros() {
         call(&mut t.lend(), Call::Arrive(0, id, 0));
     }
     call(&mut t.lend(), Call::Arrive(1, 1, 0));
-    assert_eq!(t.gate, [2, 2, 3, 0, 3, 2]);
+    assert_eq!(t.gate, [2, 2, 3, 0, 3, 2, 1]);
     assert_eq!(t.flight, [0, 1, 0, 2, 6]);
     assert_eq!(
         t.waiting,
         [0, 3, 0, 0, 0, 0, 4, 0, 0, SECOND, 1, 1, 0, 0, 0, 5]
     );
     assert_eq!(call(&mut t.lend(), Call::Complete(0, 1, 0)), weight(0, 3));
-    assert_eq!(t.gate, [2, 2, 3, 0, 2, 2]);
+    assert_eq!(t.gate, [2, 2, 3, 0, 2, 2, 1]);
     assert_eq!(t.flight, [0, 2, 0, 3, 6]);
     assert_eq!(
         t.waiting,
@@ -228,7 +251,7 @@ fn a_send_closes_up_and_leaves_zeros() {
     );
     assert_eq!(call(&mut t.lend(), Call::Complete(1, 1, 7)), weight(0, 4));
     assert_eq!(call(&mut t.lend(), Call::Complete(0, 4, 7)), Nothing);
-    assert_eq!(t.gate, [2, 2, 3, 7, 0, 1]);
+    assert_eq!(t.gate, [2, 2, 3, 7, 0, 1, 1]);
     assert_eq!(t.flight, [0, 3, 0, 0, 6]);
 }
 
@@ -311,13 +334,16 @@ fn opening_with_anything_is_refused_unchanged_or_fresh() {
         let before = t.clone();
         let settings = any_numbers(&mut rng);
         let bits = rng.pick(&[2, 7, 64]);
-        let (depth, guests, capacity) = (rng.sized(bits), rng.sized(bits), rng.sized(bits));
-        let answer = open(depth, guests, capacity, &settings, &mut t.lend());
+        let counts = [rng.sized(bits), rng.sized(bits), rng.sized(bits)];
+        let [depth, guests, capacity] = counts;
+        let rule = rng.between(0, 3);
+        let answer = open_under(rule, counts, &settings, &mut t.lend());
         if refused(answer) {
             assert_eq!(t, before);
         } else {
             assert_eq!(first_broken(&t.view()), None);
-            assert_eq!(t.gate[..GATE_NUMBERS], [depth, guests, capacity, 0, 0, 0]);
+            let gate = [depth, guests, capacity, 0, 0, 0, rule];
+            assert_eq!(t.gate[..GATE_NUMBERS], gate);
             assert_eq!(
                 t.waiting[waiting_at(capacity as usize, 0)..],
                 before.waiting[waiting_at(capacity as usize, 0)..]

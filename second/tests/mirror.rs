@@ -33,6 +33,7 @@ struct Mirror {
     depth: usize,
     capacity: usize,
     time: i128,
+    billed: bool,
     turn: u64,
     lanes: Vec<Lane>,
     flight: Vec<(u64, u64)>,
@@ -64,6 +65,7 @@ impl Mirror {
             depth: state.depth,
             capacity: state.capacity,
             time: state.time as i128,
+            billed: state.rule == 2,
             turn: 0,
             lanes: state.guests.iter().map(lane).collect(),
             flight: state.flight.iter().map(|f| (f.guest, f.id)).collect(),
@@ -236,11 +238,13 @@ impl Mirror {
         if self.flight.len() >= self.depth {
             return Answer::Nothing;
         }
-        if let Some((_, turn, number)) = self.first(R, |q| q.tags[R].is_some_and(|tag| tag <= t)) {
+        let in_limit = |q: &Request| q.tags[L].is_none_or(|tag| tag <= t);
+        let due = |q: &Request| q.tags[R].is_some_and(|tag| tag <= t);
+        let may = |q: &Request| due(q) && (!self.billed || in_limit(q));
+        if let Some((_, turn, number)) = self.first(R, may) {
             let id = self.send(number, turn);
             return reservation(number as u64, id);
         }
-        let in_limit = |q: &Request| q.tags[L].is_none_or(|tag| tag <= t);
         if let Some((_, turn, number)) = self.first(S, in_limit) {
             let id = self.send(number, turn);
             let lane = &mut self.lanes[number];

@@ -15,7 +15,7 @@ fn start(rng: &mut Prng) -> Owned {
         let guests = rng.between(1, 4);
         let settings: Vec<_> = (0..guests).map(|_| any_settings(rng)).collect();
         let (depth, capacity) = (rng.between(1, 3), rng.between(1, 10));
-        opened(depth, capacity, &settings)
+        opened_under(rng.pick(&[1, 2]), depth, capacity, &settings)
     } else {
         sound_tables(rng)
     }
@@ -99,6 +99,7 @@ fn places_beyond_the_need_and_settings_stay() {
             before.gate[CAPACITY] as usize,
         );
         assert_eq!(before.gate[..TIME], after.gate[..TIME]);
+        assert_eq!(before.gate[RULE], after.gate[RULE]);
         assert_eq!(before.gate[GATE_NUMBERS..], after.gate[GATE_NUMBERS..]);
         assert_eq!(
             before.guests[guest_at(guests, 0)..],
@@ -181,14 +182,15 @@ fn place_was_free(before: &State, c: Call) -> bool {
     before.flight.len() - freed < before.depth
 }
 
-/// Demand 3: a waiting request whose reservation tag is due, with k
-/// others before it, is sent at the latest by the (k+1)th accepted event
-/// that finds a place free, and no send before it is by weight.
+/// Demand 3: a waiting request whose reservation tag is due, and under rule
+/// 2 its limit tag too, with k others before it, their limits due or not, is
+/// sent at the latest by the (k+1)th accepted event that finds a place free,
+/// and no send before it is by weight.
 #[test]
 fn a_due_reservation_is_sent_in_its_turn() {
     let mut rng = Prng::new(35);
-    let mut followed = 0;
-    for _ in 0..1_500 {
+    let mut followed = [0, 0];
+    for _ in 0..3_000 {
         let mut t = start(&mut rng);
         // Some way into a run, which may be no way at all.
         for _ in 0..rng.below(30) {
@@ -197,7 +199,9 @@ fn a_due_reservation_is_sent_in_its_turn() {
         }
         let state = read(&t.view());
         let due = |w: &second::Waiting| {
-            w.rtag <= state.time && state.guests[w.guest as usize].settings.has_reservation()
+            let has = state.guests[w.guest as usize].settings;
+            let open = !has.has_limit() || w.ltag <= state.time;
+            w.rtag <= state.time && has.has_reservation() && (state.rule == 1 || open)
         };
         let places: Vec<usize> = (0..state.waiting.len())
             .filter(|place| due(&state.waiting[*place]))
@@ -206,10 +210,10 @@ fn a_due_reservation_is_sent_in_its_turn() {
             continue;
         }
         let place = rng.pick(&places);
-        followed += 1;
+        followed[state.rule as usize - 1] += 1;
         follow(&mut rng, t, place, before_it(&state, place));
     }
-    assert!(followed > 300, "{followed}");
+    assert!(followed.iter().all(|count| *count > 300), "{followed:?}");
 }
 
 fn follow(rng: &mut Prng, mut t: Owned, place: usize, k: usize) {

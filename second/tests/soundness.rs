@@ -73,6 +73,10 @@ fn settings_lie_in_the_ranges() {
         assert_eq!(broken(|t| t.gate[place] = 0), rule);
         assert_eq!(broken(|t| t.gate[place] = u64::MAX), rule);
     }
+    for number in [0, 3, 257, u64::MAX] {
+        assert_eq!(broken(|t| t.gate[RULE] = number), rule);
+    }
+    assert_eq!(broken(|t| t.gate[RULE] = 2), None);
 }
 
 #[test]
@@ -302,7 +306,8 @@ fn spoiled_tables_are_judged_as_a_plain_reading_does() {
             refusal => {
                 let in_range = (1..=64).contains(&t.gate[DEPTH])
                     && (1..=64).contains(&t.gate[GUESTS])
-                    && (1..=1_024).contains(&t.gate[CAPACITY]);
+                    && (1..=1_024).contains(&t.gate[CAPACITY])
+                    && (1..=2).contains(&t.gate[RULE]);
                 let good = in_range && plainly_sound(&t);
                 assert_eq!(refusal, if good { None } else { Some(3) });
                 if good {

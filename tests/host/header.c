@@ -1,5 +1,6 @@
 /* Written so that it is C99 and C++ alike: holds the structs of sgq.h to the rows of the tables, and plays the example
- * of document 01 through the helpers. Prints what samples/example.out has. */
+ * of document 01 through the helpers, under the rule that is named. Prints what samples/example.out has under rule 1;
+ * document 02, K7: "Event 7 of 01 prints `-` under rule 2." */
 #include "sgq.h"
 #include "sgq.h" /* twice does no harm */
 
@@ -18,6 +19,7 @@ AT(sgq_gate, capacity, 2);
 AT(sgq_gate, time, 3);
 AT(sgq_gate, waiting, 4);
 AT(sgq_gate, flight, 5);
+AT(sgq_gate, rule, 6);
 AT(sgq_settings, reservation, 0);
 AT(sgq_settings, limit, 1);
 AT(sgq_settings, shares, 2);
@@ -69,15 +71,16 @@ static void play(const sgq_tables *lent)
         print_answer(++event, sgq_tables_complete(lent, 0, 1, 10 * MS));
 }
 
-int main(void)
+int main(int count, char **words)
 {
+    const uint64_t rule = count > 1 && words[1][0] == '2' ? SGQ_RULE_2 : SGQ_RULE_1;
     static const sgq_settings settings[1] = {{100, 250, 1, 0}};
     sgq_gate gate;
     sgq_guest guests[1];
     sgq_request waiting[8];
     sgq_flight flight[4];
     sgq_tables lent = SGQ_TABLES(gate, guests, waiting, flight);
-    sgq_answer answer = sgq_tables_open(&lent, 4, 1, 8, settings, 1);
+    sgq_answer answer = sgq_tables_open(&lent, 4, 1, 8, rule, settings, 1);
     if (answer.kind != SGQ_NOTHING) {
         printf("opening was refused: %s\n", sgq_refusal_text(answer.refusal));
         return 1;

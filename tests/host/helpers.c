@@ -1,6 +1,6 @@
 /* What header.c does not try of sgq.h: tables of no records, counts taken from arrays, free places and waiting counts,
- * when to wake, and many events in one call. C99 and C++ alike; prints a line for each thing that is not as it should
- * be. */
+ * when to wake, the rules for limits, and many events in one call. C99 and C++ alike; prints a line for each thing that
+ * is not as it should be. */
 #include "sgq.h"
 
 #include <inttypes.h>
@@ -32,11 +32,14 @@ static void refused(const char *what, sgq_answer answer, uint64_t expected)
 static void no_records(void)
 {
     static const sgq_settings settings[GUESTS] = {{0, 0, 1, 0}, {0, 0, 1, 0}};
-    sgq_gate gate = {DEPTH, GUESTS, CAPACITY, 0, 0, 0};
+    sgq_gate gate = {DEPTH, GUESTS, CAPACITY, 0, 0, 0, SGQ_RULE_1};
     sgq_tables lent = {&gate, NULL, 0, NULL, 0, NULL, 0};
-    refused("no guests", sgq_tables_open_all(&lent, NULL, 0), SGQ_REFUSED_SETTING);
-    refused("no settings", sgq_tables_open(&lent, DEPTH, GUESTS, CAPACITY, NULL, 0), SGQ_REFUSED_SHORT_TABLE);
-    refused("no tables", sgq_tables_open(&lent, DEPTH, GUESTS, CAPACITY, settings, GUESTS), SGQ_REFUSED_SHORT_TABLE);
+    refused("no guests", sgq_tables_open_all(&lent, SGQ_RULE_1, NULL, 0), SGQ_REFUSED_SETTING);
+    refused("no settings", sgq_tables_open(&lent, DEPTH, GUESTS, CAPACITY, SGQ_RULE_1, NULL, 0),
+            SGQ_REFUSED_SHORT_TABLE);
+    refused("no tables", sgq_tables_open(&lent, DEPTH, GUESTS, CAPACITY, SGQ_RULE_2, settings, GUESTS),
+            SGQ_REFUSED_SHORT_TABLE);
+    refused("no rule", sgq_tables_open(&lent, DEPTH, GUESTS, CAPACITY, 0, settings, GUESTS), SGQ_REFUSED_SETTING);
     refused("arrival", sgq_tables_arrive(&lent, 0, 1, 0), SGQ_REFUSED_SHORT_TABLE);
     refused("completion", sgq_tables_complete(&lent, 0, 1, 0), SGQ_REFUSED_SHORT_TABLE);
     refused("tick", sgq_tables_tick(&lent, 0), SGQ_REFUSED_SHORT_TABLE);
@@ -59,12 +62,13 @@ static void counts(void)
     static const sgq_tables lent = SGQ_TABLES(gate, guests, waiting, flight);
     static const uint64_t from[] = {0, 1, 1, 0, 1};
 
-    const sgq_answer opened = sgq_tables_open_all(&lent, settings, SGQ_COUNT(settings));
+    const sgq_answer opened = sgq_tables_open_all(&lent, SGQ_RULE_2, settings, SGQ_COUNT(settings));
     same("open", opened.kind, SGQ_NOTHING);
     same("wake after opening", opened.wake, SGQ_NEVER);
     same("depth", gate.depth, DEPTH);
     same("guests", gate.guests, GUESTS);
     same("capacity", gate.capacity, CAPACITY);
+    same("rule", gate.rule, SGQ_RULE_2);
     same("free places", sgq_free_places(&gate), DEPTH);
     same("free waiting places", sgq_free_waiting(&gate), CAPACITY);
     for (uint32_t id = 0; id < SGQ_COUNT(from); id++)
@@ -91,7 +95,7 @@ static void wakes(void)
     static sgq_flight flight[DEPTH];
     static const sgq_tables lent = SGQ_TABLES(gate, guests, waiting, flight);
 
-    same("open", sgq_tables_open_all(&lent, settings, SGQ_COUNT(settings)).kind, SGQ_NOTHING);
+    same("open", sgq_tables_open_all(&lent, SGQ_RULE_1, settings, SGQ_COUNT(settings)).kind, SGQ_NOTHING);
     same("nothing waits", sgq_tables_arrive(&lent, 0, 1, 0).wake, SGQ_NEVER);
     same("the second waits", sgq_tables_arrive(&lent, 0, 2, 0).wake, spacing);
     same("the third too", sgq_tables_arrive(&lent, 0, 3, 0).wake, spacing);
@@ -107,6 +111,38 @@ static void wakes(void)
     same("never is all bits one", ~SGQ_NEVER, 0);
 }
 
+/* A guest of which two requests went by weight is due by reservation before its limit: under rule 1 the time to wake is
+ * its reservation tag, 10 ms, under rule 2 its limit tag, 12 ms, and at each a tick sends by reservation. */
+static void rules(void)
+{
+    static const sgq_settings settings[] = {{100, 250, 1, 0}};
+    static const uint64_t ms = UINT64_C(1000000), due[] = {10, 12};
+    static sgq_gate gate;
+    static sgq_guest guests[1];
+    static sgq_request waiting[CAPACITY];
+    static sgq_flight flight[4];
+    static const sgq_tables lent = SGQ_TABLES(gate, guests, waiting, flight);
+
+    for (uint64_t rule = SGQ_RULE_1; rule <= SGQ_RULE_2; rule++) {
+        const uint64_t wake = due[rule - SGQ_RULE_1] * ms;
+        same("open", sgq_tables_open_all(&lent, rule, settings, SGQ_COUNT(settings)).kind, SGQ_NOTHING);
+        for (uint32_t id = 1; id <= 4; id++)
+            same("arrival", sgq_tables_arrive(&lent, 0, id, 0).kind, id == 1 ? SGQ_SENT_BY_RESERVATION : SGQ_NOTHING);
+        same("at 4 ms", sgq_tables_tick(&lent, 4 * ms).kind, SGQ_SENT_BY_WEIGHT);
+        const sgq_answer sent = sgq_tables_tick(&lent, 8 * ms);
+        same("at 8 ms", sent.kind, SGQ_SENT_BY_WEIGHT);
+        same("wake", sent.wake, wake);
+        const sgq_answer early = sgq_tables_tick(&lent, wake - 1);
+        same("a tick before", early.kind, SGQ_NOTHING);
+        same("what it says", early.wake, wake);
+        same("a tick at it", sgq_tables_tick(&lent, wake).kind, SGQ_SENT_BY_RESERVATION);
+        same("the rule is kept", gate.rule, rule);
+    }
+    gate.rule = 3;
+    refused("another rule", sgq_tables_tick(&lent, 12 * ms), SGQ_REFUSED_NOT_SOUND);
+    refused("opening under it", sgq_tables_open_all(&lent, 3, settings, SGQ_COUNT(settings)), SGQ_REFUSED_SETTING);
+}
+
 /* Four events in one call, one of them refused and one that is none; the place past their answers stays as it is. Then
  * one event more than a call takes. */
 static void batches(void)
@@ -120,7 +156,7 @@ static void batches(void)
     static sgq_event many[SGQ_MOST_EVENTS + 1];
     static sgq_answer answers[SGQ_MOST_EVENTS + 1];
 
-    same("open", sgq_tables_open_all(&lent, settings, SGQ_COUNT(settings)).kind, SGQ_NOTHING);
+    same("open", sgq_tables_open_all(&lent, SGQ_RULE_1, settings, SGQ_COUNT(settings)).kind, SGQ_NOTHING);
     many[0] = sgq_arrival(0, 1, 5);
     many[1] = sgq_arrival(0, 1, 5);
     many[2] = sgq_tick_at(6);
@@ -149,6 +185,7 @@ int main(void)
     no_records();
     counts();
     wakes();
+    rules();
     batches();
     return wrong;
 }

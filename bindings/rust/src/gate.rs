@@ -5,6 +5,28 @@ use crate::raw::{self, Event, Flight, Guest, Numbers, Request, Settings};
 use crate::{MOST_CAPACITY, MOST_DEPTH};
 use std::slice;
 
+/// The rule for limits, chosen at opening.
+#[derive(Clone, Copy, Debug, PartialEq, Eq, Hash)]
+pub enum Rule {
+    /// Document 01's: in the reservation phase "the limit is not looked at", so a request that is due by reservation goes
+    /// though its limit lies ahead.
+    One,
+    /// For houses that bill by limit. Document 02, K7: "Under rule 2 the reservation phase also wants the request
+    /// unlimited or its limit tag at or before t." So no request goes before its limit tag.
+    Two,
+}
+
+impl Rule {
+    /// The number that the gate keeps.
+    #[must_use]
+    pub fn number(self) -> u64 {
+        match self {
+            Rule::One => raw::RULE_1,
+            Rule::Two => raw::RULE_2,
+        }
+    }
+}
+
 /// An open gate with its tables.
 #[derive(Clone, Debug, PartialEq, Eq)]
 pub struct Gate {
@@ -15,13 +37,18 @@ pub struct Gate {
 }
 
 impl Gate {
-    /// Opens a gate for these guests, numbered from 0: `depth` places at the array, `capacity` waiting places. Nothing
-    /// waits, so there is no time to wake.
+    /// Opens a gate for these guests, numbered from 0: `depth` places at the array, `capacity` waiting places, and the
+    /// rule for limits that it keeps. Nothing waits, so there is no time to wake.
     ///
     /// # Errors
     ///
     /// [`Refusal::Setting`] where depth, capacity, the number of guests or a guest's settings are out of range.
-    pub fn open(depth: u64, capacity: u64, guests: &[Settings]) -> Result<Gate, Refusal> {
+    pub fn open(
+        depth: u64,
+        capacity: u64,
+        rule: Rule,
+        guests: &[Settings],
+    ) -> Result<Gate, Refusal> {
         // Counts out of range are refused before the lengths are looked at, so no table need be longer than the most.
         let mut gate = Gate {
             numbers: Numbers::default(),
@@ -29,13 +56,14 @@ impl Gate {
             waiting: vec![Request::default(); places(capacity, MOST_CAPACITY)],
             flight: vec![Flight::default(); places(depth, MOST_DEPTH)],
         };
-        gate.call_open(depth, capacity, guests).map(|_| gate)
+        gate.call_open(depth, capacity, rule, guests).map(|_| gate)
     }
 
     fn call_open(
         &mut self,
         depth: u64,
         capacity: u64,
+        rule: Rule,
         settings: &[Settings],
     ) -> Result<Outcome, Refusal> {
         let count = settings.len() as u64;
@@ -47,6 +75,7 @@ impl Gate {
                 depth,
                 count,
                 capacity,
+                rule.number(),
                 settings.as_ptr().cast(),
                 numbers_in(settings),
                 lent.guests,
@@ -179,6 +208,15 @@ impl Gate {
     #[must_use]
     pub fn capacity(&self) -> u64 {
         self.numbers.capacity
+    }
+
+    /// The rule for limits.
+    #[must_use]
+    pub fn rule(&self) -> Rule {
+        match self.numbers.rule {
+            raw::RULE_2 => Rule::Two,
+            _ => Rule::One,
+        }
     }
 
     /// The time of the last accepted event.

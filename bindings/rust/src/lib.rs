@@ -1,12 +1,12 @@
 //! The proved disc gate, for a host in Rust.
 //!
 //! The gate holds the requests of 1 to 64 guests for one disc array and decides, after each event, whether one goes to
-//! the array: at most one. Up to 256 events go in one call. Each answer also says when to tick. [`Gate`] owns the tables that the library is lent; its
-//! methods are the library's calls. The rules are document 01's; words in quotes are that document's own, where no other
-//! is named.
+//! the array: at most one. Up to 256 events go in one call. Each answer also says when to tick. [`Gate`] owns the tables
+//! that the library is lent; its methods are the library's calls. The rules are document 01's; words in quotes are that
+//! document's own, where no other is named.
 //!
 //! ```
-//! use sgq::{Answer, Gate, Outcome, Phase, Refusal, Settings};
+//! use sgq::{Answer, Gate, Outcome, Phase, Refusal, Rule, Settings};
 //!
 //! # fn main() -> Result<(), Refusal> {
 //! const MS: u64 = 1_000_000;
@@ -15,7 +15,7 @@
 //! let nothing = |wake| Outcome { answer: Answer::Nothing, wake };
 //!
 //! let guests = [Settings { reservation: 100, limit: 250, shares: 1, credit: 0 }];
-//! let mut gate = Gate::open(4, 8, &guests)?;
+//! let mut gate = Gate::open(4, 8, Rule::One, &guests)?;
 //! assert_eq!(gate.arrive(0, 1, 0)?, by(Phase::Reservation, 1, None));
 //! assert_eq!(gate.arrive(0, 2, 0)?, nothing(Some(4 * MS)));
 //! assert_eq!(gate.tick(4 * MS)?, by(Phase::Weight, 2, None));
@@ -53,10 +53,11 @@
 //! The events of one interrupt go in one call, [`Gate::batch`], each answered as if it had come alone:
 //!
 //! ```
-//! use sgq::{raw, Event, Gate, Refusal, Settings};
+//! use sgq::{raw, Event, Gate, Refusal, Rule, Settings};
 //!
 //! # fn main() -> Result<(), Refusal> {
-//! let mut gate = Gate::open(1, 8, &[Settings { reservation: 0, limit: 0, shares: 1, credit: 0 }])?;
+//! let guests = [Settings { reservation: 0, limit: 0, shares: 1, credit: 0 }];
+//! let mut gate = Gate::open(1, 8, Rule::One, &guests)?;
 //! let mut room = [raw::Answer::default(); 3];
 //! let events = [Event::arrival(0, 1, 5), Event::arrival(0, 2, 5), Event::completion(0, 1, 9)];
 //! for outcome in gate.batch(&events, &mut room)? {
@@ -84,7 +85,7 @@ mod gate;
 pub mod raw;
 
 pub use answer::{Answer, Outcome, Phase, Refusal};
-pub use gate::{Answers, Gate};
+pub use gate::{Answers, Gate, Rule};
 pub use raw::{Event, Flight, Guest, Request, Settings};
 
 /// "Time and tags are whole nanoseconds, 0 to 4,611,686,018,427,387,903 (2^62 − 1, the ceiling)."

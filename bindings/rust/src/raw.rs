@@ -5,7 +5,7 @@
 //! that nobody else reads or writes during the call. Nothing is asked of the numbers: any tables may be lent.
 
 /// How many numbers the gate is.
-pub const GATE_NUMBERS: usize = 6;
+pub const GATE_NUMBERS: usize = 7;
 /// How many numbers a guest's settings are.
 pub const SETTINGS_NUMBERS: usize = 4;
 /// How many numbers a guest is.
@@ -32,6 +32,11 @@ const fn numbers_of<T>() -> usize {
     size_of::<T>() / size_of::<u64>()
 }
 
+/// Document 01's rule for limits; [`crate::Rule::One`].
+pub const RULE_1: u64 = 1;
+/// The rule for houses that bill by limit; [`crate::Rule::Two`].
+pub const RULE_2: u64 = 2;
+
 /// The gate: what it was opened with, the time and the counts.
 #[repr(C)]
 #[derive(Clone, Copy, Debug, Default, PartialEq, Eq)]
@@ -48,6 +53,8 @@ pub struct Numbers {
     pub waiting: u64,
     /// How many requests are in flight.
     pub flight: u64,
+    /// The rule for limits, [`RULE_1`] or [`RULE_2`].
+    pub rule: u64,
 }
 
 /// A guest's settings. "A reservation above a non-zero limit is bad; equal is good."
@@ -96,7 +103,7 @@ pub struct Request {
     pub id: u64,
     /// Reservation tag: at or before the time the request is due. 0 and without meaning where there is no reservation.
     pub rtag: u64,
-    /// Limit tag: at or before the time it may go by weight. 0 and without meaning where there is no limit.
+    /// Limit tag: at or before the time it may go by weight, under rule 2 also by reservation. 0 and without meaning where there is no limit.
     pub ltag: u64,
     /// Share tag: by weight the smallest goes first.
     pub stag: u64,
@@ -197,12 +204,13 @@ pub struct Answer {
 }
 
 extern "C" {
-    /// Opens a gate; settings are [`SETTINGS_NUMBERS`] a guest.
+    /// Opens a gate under a rule, [`RULE_1`] or [`RULE_2`]; settings are [`SETTINGS_NUMBERS`] a guest.
     pub fn sgq_open(
         gate: *mut u64,
         depth: u64,
         guests: u64,
         capacity: u64,
+        rule: u64,
         settings: *const u64,
         settings_length: usize,
         guest_table: *mut u64,

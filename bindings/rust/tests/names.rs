@@ -1,7 +1,8 @@
 //! The names beside the numbers of the library, and the calls on tables that a `Gate` never lends.
 
 use sgq::raw::{self, FLIGHT_NUMBERS, GUEST_NUMBERS, REQUEST_NUMBERS};
-use sgq::{Answer, Flight, Gate, Guest, Outcome, Phase, Refusal, Request, CEILING, MOST_CREDIT};
+use sgq::{Answer, Flight, Gate, Guest, Outcome, Phase, Refusal, Request, Rule};
+use sgq::{CEILING, MOST_CREDIT};
 
 #[test]
 fn refusals_by_number() {
@@ -104,6 +105,7 @@ const SOUND: raw::Numbers = raw::Numbers {
     time: 0,
     waiting: 0,
     flight: 0,
+    rule: raw::RULE_1,
 };
 
 #[test]
@@ -182,6 +184,69 @@ fn unsound_tables() {
     for unsound in [no_depth, late, too_many] {
         let answer = tick(unsound, GUEST_NUMBERS, REQUEST_NUMBERS, FLIGHT_NUMBERS);
         assert_eq!(answer, refused(Refusal::NotSound));
+    }
+}
+
+/// No length depends on the rule, so a table that is short is told before it.
+#[test]
+fn rules_in_an_open_table() {
+    let (g, w, f) = (GUEST_NUMBERS, REQUEST_NUMBERS, FLIGHT_NUMBERS);
+    let ruled = |rule| raw::Numbers { rule, ..SOUND };
+    for rule in [raw::RULE_1, raw::RULE_2] {
+        assert_eq!(tick(ruled(rule), g, w, f).kind, raw::NOTHING);
+    }
+    for rule in [0, 3, 1 << 32 | 1, u64::MAX] {
+        assert_eq!(tick(ruled(rule), g, w, f), refused(Refusal::NotSound));
+        let short = tick(ruled(rule), g, w, f - 1);
+        assert_eq!(short, refused(Refusal::ShortTable));
+    }
+}
+
+/// What opening answers to a rule, for one guest, depth 1 and capacity 1, with tables for these or with none.
+fn open_under(rule: u64, long: bool) -> (raw::Answer, raw::Numbers) {
+    let mut gate = raw::Numbers::default();
+    let mut settings = [raw::Settings::default()];
+    settings[0].shares = 1;
+    let mut guests = [Guest::default()];
+    let mut waiting = [Request::default()];
+    let mut flight = [Flight::default()];
+    let length = |numbers| if long { numbers } else { 0 };
+    // SAFETY: five tables of their own, of which at most as much is lent as there is.
+    let answer = unsafe {
+        raw::sgq_open(
+            (&raw mut gate).cast(),
+            1,
+            1,
+            1,
+            rule,
+            settings.as_ptr().cast(),
+            length(raw::SETTINGS_NUMBERS),
+            guests.as_mut_ptr().cast(),
+            length(GUEST_NUMBERS),
+            waiting.as_mut_ptr().cast(),
+            length(REQUEST_NUMBERS),
+            flight.as_mut_ptr().cast(),
+            length(FLIGHT_NUMBERS),
+        )
+    };
+    (answer, gate)
+}
+
+/// The rule is judged with the counts, before the lengths.
+#[test]
+fn rules_at_opening() {
+    for rule in [Rule::One, Rule::Two] {
+        let (answer, gate) = open_under(rule.number(), true);
+        assert_eq!((answer.kind, gate.rule), (raw::NOTHING, rule.number()));
+        let (answer, _) = open_under(rule.number(), false);
+        assert_eq!(answer, refused(Refusal::ShortTable));
+    }
+    for rule in [0, 3, 1 << 32 | 2, u64::MAX] {
+        for long in [true, false] {
+            let left = raw::Numbers::default();
+            let found = open_under(rule, long);
+            assert_eq!(found, (refused(Refusal::Setting), left));
+        }
     }
 }
 

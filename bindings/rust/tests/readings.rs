@@ -1,9 +1,9 @@
-//! Document 01's example and edge readings, each refusal, when to tick, credit for bursts, and many events in one call,
-//! through the wrapper.
+//! Document 01's example and edge readings, each refusal, when to tick, credit for bursts, the two rules for limits, and
+//! many events in one call, through the wrapper.
 
 #![allow(clippy::unnecessary_wraps)] // what a call must give is compared as it is given
 
-use sgq::{raw, Answer, Event, Flight, Gate, Guest, Outcome, Phase, Refusal, Settings};
+use sgq::{raw, Answer, Event, Flight, Gate, Guest, Outcome, Phase, Refusal, Rule, Settings};
 use sgq::{CEILING, MOST_CAPACITY, MOST_CREDIT, MOST_DEPTH, MOST_EVENTS, MOST_GUESTS, MOST_RATE};
 
 const MS: u64 = 1_000_000;
@@ -49,8 +49,9 @@ fn until(time: u64, outcome: Result<Outcome, Refusal>) -> Result<Outcome, Refusa
     outcome.map(|outcome| Outcome { wake, ..outcome })
 }
 
+/// A gate under rule 1.
 fn open(depth: u64, capacity: u64, guests: &[Settings]) -> Gate {
-    Gate::open(depth, capacity, guests).expect("good settings")
+    Gate::open(depth, capacity, Rule::One, guests).expect("good settings")
 }
 
 /// Holds a refused call to its refusal, and the gate to what it was.
@@ -79,6 +80,48 @@ fn example() {
     refused(&mut gate, Refusal::NotInFlight, |gate| {
         gate.complete(0, 1, 10 * MS)
     });
+}
+
+/// The same under rule 2: id 4 is due by reservation at 10 ms, its limit tag is 12 ms, and it waits until then.
+#[test]
+fn example_under_rule_2() {
+    let guests = [settings(100, 250, 1)];
+    let mut gate = Gate::open(4, 8, Rule::Two, &guests).expect("good settings");
+    assert_eq!(gate.rule(), Rule::Two);
+    assert_eq!(gate.arrive(0, 1, 0), by_reservation(0, 1));
+    for id in [2, 3, 4] {
+        assert_eq!(gate.arrive(0, id, 0), until(4 * MS, NOTHING));
+    }
+    assert_eq!(gate.tick(4 * MS), until(8 * MS, by_weight(0, 2)));
+    assert_eq!(gate.tick(8 * MS), until(12 * MS, by_weight(0, 3)));
+    assert_eq!(gate.tick(10 * MS), until(12 * MS, NOTHING));
+    refused(&mut gate, Refusal::TimeBeforeLast, |gate| gate.tick(9 * MS));
+    assert_eq!(gate.complete(0, 1, 10 * MS), until(12 * MS, NOTHING));
+    refused(&mut gate, Refusal::NotInFlight, |gate| {
+        gate.complete(0, 1, 10 * MS)
+    });
+    assert_eq!(gate.tick(12 * MS), by_reservation(0, 4));
+}
+
+/// At 10 ms A's id 4 and B's id 2 are due by reservation, A's accepted first, and A's limit lies 2 ms ahead.
+#[test]
+fn another_goes_under_rule_2() {
+    let guests = [settings(100, 250, 1), settings(100, 0, 1)];
+    for (rule, sent) in [(Rule::One, (0, 4)), (Rule::Two, (1, 2))] {
+        let mut gate = Gate::open(4, 8, rule, &guests).expect("good settings");
+        assert_eq!(gate.rule(), rule);
+        assert_eq!(gate.arrive(0, 1, 0), by_reservation(0, 1));
+        for id in [2, 3, 4] {
+            assert_eq!(gate.arrive(0, id, 0), until(4 * MS, NOTHING));
+        }
+        assert_eq!(gate.arrive(1, 1, 0), until(4 * MS, by_reservation(1, 1)));
+        assert_eq!(gate.tick(4 * MS), until(8 * MS, by_weight(0, 2)));
+        assert_eq!(gate.tick(8 * MS), by_weight(0, 3));
+        assert_eq!(gate.arrive(1, 2, 9 * MS), NOTHING);
+        let (guest, id) = sent;
+        let answer = gate.complete(0, 1, 10 * MS);
+        assert_eq!(answer, by_reservation(guest, id));
+    }
 }
 
 /// A with shares 1 and B with shares 2 at depth 1; A's ids 1, 2, 3 at 0.
@@ -193,7 +236,8 @@ fn an_id_in_use() {
 #[test]
 fn bad_settings() {
     let good = settings(5, 5, 1);
-    let opened = |depth, capacity, guests: &[Settings]| Gate::open(depth, capacity, guests).err();
+    let opened =
+        |depth, capacity, guests: &[Settings]| Gate::open(depth, capacity, Rule::Two, guests).err();
     let most = usize::try_from(MOST_GUESTS).expect("it fits");
     let guests = vec![good; most + 1];
     assert_eq!(opened(MOST_DEPTH, MOST_CAPACITY, &guests[..most]), None);

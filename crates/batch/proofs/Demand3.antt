@@ -10,7 +10,7 @@ use Rattle.lists.specs.Words.{if_then_else_, all}
 use Rattle.lists.specs.WordsLaws.{both, join, all-append, places-all}
 use Rattle.lists.specs.Tab.{tab, getD-tab, length-tab}
 use Rattle.rules.specs.declared.Event.the-variants.{Arrival, Completion, Tick}
-use Rattle.rules.specs.TurnAt.{DueAt, InTurnAt}
+use Rattle.rules.specs.TurnAt.{TurnKept}
 use Rattle.rules.specs.Refusals.{judged, isAccept}
 use Rattle.gate.specs.Promise.{Lending}
 use Rattle.gate.specs.Calls.{Host, holds, call, held, shows, firm, narrow, freeReplies}
@@ -98,6 +98,6 @@ module _ (v : Lending) where
     batches-firm bs h f = ap (firm v) (batches-as-calls v bs h) ∙ calls-run v lawful (goods (allDone bs)) h f (batches-narrow bs) .still
 
     -- demand 3 by places: of any firm table and a due place, whatever comes in batches meanwhile
-    pub batches-demand-3 : (h : Host v) (bs : List Batch) → firm v h ≡ true → (i : ℕ) → DueAt (shows v h) i → InTurnAt (shows v h) i (freeAnswers v h (allDone bs))
-    batches-demand-3 h bs f i d =
-        rw (free-calls (allDone bs) h) (calls-demand-3-places v lawful h (goods (allDone bs)) f (batches-narrow bs) i d)
+    pub batches-demand-3 : (h : Host v) (bs : List Batch) → firm v h ≡ true → (i : ℕ) → TurnKept (shows v h) i (freeAnswers v h (allDone bs))
+    batches-demand-3 h bs f i =
+        rw (free-calls (allDone bs) h) (calls-demand-3-places v lawful h (goods (allDone bs)) f (batches-narrow bs) i)

@@ -6,12 +6,12 @@ ghost use Prim.Native.Nat.{_≤_};
 ghost use lib.ListN.{length, take};
 ghost use Rattle.rules.specs.Run.{fresh};
 ghost use Rattle.table.specs.View.{tableOf};
-ghost use Rattle.trace.specs.Header.{settingsIn, headerOf};
+ghost use Rattle.trace.specs.Header.{ruleOf, settingsIn, headerOf};
 ghost use Rattle.trace.specs.declared.Header.the-variants.{Opened};
 ghost use Rattle.feed.specs.Promise.{Became};
 ghost use Rattle.begin.specs.Begin.{Largest, Begins};
 
-// Opens the tables with the header's counts and settings: they show a fresh table.
+// Opens the tables with the header's counts and settings, under the rule of a trace of version 1: they show a fresh table.
 fn open_tables(
     bytes: &[u8],
     depth: u64,
@@ -24,11 +24,11 @@ fn open_tables(
 ) -> Gate
     requires { ⌜ headerOf (now bytes) ≡ Opened depth known capacity ⌝ }
     requires { ⌜ Largest (now settings) (now guests) (now waiting) (now flight) ⌝ }
-    ensures { λ r. ⌜ Became (fresh depth capacity (settingsIn (now (bytes .entry)))) (now (guests .entry)) (now (waiting .entry)) (now (flight .entry)) r (now (guests .exit)) (now (waiting .exit)) (now (flight .exit)) ⌝ }
-    ensures { λ r. ⌜ tableOf r (now (guests .exit)) (now (waiting .exit)) (now (flight .exit)) ≡ fresh depth capacity (settingsIn (now (bytes .entry))) ⌝ }
+    ensures { λ r. ⌜ Became (fresh depth capacity (ruleOf (now (bytes .entry))) (settingsIn (now (bytes .entry)))) (now (guests .entry)) (now (waiting .entry)) (now (flight .entry)) r (now (guests .exit)) (now (waiting .exit)) (now (flight .exit)) ⌝ }
+    ensures { λ r. ⌜ tableOf r (now (guests .exit)) (now (waiting .exit)) (now (flight .exit)) ≡ fresh depth capacity (ruleOf (now (bytes .entry))) (settingsIn (now (bytes .entry))) ⌝ }
 {
     read_settings(bytes, known as usize, settings);
-    let opened = gate::numbers::open(depth, known, capacity, settings, guests, waiting, flight);
+    let opened = gate::numbers::open(depth, known, capacity, 1, settings, guests, waiting, flight);
     opened.gate
 }
 

@@ -267,39 +267,39 @@ covered t p b g h w f =
 -- FROM A FRESH TABLE
 
 -- the page after a run of events from a fresh table
-abbrev pub pageFor : (d c : ℕ) (ss : List Settings) → List Event → Page
-pageFor d c ss es = turnedBy (firstPage (fresh d c ss)) es
+abbrev pub pageFor : (d c rule : ℕ) (ss : List Settings) → List Event → Page
+pageFor d c rule ss es = turnedBy (firstPage (fresh d c rule ss)) es
 
 -- and its figures of guest g
-abbrev pub figuresFor : (d c : ℕ) (ss : List Settings) → List Event → ℕ → Figures
-figuresFor d c ss es g = figuresAt (pageFor d c ss es .figures) g
+abbrev pub figuresFor : (d c rule : ℕ) (ss : List Settings) → List Event → ℕ → Figures
+figuresFor d c rule ss es g = figuresAt (pageFor d c rule ss es .figures) g
 
-module _ (d c : ℕ) (ss : List Settings) (es : List Event) where
+module _ (d c rule : ℕ) (ss : List Settings) (es : List Event) where
   -- its table is the gate's
-  pub fresh-table : pageFor d c ss es .table ≡ after (fresh d c ss) es
-  fresh-table = turned-after es (firstPage (fresh d c ss))
+  pub fresh-table : pageFor d c rule ss es .table ≡ after (fresh d c rule ss) es
+  fresh-table = turned-after es (firstPage (fresh d c rule ss))
 
   -- and every guest has figures
-  pub fresh-known : length (pageFor d c ss es .figures) ≡ length ss
+  pub fresh-known : length (pageFor d c rule ss es .figures) ≡ length ss
   unfolding fresh
   fresh-known =
-      balance (fresh d c ss) es .guests
+      balance (fresh d c rule ss) es .guests
       ∙ ap (λ (x : Table). length (x .guests)) fresh-table
-      ∙ same-count (after (fresh d c ss) es) (fresh d c ss) (run-settings es (fresh d c ss))
+      ∙ same-count (after (fresh d c rule ss) es) (fresh d c rule ss) (run-settings es (fresh d c rule ss))
       ∙ length-map ss newcomer
 
   -- The accepted arrivals of a run from a fresh table are what waits and is in flight at the end, counted in the gate's tables, and what was completed.
   pub fresh-arrivals : (g : ℕ) → g < length ss
-      → figuresFor d c ss es g .arrivals ≡ waitsOf g (after (fresh d c ss) es) + fliesOf g (after (fresh d c ss) es) + figuresFor d c ss es g .completions
+      → figuresFor d c rule ss es g .arrivals ≡ waitsOf g (after (fresh d c rule ss) es) + fliesOf g (after (fresh d c rule ss) es) + figuresFor d c rule ss es g .completions
   unfolding fresh
   fresh-arrivals g h =
-      sym (zero-add (figuresFor d c ss es g .arrivals))
-      ∙ arrivals-balance (fresh d c ss) (pageFor d c ss es) (balance (fresh d c ss) es) g (rw fresh-known h)
-      ∙ ap (λ (x : Table). waitsOf g x + fliesOf g x + figuresFor d c ss es g .completions) fresh-table
+      sym (zero-add (figuresFor d c rule ss es g .arrivals))
+      ∙ arrivals-balance (fresh d c rule ss) (pageFor d c rule ss es) (balance (fresh d c rule ss) es) g (rw fresh-known h)
+      ∙ ap (λ (x : Table). waitsOf g x + fliesOf g x + figuresFor d c rule ss es g .completions) fresh-table
 
   -- And what is left is found by subtracting.
-  pub fresh-covered : (g : ℕ) → g < length ss → Covered (after (fresh d c ss) es) g (figuresFor d c ss es g)
+  pub fresh-covered : (g : ℕ) → g < length ss → Covered (after (fresh d c rule ss) es) g (figuresFor d c rule ss es g)
   unfolding fresh
   fresh-covered g h =
-      subst (λ (x : Table). Covered x g (figuresFor d c ss es g)) fresh-table
-      (covered (fresh d c ss) (pageFor d c ss es) (balance (fresh d c ss) es) g (rw fresh-known h) refl refl)
+      subst (λ (x : Table). Covered x g (figuresFor d c rule ss es g)) fresh-table
+      (covered (fresh d c rule ss) (pageFor d c rule ss es) (balance (fresh d c rule ss) es) g (rw fresh-known h) refl refl)

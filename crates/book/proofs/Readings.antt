@@ -12,7 +12,7 @@ use Rattle.rules.specs.Run.{fresh}
 use Rattle.rules.specs.declared.Event.{Event}
 use Rattle.rules.specs.declared.Event.the-variants.{Tick}
 use Rattle.rules.proofs.Trials.{ms, settings, comes, ends, three, lines}
-use Rattle.rules.proofs.Readings.{one, ten}
+use Rattle.rules.proofs.Readings.{oneBy, one, ten}
 use Rattle.book.specs.Book.{Entry}
 use Rattle.book.specs.Figures.{Figures}
 use Rattle.book.specs.Page.{liesAhead, booked, turned, turnedBy, firstPage}
@@ -76,15 +76,15 @@ waitsAfter g t es = waitsBy g (firstPage t) es
 
 -- one guest, whose reservation is its limit
 abbrev even : Table
-even = fresh 4 8 (settings 100 100 1 ∷ [])
+even = fresh 4 8 1 (settings 100 100 1 ∷ [])
 
 -- one guest, without a limit
 abbrev free : Table
-free = fresh 4 8 (settings 100 0 1 ∷ [])
+free = fresh 4 8 1 (settings 100 0 1 ∷ [])
 
 -- "Depth 1, two guests without reservation or limit, A with shares 1, B with shares 2."
 abbrev two : Table
-two = fresh 1 8 (settings 0 0 1 ∷ settings 0 0 2 ∷ [])
+two = fresh 1 8 1 (settings 0 0 1 ∷ settings 0 0 2 ∷ [])
 
 -- A's ids 1, 2, 3 at 0, B's id 1 at 100 ms; the completion of A1 sends A2, that of A2 sends B1
 abbrev shared : List Event
@@ -103,6 +103,8 @@ pub record Readings : Type 0 where
   -- document 01's example: event 7 is sent by reservation with its limit tag 2 ms ahead
   pub ten-figures : figuresAfter one ten ≡ sheet 4 1 2 2 1 (ms 10) (ms 22) ∷ []
   pub ten-waits : waitsAfter 0 one ten ≡ 0 ∷ ms 4 ∷ ms 8 ∷ ms 10 ∷ []
+  -- under rule 2 it is not sent, and no reservation send has its limit tag ahead
+  pub ten-by-rule-2 : figuresAfter (oneBy 2) ten ≡ sheet 4 1 1 2 0 (ms 8) (ms 12) ∷ []
   -- a limit tag that is now does not lie ahead, and that of a guest without a limit never does
   pub limit-now : figuresAfter even (three (Tick (ms 10) ∷ [])) ≡ sheet 3 0 2 0 0 (ms 10) (ms 10) ∷ []
   pub no-limit : figuresAfter free (three []) ≡ sheet 3 0 1 2 0 0 0 ∷ []
@@ -124,6 +126,7 @@ readings =
     record {
       ten-figures = agree-is (figuresAfter one ten) (sheet 4 1 2 2 1 (ms 10) (ms 22) ∷ []) refl;
       ten-waits = refl;
+      ten-by-rule-2 = agree-is (figuresAfter (oneBy 2) ten) (sheet 4 1 1 2 0 (ms 8) (ms 12) ∷ []) refl;
       limit-now = agree-is (figuresAfter even (three (Tick (ms 10) ∷ []))) (sheet 3 0 2 0 0 (ms 10) (ms 10) ∷ []) refl;
       no-limit = agree-is (figuresAfter free (three [])) (sheet 3 0 1 2 0 0 0 ∷ []) refl;
       two-guests = agree-is (figuresAfter two shared) (sheet 3 2 0 2 0 (ms 100) (ms 100) ∷ sheet 1 0 0 1 0 (ms 50) (ms 50) ∷ []) refl;

@@ -81,9 +81,9 @@ pub book-waits : (es : List Event) (p : Page) → Follows p → Follows (turnedB
 book-waits es p f = turned-keeps Follows follows-turned es p f
 
 -- and so from a fresh table.
-pub fresh-book : (d c : ℕ) (ss : List Settings) (es : List Event) → Follows (turnedBy (firstPage (fresh d c ss)) es)
+pub fresh-book : (d c rule : ℕ) (ss : List Settings) (es : List Event) → Follows (turnedBy (firstPage (fresh d c rule ss)) es)
 unfolding fresh
-fresh-book d c ss es = book-waits es (firstPage (fresh d c ss)) refl
+fresh-book d c rule ss es = book-waits es (firstPage (fresh d c rule ss)) refl
 
 -- THE TIMES OF THE BOOK
 

@@ -1,21 +1,21 @@
 -- What the walks and the moves of the choice ask, from a known table; and what the walks find, as the phases pick. Assumes nothing.
 use Prim.Native.Nat.{ℕ, _+_, _-_, _*_, _≤_, _<_}
 use mathlib.Core.Path.{_≡_, refl, sym, ap, _∙_}
-use mathlib.Core.Bool.{true, false, and-true}
+use mathlib.Core.Bool.{Bool, true, false, _&&_}
 use mathlib.Core.List.{List}
 use native.Mathlib.Omega.{arith}
 use lib.Dec.{leb, eqb}
 use lib.ListN.{length, getD}
-use borrow.Author.Tests.{eq-eqb, eqb-true}
-use Rattle.lists.specs.Words.{all}
+use borrow.Author.Tests.{le-leb, eq-eqb, eqb-true}
+use Rattle.lists.specs.Words.{if_then_else_, all}
 use Rattle.lists.specs.WordsLaws.{both, all-passing-at}
 use Rattle.lists.specs.Lines.{lineAt}
-use Rattle.lists.specs.RowsLaws.{row-at}
+use Rattle.lists.specs.RowsLaws.{row-at, length-rows}
 use Rattle.rules.specs.Numbers.{ceiling, down}
 use Rattle.rules.specs.Tables.{Request, Table, limited, lspacing, owner, settingsOf, of, mine}
 use Rattle.rules.specs.declared.Guest.{Guest}
 use Rattle.rules.specs.Sound.{kept}
-use Rattle.rules.specs.Choice.{dueAt, passes, due, open?, dropOf}
+use Rattle.rules.specs.Choice.{dueAt, openAt, passesAt, due, open?, dropOf}
 use Rattle.rules.specs.Chosen.{blank, at}
 use Rattle.rules.proofs.Facts.{orderly-is, any-orderly}
 use Rattle.rules.proofs.WeightFits.{weight-fits}
@@ -47,15 +47,6 @@ module _ (g : Gate) (gs ws fs : List ℕ) (k : Known g gs ws fs) where
     ((f .owners, rising-rows g gs ws fs k, λ j h. omega (arith, f .lawfuls j h .share, ap Request.stag (row-is g gs ws fs k j h))), f .timed),
   )
 
-  -- the walk's test is the reservation phase's
-  pub due-picks : (x : Found) → Picks (λ q. dueAt (settingsOf (guestsOf gs (g .guests)) q) (g .time) q) Request.rtag (t .waiting) x → Picks (due t) Request.rtag (t .waiting) x
-  unfolding passes
-  due-picks x p =
-      record {
-        pick = least-ext (due t) (λ q. dueAt (settingsOf (t .guests) q) (t .time) q) Request.rtag (t .waiting) (λ j h. and-true _) ∙ p .pick;
-        inside = p .inside;
-      }
-
   -- an unlimited guest's limit tags are 0
   pub limit-zero : (j : ℕ) → j < length (t .waiting) → limited (settingsOf (t .guests) (at (t .waiting) j)) ≡ false → (at (t .waiting) j) .ltag ≡ 0
   unfolding kept
@@ -67,6 +58,34 @@ module _ (g : Gate) (gs ws fs : List ℕ) (k : Known g gs ws fs) where
       let z : kept false Request.ltag (lspacing s) (lspacing s) (mine n (t .waiting)) ((owner (t .guests) n) .lnext) ≡ true = rw e at (o .limits) in
       let c = both (eqb ((owner (t .guests) n) .lnext) 0) (all (λ p. eqb (p .ltag) 0) (mine n (t .waiting))) z in
       eqb-true (q .ltag) 0 (all-passing-at (λ p. eqb (p .ltag) 0) (of n) (t .waiting) blank (c .1) j h (eq-eqb n n refl))
+
+  -- the latest limit tag that passes under the gate's rule
+  abbrev pub latest : ℕ
+  latest = if eqb (g .setup .rule) 2 then g .time else ceiling
+
+  -- the walk's test of the limit is the reservation phase's
+  passes-by-tag : (j : ℕ) → j < length (t .waiting) → passesAt (g .setup .rule) (settingsOf (t .guests) (at (t .waiting) j)) (g .time) (at (t .waiting) j) ≡ leb ((at (t .waiting) j) .ltag) latest
+  unfolding passesAt
+  passes-by-tag j h = go (eqb (g .setup .rule) 2)
+    where
+      q : Request
+      q = at (t .waiting) j
+
+      go : (b : Bool) → (if b then openAt (settingsOf (t .guests) q) (g .time) q else true) ≡ leb (q .ltag) (if b then g .time else ceiling)
+      go true = open-by-tag (settingsOf (t .guests) q) (g .time) q (limit-zero j h)
+      go false = sym (le-leb (q .ltag) ceiling (f .lawfuls j (omega (arith, length-rows requestForm ws (g .waiting))) .limit))
+
+  -- the walk's test is the reservation phase's
+  pub due-picks : (m : ℕ) → m ≡ latest → (x : Found) → Picks (λ q. dueAt (settingsOf (guestsOf gs (g .guests)) q) (g .time) q && leb (q .ltag) m) Request.rtag (t .waiting) x
+      → Picks (due t) Request.rtag (t .waiting) x
+  due-picks m e x p =
+      record {
+        pick = least-ext (due t) (λ q. dueAt (settingsOf (t .guests) q) (t .time) q && leb (q .ltag) m) Request.rtag (t .waiting)
+            (λ j h.
+            let q = at (t .waiting) j in
+            ap (λ (b : Bool). dueAt (settingsOf (t .guests) q) (t .time) q && b) (passes-by-tag j h ∙ ap (leb (q .ltag)) (sym e))) ∙ p .pick;
+        inside = p .inside;
+      }
 
   -- the walk's test is the weight phase's
   pub open-picks : (x : Found) → Picks (λ q. leb (q .ltag) (g .time)) Request.stag (t .waiting) x → Picks (open? t) Request.stag (t .waiting) x

@@ -1,6 +1,7 @@
 -- What the functions of the choice know at their calls and at their ends, from what their callees ensure. Assumes nothing.
 use Prim.Native.Nat.{ℕ, _+_, _-_, _*_, _≤_, _<_}
 use mathlib.Core.Path.{_≡_, sym, ap, _∙_, subst}
+use mathlib.Core.Bool.{_&&_}
 use mathlib.Core.List.{List}
 use native.Mathlib.Omega.{arith}
 use lib.Dec.{leb}
@@ -25,7 +26,7 @@ use Rattle.table.proofs.Facts.{facts}
 use Rattle.table.proofs.Left.{stays}
 use Rattle.choose.proofs.Sends.{found-at, reservation-sent, weight-none, reservation-none}
 use Rattle.choose.proofs.WeightSend.{weight-sent}
-use Rattle.choose.proofs.Phases.{due-picks, open-picks, drop-asks}
+use Rattle.choose.proofs.Phases.{latest, due-picks, open-picks, drop-asks}
 
 module _ (g : Gate) (gs ws fs : List ℕ) (k : Known g gs ws fs) where
   abbrev t : Table
@@ -40,27 +41,28 @@ module _ (g : Gate) (gs ws fs : List ℕ) (k : Known g gs ws fs) where
   narrow-id place here r n = omega (arith, n .1, facts g gs ws fs k .ids place here)
 
   module _ (free : g .flight < g .setup .depth) where
-    -- THE RESERVATION PHASE
+    -- THE RESERVATION PHASE, where m is the latest limit tag that passes
 
-    abbrev Due : Found → Type 0
-    Due x = Picks (λ q. dueAt (settingsOf (guestsOf gs (g .guests)) q) (g .time) q) Request.rtag (t .waiting) x
+    module _ (m : ℕ) (is : m ≡ latest g gs ws fs k) where
+      abbrev Due : Found → Type 0
+      Due x = Picks (λ q. dueAt (settingsOf (guestsOf gs (g .guests)) q) (g .time) q && leb (q .ltag) m) Request.rtag (t .waiting) x
 
-    -- the place that is due is one of those that wait
-    pub due-here : (x : Found) (place : ℕ) → Due x → x ≡ At place → place < g .waiting
-    due-here x place p e = found-at g gs ws fs k x place (due-picks g gs ws fs k x p) e .1
+      -- the place that is due is one of those that wait
+      pub due-here : (x : Found) (place : ℕ) → Due x → x ≡ At place → place < g .waiting
+      due-here x place p e = found-at g gs ws fs k x place (due-picks g gs ws fs k m is x p) e .1
 
-    pub reservation-returns : (x : Found) (place : ℕ) → Due x → x ≡ At place → (n : Name) (vs es : List ℕ) (d : Decision)
-        → vs ≡ gone place (g .waiting) ws → es ≡ joined place (g .flight) ws fs → Named place ws n → d ≡ sending Reservation (n .guest) (n .id) g
-        → Leaves reservationPhase g gs ws fs d gs vs es
-    reservation-returns x place p e n vs es d ew ef en ed =
-        let f = found-at g gs ws fs k x place (due-picks g gs ws fs k x p) e in
-        again reservationPhase (λ i. ((ed ∙ (λ j. decisionOf (sentGate g) (Sent Reservation (en .0 j) (en .1 j)))) i, gs, ew i, ef i))
-        (reservation-sent g gs ws fs k free place (f .1) (f .0))
+      pub reservation-returns : (x : Found) (place : ℕ) → Due x → x ≡ At place → (n : Name) (vs es : List ℕ) (d : Decision)
+          → vs ≡ gone place (g .waiting) ws → es ≡ joined place (g .flight) ws fs → Named place ws n → d ≡ sending Reservation (n .guest) (n .id) g
+          → Leaves reservationPhase g gs ws fs d gs vs es
+      reservation-returns x place p e n vs es d ew ef en ed =
+          let f = found-at g gs ws fs k x place (due-picks g gs ws fs k m is x p) e in
+          again reservationPhase (λ i. ((ed ∙ (λ j. decisionOf (sentGate g) (Sent Reservation (en .0 j) (en .1 j)))) i, gs, ew i, ef i))
+          (reservation-sent g gs ws fs k free place (f .1) (f .0))
 
-    pub none-due : (x : Found) → Due x → x ≡ NoPlace → {d : Decision} {hs vs es : List ℕ} → Leaves weightPhase g gs ws fs d hs vs es → Leaves reservationPhase g gs ws fs d hs vs es
-    none-due x p e l =
-        let r = reservation-none g gs ws fs k (subst (λ (y : Found). Picks (due t) Request.rtag (t .waiting) y) e (due-picks g gs ws fs k x p)) in
-        record { shows = l .shows ∙ ap (λ (y : Result). written gs ws fs (y .table)) r; answers = l .answers ∙ ap Result.answer r }
+      pub none-due : (x : Found) → Due x → x ≡ NoPlace → {d : Decision} {hs vs es : List ℕ} → Leaves weightPhase g gs ws fs d hs vs es → Leaves reservationPhase g gs ws fs d hs vs es
+      none-due x p e l =
+          let r = reservation-none g gs ws fs k (subst (λ (y : Found). Picks (due t) Request.rtag (t .waiting) y) e (due-picks g gs ws fs k m is x p)) in
+          record { shows = l .shows ∙ ap (λ (y : Result). written gs ws fs (y .table)) r; answers = l .answers ∙ ap Result.answer r }
 
     -- THE WEIGHT PHASE
 

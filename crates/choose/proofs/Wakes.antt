@@ -4,6 +4,7 @@ use mathlib.Core.Path.{_≡_, refl, ap, _∙_}
 use mathlib.Core.Bool.{Bool, true, false, not, _&&_}
 use mathlib.Core.List.{List, [], _∷_, map}
 use native.Mathlib.Omega.{arith}
+use lib.Dec.{eqb}
 use lib.ListN.{length}
 use borrow.Author.Tests.{lt-ltb, le-ltb}
 use Rattle.lists.specs.Words.{if_then_else_, empty, lowest}
@@ -20,18 +21,23 @@ use Rattle.rules.specs.declared.Wake.the-variants.{At, Never}
 use Rattle.table.specs.Columns.{guestWide, waitingWide, mostGuests, mostCapacity}
 use Rattle.table.specs.View.{requestForm, flightForm, guestsOf, waitingOf, tableOf, Known}
 use Rattle.table.proofs.Facts.{facts, row-is}
-use Rattle.walks.specs.Walks.{Owned, Rising, LimitsFit, readyBy, readyByTag}
+use Rattle.walks.specs.Walks.{Owned, Rising, LimitsFit, readyBy, readyUnder, readyByTag}
 use Rattle.choose.proofs.Phases.{line-asks, limit-zero}
 
 -- where an unlimited guest's limit tags are 0, the limit is told by the tag
-ready-by-tag : (s : Settings) (q : Request) → (limited s ≡ false → q .ltag ≡ 0) → readyBy (s .reservation) (q .rtag) (q .ltag) ≡ readyAt s q
-unfolding readyAt readyBy
-ready-by-tag s q zero = go (limited s) refl (reserved s)
+ready-by-tag : (rule : ℕ) (s : Settings) (q : Request) → (limited s ≡ false → q .ltag ≡ 0) → readyUnder rule (s .reservation) (q .rtag) (q .ltag) ≡ readyAt rule s q
+unfolding readyAt readyBy readyUnder
+ready-by-tag rule s q zero = go (limited s) refl (reserved s) (eqb rule 2)
   where
-    go : (l : Bool) → limited s ≡ l → (r : Bool) → (if r then min (q .ltag) (q .rtag) else q .ltag) ≡ (if l then (if r then min (q .ltag) (q .rtag) else q .ltag) else 0)
-    go true e r = refl
-    go false e true = omega (arith, zero e)
-    go false e false = zero e
+    go : (l : Bool) → limited s ≡ l → (r b : Bool)
+        → (if b then q .ltag else (if r then min (q .ltag) (q .rtag) else q .ltag)) ≡ (if l then (if r && not b then min (q .ltag) (q .rtag) else q .ltag) else 0)
+    go true e true true = refl
+    go true e true false = refl
+    go true e false true = refl
+    go true e false false = refl
+    go false e r true = zero e
+    go false e true false = omega (arith, zero e)
+    go false e false false = zero e
 
 -- whether a list has no entry is told by its length
 some-left : (l : List Request) → 0 < length l → empty l ≡ false
@@ -67,13 +73,14 @@ module _ (g : Gate) (gs ws : List ℕ) (k : (fs : List ℕ) × Known g gs ws fs)
     -- nothing waits
     pub wake-dry : g .waiting ≡ 0 → Never ≡ wake t
     unfolding wake
-    wake-dry h = rw (none-left (t .waiting) (length-rows requestForm ws (g .waiting) ∙ h)) (elim (room t) as (λ b. Never ≡ (if b && false then At (max (t .time) (lowest (map (readyIn (t .guests)) (t .waiting)))) else Never)) [ true ↦ refl | false ↦ refl ])
+    wake-dry h = rw (none-left (t .waiting) (length-rows requestForm ws (g .waiting) ∙ h)) (elim (room t) as (λ b. Never ≡ (if b && false then At (max (t .time) (lowest (map (readyIn (t .setup .rule) (t .guests)) (t .waiting)))) else Never)) [ true ↦ refl | false ↦ refl ])
 
     -- else what the walk finds
-    pub wake-found : g .flight < g .setup .depth → 0 < g .waiting → (r : ℕ) → r ≡ max (g .time) (lowest (map (readyByTag (guestsOf gs (g .guests))) (waitingOf ws (g .waiting)))) → At r ≡ wake t
+    pub wake-found : g .flight < g .setup .depth → 0 < g .waiting → (r : ℕ) → r ≡ max (g .time) (lowest (map (readyByTag (g .setup .rule) (guestsOf gs (g .guests))) (waitingOf ws (g .waiting)))) → At r ≡ wake t
     unfolding wake room
-    wake-found h some r e =
-        let same : map (readyByTag (t .guests)) (t .waiting) ≡ map (readyIn (t .guests)) (t .waiting) =
-        map-places (readyByTag (t .guests)) (readyIn (t .guests)) (t .waiting) blank (λ j i. ready-by-tag (settingsOf (t .guests) (at (t .waiting) j)) (at (t .waiting) j) (limit-zero g gs ws (k .0) (k .1) j i)) in
+    wake-found h some found e =
+        let r = g .setup .rule in
+        let same : map (readyByTag r (t .guests)) (t .waiting) ≡ map (readyIn r (t .guests)) (t .waiting) =
+        map-places (readyByTag r (t .guests)) (readyIn r (t .guests)) (t .waiting) blank (λ j i. ready-by-tag r (settingsOf (t .guests) (at (t .waiting) j)) (at (t .waiting) j) (limit-zero g gs ws (k .0) (k .1) j i)) in
         rw (length-rows flightForm fs (g .flight), lt-ltb (g .flight) (g .setup .depth) h, some-left (t .waiting) (omega (arith, length-rows requestForm ws (g .waiting))))
         (ap At (e ∙ ap (λ (l : List ℕ). max (g .time) (lowest l)) same))

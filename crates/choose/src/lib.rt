@@ -6,11 +6,14 @@ use rules::Phase;
 use rules::Wake;
 use table::gates;
 use table::gates::Decision;
+use table::numbers::CEILING;
 use walks::Found;
 ghost use mathlib.Core.Path.{_≡_};
 ghost use mathlib.Core.List.{List};
 ghost use Prim.Native.Nat.{ℕ, _<_};
-ghost use lib.Dec.{leb};
+ghost use lib.Dec.{leb, eqb};
+ghost use Rattle.lists.specs.Words.{if_then_else_};
+ghost use Rattle.rules.specs.Numbers.{ceiling};
 ghost use Rattle.rules.specs.Tables.{Request};
 ghost use Rattle.rules.specs.Choice.{choice};
 ghost use Rattle.rules.specs.Waking.{wake as wakeAt};
@@ -45,6 +48,13 @@ fn by_weight(
     }
 }
 
+// The latest limit tag that the reservation phase lets pass: under rule 2 the time, else the ceiling, which no tag is past.
+fn latest_limit(rule: u64, time: u64) -> u64
+    ensures { λ r. ⌜ r ≡ (if eqb rule 2 then time else ceiling) ⌝ }
+{
+    if rule == 2 { time } else { CEILING }
+}
+
 // The reservation phase: the due request with the smallest reservation tag goes; where none is due, the weight phase.
 fn by_reservation(
     gate: Gate,
@@ -60,7 +70,8 @@ fn by_reservation(
     let count = gate.waiting as usize;
     let flying = gate.flight as usize;
     let time = gate.time;
-    let firsts = walks::rows::first_in_line(&waiting[..], count, &guests[..], known, time);
+    let latest = latest_limit(gate.setup.rule, time);
+    let firsts = walks::rows::first_in_line(&waiting[..], count, &guests[..], known, time, latest);
     let found = firsts.due;
     let spare = firsts.open;
     match found {
@@ -88,7 +99,8 @@ pub fn wake_of(gate: Gate, guests: &[u64], waiting: &[u64]) -> Wake
     let known = gate.guests as usize;
     let count = gate.waiting as usize;
     let time = gate.time;
-    Wake::At(walks::wake::soonest(waiting, count, guests, known, time))
+    let rule = gate.setup.rule;
+    Wake::At(walks::wake::soonest(waiting, count, guests, known, time, rule))
 }
 
 // The choice: nothing goes where no place is free.

@@ -25,9 +25,9 @@ pub record Sized (n c d : ℕ) (t : Table) : Type 0 where
   pub depth : t .setup .depth ≡ d
 
 -- the table that an opening gives
-pub fresh-sized : (d n c : ℕ) (ss : List ℕ) → Sized n c d (fresh d c (settingsIn ss n))
+pub fresh-sized : (d n c rule : ℕ) (ss : List ℕ) → Sized n c d (fresh d c rule (settingsIn ss n))
 unfolding fresh
-fresh-sized d n c ss = record { guests = length-map (settingsIn ss n) newcomer ∙ length-rows settingsForm ss n; capacity = refl; depth = refl }
+fresh-sized d n c rule ss = record { guests = length-map (settingsIn ss n) newcomer ∙ length-rows settingsForm ss n; capacity = refl; depth = refl }
 
 module _ (v : Lending) (lawful : Lawful v) where
   -- the table that the choice leaves
@@ -74,12 +74,12 @@ module _ (v : Lending) (lawful : Lawful v) where
       go (refuse r) p = all-kept (g .guests) (g .setup .capacity) (g .setup .depth) (followedIn v (refuse r) e g gs ws fs)
 
   -- nor does an opening
-  pub opened-beyond : (d n c : ℕ) (ss : List ℕ) (gs : List (v .Cell)) (ws fs : List ℕ) → Beyond v n c d gs ws fs (openedIn v d n c ss gs ws fs)
+  pub opened-beyond : (d n c rule : ℕ) (ss : List ℕ) (gs : List (v .Cell)) (ws fs : List ℕ) → Beyond v n c d gs ws fs (openedIn v d n c rule ss gs ws fs)
   unfolding openedIn
-  opened-beyond d n c ss gs ws fs = go (openingIn v d n c ss gs ws fs) refl
+  opened-beyond d n c rule ss gs ws fs = go (openingIn v d n c rule ss gs ws fs) refl
     where
-      go : (w : Verdict) → openingIn v d n c ss gs ws fs ≡ w → Beyond v n c d gs ws fs (openedByIn v w d n c ss gs ws fs)
+      go : (w : Verdict) → openingIn v d n c rule ss gs ws fs ≡ w → Beyond v n c d gs ws fs (openedByIn v w d n c rule ss gs ws fs)
       go accept p =
-          let k = open-roomy v d n c ss gs ws fs (accepted-open v d n c ss gs ws fs p .1) in
-          handed-beyond n c d gs ws fs _ (fresh-sized d n c ss) (k .1)
-      go (refuse r) p = all-kept n c d (openedByIn v (refuse r) d n c ss gs ws fs)
+          let k = open-roomy v d n c ss gs ws fs (accepted-open v d n c ss gs ws fs rule p .1) in
+          handed-beyond n c d gs ws fs _ (fresh-sized d n c rule ss) (k .1)
+      go (refuse r) p = all-kept n c d (openedByIn v (refuse r) d n c rule ss gs ws fs)

@@ -20,7 +20,7 @@ use Rattle.rules.specs.declared.Event.the-variants.{Arrival, Completion, Tick}
 use Rattle.rules.specs.Refusals.{tests, eventTests, accepted}
 use Rattle.rules.specs.Run.{step}
 use Rattle.rules.specs.Turn.{sorted, findsRoom, atFree, sentByReservation, InTurn}
-use Rattle.rules.specs.TurnAt.{DueAt, InTurnAt}
+use Rattle.rules.specs.TurnAt.{TurnKept}
 use Rattle.rules.proofs.Judged.{passed}
 use Rattle.rules.proofs.Answered.{step-taken}
 use Rattle.rules.proofs.Demand3.{demand-3, demand-3-at}
@@ -82,29 +82,28 @@ module _ (v : Lending) (lawful : Lawful v) where
 
   -- DEMAND 3
 
-  module _ (h : Host v) (es : List Event) (f : firm v h ≡ true) (n : all narrow es ≡ true) (i : ℕ) (here : i < h .gate .waiting) (due : dueThere v h i ≡ true) where
+  module _ (h : Host v) (es : List Event) (f : firm v h ≡ true) (n : all narrow es ≡ true) (one : h .gate .setup .rule ≡ 1) (i : ℕ) (here : i < h .gate .waiting) (due : dueThere v h i ≡ true) where
     -- the waiting requests: those before place i, the one there, those behind it
     parted : shows v h .waiting ≡ take i (shows v h .waiting) ++ standing v h i ∷ drop (suc i) (shows v h .waiting)
     parted =
         split-at (shows v h .waiting) i (requestForm .read []) (omega (arith, length-rows requestForm (h .waiting) (h .gate .waiting)))
         ∙ ap (λ (x : Request). take i (shows v h .waiting) ++ x ∷ drop (suc i) (shows v h .waiting)) (row-at requestForm (h .waiting) (h .gate .waiting) i here)
 
-    -- "the accepted events that find a place free at the array .. send exactly those k first, then this request at the (k+1)th, each by reservation"
+    -- under rule 1 "the accepted events that find a place free at the array .. send exactly those k first, then this request at the (k+1)th, each by reservation"
     pub calls-demand-3 : (those : List Request) × (those ≡ sorted (aheadOf v h i)) × List·Permᴰ those (aheadOf v h i) × (length those ≡ length (aheadOf v h i)) × InTurn those (standing v h i) (freeReplies v h es)
     calls-demand-3 =
-        let d = demand-3 (shows v h) (take i (shows v h .waiting)) (drop (suc i) (shows v h .waiting)) (standing v h i) es (holds-sound v lawful h (firm-holds v lawful h f)) parted due in
+        let d = demand-3 (shows v h) (take i (shows v h .waiting)) (drop (suc i) (shows v h .waiting)) (standing v h i) es (holds-sound v lawful h (firm-holds v lawful h f)) one parted due in
         (d .0, d .1, d .2, d .3, rw (free-run es h f n) (d .4))
 
     -- "then this request at the (k+1)th": the answer at place k, counted from 0
     pub calls-demand-3-at : (k : ℕ) → k ≡ length (aheadOf v h i) → k < length (freeReplies v h es) → getD (freeReplies v h es) k Nothing ≡ sentByReservation (standing v h i)
     calls-demand-3-at k e l =
         rw (free-run es h f n)
-        (demand-3-at (shows v h) (take i (shows v h .waiting)) (drop (suc i) (shows v h .waiting)) (standing v h i) es (holds-sound v lawful h (firm-holds v lawful h f)) parted due k e (rw (free-run es h f n) at l))
+        (demand-3-at (shows v h) (take i (shows v h .waiting)) (drop (suc i) (shows v h .waiting)) (standing v h i) es (holds-sound v lawful h (firm-holds v lawful h f)) one parted due k e (rw (free-run es h f n) at l))
 
-  -- The same by places: of any firm table and a due place, whatever is called meanwhile.
-  pub calls-demand-3-places : (h : Host v) (es : List Event) → firm v h ≡ true → all narrow es ≡ true → (i : ℕ) → DueAt (shows v h) i
-      → InTurnAt (shows v h) i (freeReplies v h es)
-  calls-demand-3-places h es f n i d = rw (free-run es h f n) (demand-3-places (shows v h) i es (holds-sound v lawful h (firm-holds v lawful h f)) d)
+  -- By places, and under either rule: of any firm table and any place, whatever is called meanwhile.
+  pub calls-demand-3-places : (h : Host v) (es : List Event) → firm v h ≡ true → all narrow es ≡ true → (i : ℕ) → TurnKept (shows v h) i (freeReplies v h es)
+  calls-demand-3-places h es f n i = rw (free-run es h f n) (demand-3-places (shows v h) i es (holds-sound v lawful h (firm-holds v lawful h f)))
 
   -- And a call that is accepted and finds no place free sends nothing.
   pub calls-no-place : (h : Host v) (e : Event) → firm v h ≡ true → taken (call v e h .0 .answer) ≡ true → finds e (h .gate) ≡ false

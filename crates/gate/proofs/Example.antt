@@ -9,7 +9,7 @@ use Rattle.lists.specs.Lines.{linesOf}
 use Rattle.lists.specs.Rows.{rowsOf}
 use Rattle.rules.specs.Tables.{Table}
 use Rattle.rules.specs.Answers.{shown}
-use Rattle.rules.specs.Sound.{counted, settled}
+use Rattle.rules.specs.Sound.{counted, settled, ruled}
 use Rattle.rules.specs.Refusals.{openTests}
 use Rattle.rules.proofs.Trials.{R, -, W, X, lines}
 use Rattle.rules.proofs.Readings.{one, ten, readings}
@@ -24,21 +24,21 @@ abbrev lent : List ℕ
 lent = 100 ∷ 250 ∷ 1 ∷ 0 ∷ []
 
 module _ (gs ws fs : List ℕ) (g : 7 ≤ length gs) (w : 40 ≤ length ws) (f : 8 ≤ length fs) where
-  -- "depth 4 .. capacity 8"
+  -- "depth 4 .. capacity 8", under document 01's own rule
   abbrev host : Host numbers
-  host = holds numbers (opened 4 1 8 lent gs ws fs)
+  host = holds numbers (opened 4 1 8 1 lent gs ws fs)
 
-  accepts : taken (opened 4 1 8 lent gs ws fs .0 .answer) ≡ true
-  unfolding openedIn openingIn openTests openShortIn counted settled rowsOf linesOf handedIn
+  accepts : taken (opened 4 1 8 1 lent gs ws fs .0 .answer) ≡ true
+  unfolding openedIn openingIn openTests openShortIn counted settled ruled rowsOf linesOf handedIn
   accepts = rw (le-ltb (length gs) 7 g, le-ltb (length ws) 40 w, le-ltb (length fs) 8 f) refl
 
   starts : shows numbers host ≡ one
   unfolding rowsOf linesOf
-  starts = opened-firm numbers numbers-lawful 4 1 8 lent gs ws fs accepts .1
+  starts = opened-firm numbers numbers-lawful 4 1 8 1 lent gs ws fs accepts .1
 
   -- the ten answers
   pub example : map shown (replies numbers host ten) ≡ R 0 1 ∷ - ∷ - ∷ - ∷ W 0 2 ∷ W 0 3 ∷ R 0 4 ∷ X 6 ∷ - ∷ X 10 ∷ []
   unfolding lines
   example =
-      let r = calls-run numbers numbers-lawful ten host (opened-firm numbers numbers-lawful 4 1 8 lent gs ws fs accepts .0) refl in
+      let r = calls-run numbers numbers-lawful ten host (opened-firm numbers numbers-lawful 4 1 8 1 lent gs ws fs accepts .0) refl in
       ap (map shown) (r .answered) ∙ ap (λ (t : Table). lines t ten) starts ∙ readings .ten-answers

@@ -148,10 +148,10 @@ module _ (v : Lending) (g : Gate) (gs : List (v .Cell)) (ws fs : List ℕ) (e : 
 
 module _ (v : Lending) (d n c : ℕ) (ss : List ℕ) (gs : List (v .Cell)) (ws fs : List ℕ) where
   -- an opening is accepted only with counts in range and tables that are long enough
-  pub accepted-open : openingIn v d n c ss gs ws fs ≡ accept → (counted d n c ≡ true) × (openShortIn v d n c ss gs ws fs ≡ false)
+  pub accepted-open : (rule : ℕ) → openingIn v d n c rule ss gs ws fs ≡ accept → (counted d n c ≡ true) × (openShortIn v d n c ss gs ws fs ≡ false)
   unfolding openingIn openTests
-  accepted-open h =
-      let p = passed (openTests (openShortIn v d n c ss gs ws fs) d n c (settingsIn ss n)) (ap isAccept h) in
+  accepted-open rule h =
+      let p = passed (openTests (openShortIn v d n c ss gs ws fs) d n c rule (settingsIn ss n)) (ap isAccept h) in
       (not-false (counted d n c) (p 1), p 2)
 
   -- those have room

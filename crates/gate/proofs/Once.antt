@@ -75,8 +75,8 @@ module _ (v : Lending) where
     called-once e g p q = seen-once-in h k (p ∙ sym q)
 
     -- of an opening
-    pub opened-once : (d n c : ℕ) (ss : List ℕ) → seenIn v h ≡ seenIn v (openedIn v d n c ss gs ws fs) → seenIn v k ≡ seenIn v (openedIn v d n c ss gs ws fs) → h ≡ k
-    opened-once d n c ss p q = seen-once-in h k (p ∙ sym q)
+    pub opened-once : (d n c rule : ℕ) (ss : List ℕ) → seenIn v h ≡ seenIn v (openedIn v d n c rule ss gs ws fs) → seenIn v k ≡ seenIn v (openedIn v d n c rule ss gs ws fs) → h ≡ k
+    opened-once d n c rule ss p q = seen-once-in h k (p ∙ sym q)
 
 -- over numbers
 pub seen-once : (h k : HandedIn numbers) → seen h ≡ seen k → h ≡ k

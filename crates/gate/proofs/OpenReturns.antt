@@ -9,7 +9,7 @@ use Rattle.lists.specs.Words.{all}
 use Rattle.lists.specs.Parts.{zeros}
 use Rattle.lists.specs.Rows.{overRows}
 use Rattle.lists.specs.RowsLaws.{length-rows}
-use Rattle.rules.specs.Sound.{settled}
+use Rattle.rules.specs.Sound.{settled, ruled}
 use Rattle.rules.specs.Refusals.{Verdict, refuse, openTests}
 use Rattle.rules.specs.Run.{newcomer, fresh}
 use Rattle.rules.proofs.Conditions.{counted-means}
@@ -30,7 +30,7 @@ use Rattle.gate.specs.declared.numbers.Judged.{Judged}
 use Rattle.gate.specs.declared.numbers.Judged.the-variants.{Good, Bad}
 use Rattle.gate.proofs.Opened.{open-long}
 
--- THE JUDGEMENT, of a gate with these counts
+-- THE JUDGEMENT, of a gate with these counts and this rule
 
 -- not many guests
 pub known-few : (g : Gate) (b : Bool) → b ≡ countable g → not b ≡ false → g .guests ≤ mostGuests
@@ -38,7 +38,7 @@ known-few g b p n = counted-means (g .setup .depth) (g .guests) (g .setup .capac
 
 module _ (g : Gate) (ss gs ws fs : List ℕ) (b : Bool) (p : b ≡ countable g) where
   abbrev Judges : Judged → Type 0
-  Judges j = JudgesOpening (g .setup .depth) (g .guests) (g .setup .capacity) ss gs ws fs j
+  Judges j = JudgesOpening (g .setup .depth) (g .guests) (g .setup .capacity) (g .setup .rule) ss gs ws fs j
 
   -- counts out of range
   pub counts-bad : not b ≡ true → Judges (Bad BadSetting)
@@ -49,46 +49,59 @@ module _ (g : Gate) (ss gs ws fs : List ℕ) (b : Bool) (p : b ≡ countable g) 
     counts-good : countable g ≡ true
     counts-good = sym p ∙ not-false b n
 
-    -- the list of settings is short
-    pub list-short : length ss < g .guests * settingsWide → Judges (Bad ShortTable)
-    unfolding openingIn openTests openShortIn
-    list-short l = rw (counts-good, lt-ltb (length ss) (g .guests * settingsWide) l) refl
-
-    module _ (l : g .guests * settingsWide ≤ length ss) (a : Bool) (q : a ≡ short g gs ws fs) where
-      -- the tables then decide
-      short-is : openShortIn numbers (g .setup .depth) (g .guests) (g .setup .capacity) ss gs ws fs ≡ short g gs ws fs
-      unfolding openShortIn short
-      short-is = rw (counts-good, le-ltb (length ss) (g .guests * settingsWide) l) refl
-
-      pub tables-short : a ≡ true → Judges (Bad ShortTable)
+    module _ (a : Bool) (q : a ≡ ruled (g .setup .rule)) where
+      -- no such rule
+      pub rule-bad : not a ≡ true → Judges (Bad BadSetting)
       unfolding openingIn openTests
-      tables-short t = rw (counts-good, short-is, sym q ∙ t) refl
+      rule-bad m = rw (counts-good, sym q ∙ not-true a m) refl
 
-      module _ (f : a ≡ false) (s : Bool) (o : s ≡ all settled (settingsIn ss (g .guests))) where
-        pub settings-bad : not s ≡ true → Judges (Bad BadSetting)
-        unfolding openingIn openTests
-        settings-bad t = rw (counts-good, short-is, sym q ∙ f, sym o ∙ not-true s t) refl
+      module _ (m : not a ≡ false) where
+        rule-good : ruled (g .setup .rule) ≡ true
+        rule-good = sym q ∙ not-false a m
 
-        pub opening-good : not s ≡ false → Judges Good
-        unfolding openingIn openTests
-        opening-good t = (rw (counts-good, short-is, sym q ∙ f, sym o ∙ not-false s t) refl, open-long (g .setup .depth) (g .guests) (g .setup .capacity) ss gs ws fs counts-good (short-is ∙ sym q ∙ f))
+        -- the list of settings is short
+        pub list-short : length ss < g .guests * settingsWide → Judges (Bad ShortTable)
+        unfolding openingIn openTests openShortIn
+        list-short l = rw (counts-good, rule-good, lt-ltb (length ss) (g .guests * settingsWide) l) refl
+
+        module _ (l : g .guests * settingsWide ≤ length ss) (x : Bool) (y : x ≡ short g gs ws fs) where
+          -- the tables then decide
+          short-is : openShortIn numbers (g .setup .depth) (g .guests) (g .setup .capacity) ss gs ws fs ≡ short g gs ws fs
+          unfolding openShortIn short
+          short-is = rw (counts-good, le-ltb (length ss) (g .guests * settingsWide) l) refl
+
+          pub tables-short : x ≡ true → Judges (Bad ShortTable)
+          unfolding openingIn openTests
+          tables-short t = rw (counts-good, rule-good, short-is, sym y ∙ t) refl
+
+          module _ (f : x ≡ false) (s : Bool) (o : s ≡ all settled (settingsIn ss (g .guests))) where
+            pub settings-bad : not s ≡ true → Judges (Bad BadSetting)
+            unfolding openingIn openTests
+            settings-bad t = rw (counts-good, rule-good, short-is, sym y ∙ f, sym o ∙ not-true s t) refl
+
+            pub opening-good : not s ≡ false → Judges Good
+            unfolding openingIn openTests
+            opening-good t = (
+              rw (counts-good, rule-good, short-is, sym y ∙ f, sym o ∙ not-false s t) refl,
+              open-long (g .setup .depth) (g .guests) (g .setup .capacity) ss gs ws fs counts-good (short-is ∙ sym y ∙ f),
+            )
 
 -- THE OPENING
 
-module _ (d n c : ℕ) (ss gs ws fs : List ℕ) (g : Gate) (e : g ≡ freshGate d n c) (j : Judged) (found : JudgesOpening (g .setup .depth) (g .guests) (g .setup .capacity) ss gs ws fs j) where
-  told : JudgesOpening d n c ss gs ws fs j
-  told = subst (λ (x : Gate). JudgesOpening (x .setup .depth) (x .guests) (x .setup .capacity) ss gs ws fs j) e found
+module _ (d n c rule : ℕ) (ss gs ws fs : List ℕ) (g : Gate) (e : g ≡ freshGate d n c rule) (j : Judged) (found : JudgesOpening (g .setup .depth) (g .guests) (g .setup .capacity) (g .setup .rule) ss gs ws fs j) where
+  told : JudgesOpening d n c rule ss gs ws fs j
+  told = subst (λ (x : Gate). JudgesOpening (x .setup .depth) (x .guests) (x .setup .capacity) (x .setup .rule) ss gs ws fs j) e found
 
   -- a refusal
-  pub not-opened-returns : (r : Refusal) → j ≡ Bad r → (o : Outcome) → o ≡ notOpened r → seen (o, gs, ws, fs) ≡ seen (opened d n c ss gs ws fs)
+  pub not-opened-returns : (r : Refusal) → j ≡ Bad r → (o : Outcome) → o ≡ notOpened r → seen (o, gs, ws, fs) ≡ seen (opened d n c rule ss gs ws fs)
   unfolding openedIn
   not-opened-returns r p o q =
-      let v : openingIn numbers d n c ss gs ws fs ≡ refuse r = subst (JudgesOpening d n c ss gs ws fs) p told in
-      ap (λ (x : Outcome). seen (x, gs, ws, fs)) q ∙ sym (ap (λ (v : Verdict). seen (openedByIn numbers v d n c ss gs ws fs)) v)
+      let v : openingIn numbers d n c rule ss gs ws fs ≡ refuse r = subst (JudgesOpening d n c rule ss gs ws fs) p told in
+      ap (λ (x : Outcome). seen (x, gs, ws, fs)) q ∙ sym (ap (λ (v : Verdict). seen (openedByIn numbers v d n c rule ss gs ws fs)) v)
 
   module _ (p : j ≡ Good) where
-    good : JudgesOpening d n c ss gs ws fs Good
-    good = subst (JudgesOpening d n c ss gs ws fs) p told
+    good : JudgesOpening d n c rule ss gs ws fs Good
+    good = subst (JudgesOpening d n c rule ss gs ws fs) p told
 
     -- the lent lists have room for the moves
     pub open-room : OpenRoom d n c ss gs ws fs
@@ -96,13 +109,13 @@ module _ (d n c : ℕ) (ss gs ws fs : List ℕ) (g : Gate) (e : g ≡ freshGate 
 
     -- and what the moves leave is the fresh table
     pub opened-returns : (hs vs es : List ℕ) → hs ≡ started ss n gs → vs ≡ zeros ws (c * waitingWide) → es ≡ zeros fs (d * flightWide)
-        → (o : Outcome) → o ≡ outcomeOf g Nothing Never → seen (o, hs, vs, es) ≡ seen (opened d n c ss gs ws fs)
+        → (o : Outcome) → o ≡ outcomeOf g Nothing Never → seen (o, hs, vs, es) ≡ seen (opened d n c rule ss gs ws fs)
     unfolding openedIn handedIn fresh
     opened-returns hs vs es x y z o q =
         let m : length (map newcomer (settingsIn ss n)) ≡ n = length-map (settingsIn ss n) newcomer ∙ length-rows settingsForm ss n in
         let pg : hs ≡ overRows guestForm (length (map newcomer (settingsIn ss n))) (map newcomer (settingsIn ss n)) gs = x ∙ ap (λ (k : ℕ). overRows guestForm k (map newcomer (settingsIn ss n)) gs) (sym m) in
         let pw = y ∙ cleared-waiting c ws (open-room .waiting) in
         let pf = z ∙ cleared-flight d fs (open-room .flight) in
-        let pn = sym (fresh-never d c (settingsIn ss n)) in
-        let pe : g ≡ gateAt (record { depth = d; capacity = c }) (length (map newcomer (settingsIn ss n))) 0 0 0 = e ∙ ap (λ (k : ℕ). freshGate d k c) (sym m) in
-        ap (λ (o : Outcome). seen (o, hs, vs, es)) q ∙ (λ i. seen (outcomeOf (pe i) Nothing (pn i), pg i, pw i, pf i)) ∙ sym (ap (λ (v : Verdict). seen (openedByIn numbers v d n c ss gs ws fs)) (good .0))
+        let pn = sym (fresh-never d c rule (settingsIn ss n)) in
+        let pe : g ≡ gateAt (record { depth = d; capacity = c; rule = rule }) (length (map newcomer (settingsIn ss n))) 0 0 0 = e ∙ ap (λ (k : ℕ). freshGate d k c rule) (sym m) in
+        ap (λ (o : Outcome). seen (o, hs, vs, es)) q ∙ (λ i. seen (outcomeOf (pe i) Nothing (pn i), pg i, pw i, pf i)) ∙ sym (ap (λ (v : Verdict). seen (openedByIn numbers v d n c rule ss gs ws fs)) (good .0))

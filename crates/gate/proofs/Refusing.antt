@@ -29,10 +29,10 @@ module _ (v : Lending) where
   called-follows g gs ws fs e accept = unrefused (enter (tableIn v g gs ws fs) e)
   called-follows g gs ws fs e (refuse r) = refl
 
-  opened-follows : (d n c : ℕ) (ss : List ℕ) (gs : List (v .Cell)) (ws fs : List ℕ) (w : Verdict) → Follows w (openedByIn v w d n c ss gs ws fs .0 .answer)
+  opened-follows : (d n c rule : ℕ) (ss : List ℕ) (gs : List (v .Cell)) (ws fs : List ℕ) (w : Verdict) → Follows w (openedByIn v w d n c rule ss gs ws fs .0 .answer)
   unfolding handedIn
-  opened-follows d n c ss gs ws fs accept = refl
-  opened-follows d n c ss gs ws fs (refuse r) = refl
+  opened-follows d n c rule ss gs ws fs accept = refl
+  opened-follows d n c rule ss gs ws fs (refuse r) = refl
 
   -- REFUSAL KEEPS
 
@@ -46,12 +46,12 @@ module _ (v : Lending) where
       go (refuse s) h = ap (unchangedIn v g gs ws fs) h
 
   -- an opening that is refused opens nothing
-  pub opening-keeps : (d n c : ℕ) (ss : List ℕ) (gs : List (v .Cell)) (ws fs : List ℕ) (r : Refusal) → openedIn v d n c ss gs ws fs .0 .answer ≡ Refused r → openedIn v d n c ss gs ws fs ≡ unchangedIn v unopened gs ws fs (Refused r)
+  pub opening-keeps : (d n c rule : ℕ) (ss : List ℕ) (gs : List (v .Cell)) (ws fs : List ℕ) (r : Refusal) → openedIn v d n c rule ss gs ws fs .0 .answer ≡ Refused r → openedIn v d n c rule ss gs ws fs ≡ unchangedIn v unopened gs ws fs (Refused r)
   unfolding openedIn
-  opening-keeps d n c ss gs ws fs r = go (openingIn v d n c ss gs ws fs)
+  opening-keeps d n c rule ss gs ws fs r = go (openingIn v d n c rule ss gs ws fs)
     where
-      go : (w : Verdict) → openedByIn v w d n c ss gs ws fs .0 .answer ≡ Refused r → openedByIn v w d n c ss gs ws fs ≡ unchangedIn v unopened gs ws fs (Refused r)
-      go accept h = absurd (true≢false (sym (opened-follows d n c ss gs ws fs accept) ∙ ap taken h))
+      go : (w : Verdict) → openedByIn v w d n c rule ss gs ws fs .0 .answer ≡ Refused r → openedByIn v w d n c rule ss gs ws fs ≡ unchangedIn v unopened gs ws fs (Refused r)
+      go accept h = absurd (true≢false (sym (opened-follows d n c rule ss gs ws fs accept) ∙ ap taken h))
       go (refuse s) h = ap (unchangedIn v unopened gs ws fs) h
 
   -- REFUSED EXACTLY
@@ -74,9 +74,9 @@ module _ (v : Lending) where
       (shown-tells (judgedIn v e g gs ws fs) (calledIn v e g gs ws fs .0 .answer) (called-follows g gs ws fs e (judgedIn v e g gs ws fs)))
 
   -- And of an opening.
-  pub open-exactly : (d n c : ℕ) (ss : List ℕ) (gs : List (v .Cell)) (ws fs : List ℕ)
-      → RefusedExactly (openCases (openShortIn v d n c ss gs ws fs) d n c (settingsIn ss n)) (Numbers (openedIn v d n c ss gs ws fs)) (Accepts (openedIn v d n c ss gs ws fs))
+  pub open-exactly : (d n c rule : ℕ) (ss : List ℕ) (gs : List (v .Cell)) (ws fs : List ℕ)
+      → RefusedExactly (openCases (openShortIn v d n c ss gs ws fs) d n c rule (settingsIn ss n)) (Numbers (openedIn v d n c rule ss gs ws fs)) (Accepts (openedIn v d n c rule ss gs ws fs))
   unfolding openedIn openingIn
-  open-exactly d n c ss gs ws fs =
-      exactly (open-tested (openShortIn v d n c ss gs ws fs) d n c (settingsIn ss n))
-      (shown-tells (openingIn v d n c ss gs ws fs) (openedIn v d n c ss gs ws fs .0 .answer) (opened-follows d n c ss gs ws fs (openingIn v d n c ss gs ws fs)))
+  open-exactly d n c rule ss gs ws fs =
+      exactly (open-tested (openShortIn v d n c ss gs ws fs) d n c rule (settingsIn ss n))
+      (shown-tells (openingIn v d n c rule ss gs ws fs) (openedIn v d n c rule ss gs ws fs .0 .answer) (opened-follows d n c rule ss gs ws fs (openingIn v d n c rule ss gs ws fs)))

@@ -133,10 +133,10 @@ module _ (v : Lending) (lawful : Lawful v) where
       go false s true h = let j = sound-judged v lawful g gs ws fs h in called-alike g gs ws fs hs vs es a (j .waits) (j .flies) e
 
   -- Nor does an opening, of the settings too.
-  pub opened-unread : (d n c : ℕ) (ss ts : List ℕ) (gs : List (v .Cell)) (ws fs : List ℕ) (hs : List (v .Cell)) (vs es : List ℕ) → take (n * settingsWide) ss ≡ take (n * settingsWide) ts → Alike v n c d gs ws fs hs vs es
-      → Same v n c d (openedIn v d n c ss gs ws fs) (openedIn v d n c ts hs vs es)
+  pub opened-unread : (d n c rule : ℕ) (ss ts : List ℕ) (gs : List (v .Cell)) (ws fs : List ℕ) (hs : List (v .Cell)) (vs es : List ℕ) → take (n * settingsWide) ss ≡ take (n * settingsWide) ts → Alike v n c d gs ws fs hs vs es
+      → Same v n c d (openedIn v d n c rule ss gs ws fs) (openedIn v d n c rule ts hs vs es)
   unfolding openedIn openingIn openShortIn
-  opened-unread d n c ss ts gs ws fs hs vs es o a = rw (sym verdicts) (go (openingIn v d n c ss gs ws fs))
+  opened-unread d n c rule ss ts gs ws fs hs vs es o a = rw (sym verdicts) (go (openingIn v d n c rule ss gs ws fs))
     where
       settings : settingsIn ss n ≡ settingsIn ts n
       settings = alike-rows settingsForm n ss ts o
@@ -149,11 +149,11 @@ module _ (v : Lending) (lawful : Lawful v) where
           let s = alike-short (d * flightWide) fs es (a .flight) in
           λ i. p i || q i || r i || s i
 
-      verdicts : openingIn v d n c ss gs ws fs ≡ openingIn v d n c ts hs vs es
-      verdicts = λ i. judged (openTests (lengths i) d n c (settings i))
+      verdicts : openingIn v d n c rule ss gs ws fs ≡ openingIn v d n c rule ts hs vs es
+      verdicts = λ i. judged (openTests (lengths i) d n c rule (settings i))
 
-      go : (w : Verdict) → Same v n c d (openedByIn v w d n c ss gs ws fs) (openedByIn v w d n c ts hs vs es)
+      go : (w : Verdict) → Same v n c d (openedByIn v w d n c rule ss gs ws fs) (openedByIn v w d n c rule ts hs vs es)
       go accept =
-          subst (λ (l : List Settings). Same v n c d (handedIn v gs ws fs (record { table = fresh d c (settingsIn ss n); answer = Nothing })) (handedIn v hs vs es (record { table = fresh d c l; answer = Nothing }))) settings
-          (handed-alike n c d gs ws fs hs vs es a (record { table = fresh d c (settingsIn ss n); answer = Nothing }) (fresh-sized d n c ss))
+          subst (λ (l : List Settings). Same v n c d (handedIn v gs ws fs (record { table = fresh d c rule (settingsIn ss n); answer = Nothing })) (handedIn v hs vs es (record { table = fresh d c rule l; answer = Nothing }))) settings
+          (handed-alike n c d gs ws fs hs vs es a (record { table = fresh d c rule (settingsIn ss n); answer = Nothing }) (fresh-sized d n c rule ss))
       go (refuse r) = record { outcome = refl; needed = a }

@@ -23,10 +23,10 @@ module _ (v : Lending) (lawful : Lawful v) where
       rw (call-shows v lawful h k e, call-wakes v lawful h k e) (accepted-wakes (shows v h) e (sym (ap taken (call-answers v lawful h k e) ∙ step-taken (shows v h) e) ∙ a))
 
   -- An accepted opening: nothing waits.
-  pub opening-wakes : (d n c : ℕ) (ss : List ℕ) (gs : List (v .Cell)) (ws fs : List ℕ) → taken (openedIn v d n c ss gs ws fs .0 .answer) ≡ true → openedIn v d n c ss gs ws fs .0 .wake ≡ Never
+  pub opening-wakes : (d n c rule : ℕ) (ss : List ℕ) (gs : List (v .Cell)) (ws fs : List ℕ) → taken (openedIn v d n c rule ss gs ws fs .0 .answer) ≡ true → openedIn v d n c rule ss gs ws fs .0 .wake ≡ Never
   unfolding openedIn handedIn
-  opening-wakes d n c ss gs ws fs a = go (openingIn v d n c ss gs ws fs) a
+  opening-wakes d n c rule ss gs ws fs a = go (openingIn v d n c rule ss gs ws fs) a
     where
-      go : (w : Verdict) → taken (openedByIn v w d n c ss gs ws fs .0 .answer) ≡ true → openedByIn v w d n c ss gs ws fs .0 .wake ≡ Never
-      go accept a = fresh-never d c (settingsIn ss n)
+      go : (w : Verdict) → taken (openedByIn v w d n c rule ss gs ws fs .0 .answer) ≡ true → openedByIn v w d n c rule ss gs ws fs .0 .wake ≡ Never
+      go accept a = fresh-never d c rule (settingsIn ss n)
       go (refuse r) a = absurd (true≢false (sym a))

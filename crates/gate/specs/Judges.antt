@@ -30,13 +30,13 @@ pub record OpenRoom (d n c : ℕ) (ss gs ws fs : List ℕ) : Type 0 where
   pub most : (d ≤ mostDepth) × (n ≤ mostGuests) × (c ≤ mostCapacity)
 
 -- what `judge_opening` finds is true: the opening is accepted, or it is refused so
-abbrev pub JudgesOpening : (d n c : ℕ) (ss gs ws fs : List ℕ) → Judged → Type 0
-JudgesOpening d n c ss gs ws fs Good = (openingIn numbers d n c ss gs ws fs ≡ accept) × OpenRoom d n c ss gs ws fs
-JudgesOpening d n c ss gs ws fs (Bad r) = openingIn numbers d n c ss gs ws fs ≡ refuse r
+abbrev pub JudgesOpening : (d n c rule : ℕ) (ss gs ws fs : List ℕ) → Judged → Type 0
+JudgesOpening d n c rule ss gs ws fs Good = (openingIn numbers d n c rule ss gs ws fs ≡ accept) × OpenRoom d n c ss gs ws fs
+JudgesOpening d n c rule ss gs ws fs (Bad r) = openingIn numbers d n c rule ss gs ws fs ≡ refuse r
 
--- the gate of a fresh table with depth d, n guests and capacity c
-abbrev pub freshGate : (d n c : ℕ) → Gate
-freshGate d n c = gateAt (record { depth = d; capacity = c }) n 0 0 0
+-- the gate of a fresh table with depth d, n guests, capacity c and this rule
+abbrev pub freshGate : (d n c rule : ℕ) → Gate
+freshGate d n c rule = gateAt (record { depth = d; capacity = c; rule = rule }) n 0 0 0
 
 -- what a refused opening answers
 abbrev pub notOpened : Refusal → Outcome

@@ -46,7 +46,7 @@ settingsIn ss n = rowsOf settingsForm ss n
 
 -- the gate of an opening that is refused: nothing is open, and every call on it is refused
 abbrev pub unopened : Gate
-unopened = gateAt (record { depth = 0; capacity = 0 }) 0 0 0 0
+unopened = gateAt (record { depth = 0; capacity = 0; rule = 0 }) 0 0 0 0
 
 module _ (v : Lending) where
   -- THE VIEW: the table that a gate, lent guests and two lent lists show
@@ -111,7 +111,7 @@ module _ (v : Lending) where
   unfoldable pub calledIn : Event → Gate → List (v .Cell) → (ws fs : List ℕ) → HandedIn
   calledIn e g gs ws fs = followedIn (judgedIn e g gs ws fs) e g gs ws fs
 
-  -- AN OPENING, of depth d, n guests and capacity c, with the lent list ss of guest settings
+  -- AN OPENING, of depth d, n guests, capacity c and a rule, with the lent list ss of guest settings
 
   -- refusal 2 at opening: "a lent table, or at opening the lent list of guest settings, is shorter than the settings need"
   unfoldable pub openShortIn : (d n c : ℕ) (ss : List ℕ) → List (v .Cell) → (ws fs : List ℕ) → Bool
@@ -119,17 +119,17 @@ module _ (v : Lending) where
       ltb (length ss) (n * settingsWide) || ltb (length gs) (v .needs n) || ltb (length ws) (c * waitingWide) || ltb (length fs) (d * flightWide)
 
   -- what follows from a verdict on an opening: "A fresh table", or nothing moves
-  abbrev pub openedByIn : Verdict → (d n c : ℕ) (ss : List ℕ) → List (v .Cell) → (ws fs : List ℕ) → HandedIn
-  openedByIn accept d n c ss gs ws fs = handedIn gs ws fs (record { table = fresh d c (settingsIn ss n); answer = Nothing })
-  openedByIn (refuse r) d n c ss gs ws fs = unchangedIn unopened gs ws fs (Refused r)
+  abbrev pub openedByIn : Verdict → (d n c rule : ℕ) (ss : List ℕ) → List (v .Cell) → (ws fs : List ℕ) → HandedIn
+  openedByIn accept d n c rule ss gs ws fs = handedIn gs ws fs (record { table = fresh d c rule (settingsIn ss n); answer = Nothing })
+  openedByIn (refuse r) d n c rule ss gs ws fs = unchangedIn unopened gs ws fs (Refused r)
 
-  -- how an opening is judged: "depth, guests and capacity (1), lengths (2), guest settings (1)"
-  unfoldable pub openingIn : (d n c : ℕ) (ss : List ℕ) → List (v .Cell) → (ws fs : List ℕ) → Verdict
-  openingIn d n c ss gs ws fs = judged (openTests (openShortIn d n c ss gs ws fs) d n c (settingsIn ss n))
+  -- how an opening is judged: "depth, guests and capacity (1), lengths (2), guest settings (1)", the rule with the counts
+  unfoldable pub openingIn : (d n c rule : ℕ) (ss : List ℕ) → List (v .Cell) → (ws fs : List ℕ) → Verdict
+  openingIn d n c rule ss gs ws fs = judged (openTests (openShortIn d n c ss gs ws fs) d n c rule (settingsIn ss n))
 
   -- THE PROMISE of an opening: what the call hands back
-  unfoldable pub openedIn : (d n c : ℕ) (ss : List ℕ) → List (v .Cell) → (ws fs : List ℕ) → HandedIn
-  openedIn d n c ss gs ws fs = openedByIn (openingIn d n c ss gs ws fs) d n c ss gs ws fs
+  unfoldable pub openedIn : (d n c rule : ℕ) (ss : List ℕ) → List (v .Cell) → (ws fs : List ℕ) → HandedIn
+  openedIn d n c rule ss gs ws fs = openedByIn (openingIn d n c rule ss gs ws fs) d n c rule ss gs ws fs
 
 -- OVER NUMBERS
 
@@ -149,5 +149,5 @@ abbrev pub called : Event → Gate → (gs ws fs : List ℕ) → HandedIn number
 called = calledIn numbers
 
 -- an opening
-abbrev pub opened : (d n c : ℕ) (ss gs ws fs : List ℕ) → HandedIn numbers
+abbrev pub opened : (d n c rule : ℕ) (ss gs ws fs : List ℕ) → HandedIn numbers
 opened = openedIn numbers

@@ -17,6 +17,7 @@ use table::columns::FLIGHT_WIDE;
 use table::columns::SETTINGS_WIDE;
 use table::columns::WAITING_WIDE;
 use table::gates;
+use table::ranges::is_ruled;
 ghost use mathlib.Core.Path.{_≡_};
 ghost use Rattle.rules.specs.declared.Event.the-variants.{Arrival, Completion, Tick};
 ghost use Rattle.gate.specs.Promise.{seen, called, opened};
@@ -125,13 +126,14 @@ pub fn arrive(
     call(gate, guests, waiting, flight, Event::Arrival(what, time))
 }
 
-// The gate of a fresh table with these counts.
-fn fresh_gate(depth: u64, known: u64, capacity: u64) -> Gate
-    ensures { λ r. ⌜ r ≡ freshGate depth known capacity ⌝ }
+// The gate of a fresh table with these counts and this rule.
+fn fresh_gate(depth: u64, known: u64, capacity: u64, rule: u64) -> Gate
+    ensures { λ r. ⌜ r ≡ freshGate depth known capacity rule ⌝ }
 {
     let setup = Setup {
         depth: depth,
         capacity: capacity,
+        rule: rule,
     };
     gates::gate_at(setup, known, 0, 0, 0)
 }
@@ -140,10 +142,10 @@ fn fresh_gate(depth: u64, known: u64, capacity: u64) -> Gate
 fn not_opened(why: Refusal) -> Outcome
     ensures { λ r. ⌜ r ≡ notOpened why ⌝ }
 {
-    gates::refused(fresh_gate(0, 0, 0), why)
+    gates::refused(fresh_gate(0, 0, 0, 0), why)
 }
 
-// An opening judged, in document 01's order: counts, lengths, settings.
+// An opening judged, in document 01's order: counts and rule, lengths, settings.
 fn judge_opening(
     gate: Gate,
     settings: &[u64],
@@ -151,9 +153,12 @@ fn judge_opening(
     waiting: &[u64],
     flight: &[u64],
 ) -> Judged
-    ensures { λ r. ⌜ JudgesOpening (gate .setup .depth) (gate .guests) (gate .setup .capacity) (now (settings .entry)) (now (guests .entry)) (now (waiting .entry)) (now (flight .entry)) r ⌝ }
+    ensures { λ r. ⌜ JudgesOpening (gate .setup .depth) (gate .guests) (gate .setup .capacity) (gate .setup .rule) (now (settings .entry)) (now (guests .entry)) (now (waiting .entry)) (now (flight .entry)) r ⌝ }
 {
     if !is_countable(gate) {
+        return Judged::Bad(Refusal::BadSetting);
+    }
+    if !is_ruled(gate.setup.rule) {
         return Judged::Bad(Refusal::BadSetting);
     }
     let known = gate.guests as usize;
@@ -174,14 +179,15 @@ pub fn open(
     depth: u64,
     known: u64,
     capacity: u64,
+    rule: u64,
     settings: &[u64],
     guests: &mut [u64],
     waiting: &mut [u64],
     flight: &mut [u64],
 ) -> Outcome
-    ensures { λ r. ⌜ seen (r, now (guests .exit), now (waiting .exit), now (flight .exit)) ≡ seen (opened depth known capacity (now (settings .entry)) (now (guests .entry)) (now (waiting .entry)) (now (flight .entry))) ⌝ }
+    ensures { λ r. ⌜ seen (r, now (guests .exit), now (waiting .exit), now (flight .exit)) ≡ seen (opened depth known capacity rule (now (settings .entry)) (now (guests .entry)) (now (waiting .entry)) (now (flight .entry))) ⌝ }
 {
-    let gate = fresh_gate(depth, known, capacity);
+    let gate = fresh_gate(depth, known, capacity, rule);
     let found = judge_opening(gate, settings, &guests[..], &waiting[..], &flight[..]);
     match found {
         Judged::Bad(why) => not_opened(why),

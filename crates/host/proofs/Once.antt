@@ -1,4 +1,4 @@
--- `once`: any two outcomes that the promise of a call through C admits are equal: the answer's five numbers, the gate's six, every number of
+-- `once`: any two outcomes that the promise of a call through C admits are equal: the answer's five numbers, the gate's seven, every number of
 -- every table. And four numbers are one answer only, the fifth one time to wake, so nothing of an answer is lost on the way. Assumes nothing.
 use Prim.Native.Nat.{ℕ, _≤_}
 use mathlib.Core.Path.{_≡_, refl, sym, ap, _∙_}
@@ -66,7 +66,7 @@ fifth-once Never Never a b h = refl
 
 -- OUTCOMES
 
--- what a call hands back through C: the answer, the gate's six numbers, and the three tables
+-- what a call hands back through C: the answer, the gate's seven numbers, and the three tables
 abbrev pub Back : Type 0
 Back = Reply × List ℕ × List ℕ × List ℕ × List ℕ
 
@@ -74,16 +74,16 @@ Back = Reply × List ℕ × List ℕ × List ℕ × List ℕ
 admits : (s h k : Back) → h ≡ s → k ≡ s → h ≡ k
 admits s h k p q = p ∙ sym q
 
-module _ (h k : Back) (six : List ℕ) where
+module _ (h k : Back) (seven : List ℕ) where
   -- of an arrival, a completion, a tick and an opening
-  pub arrive-once : (a : Arriving) (now : ℕ) (gs ws fs : List ℕ) → h ≡ hosted six (called (Arrival a now) (gateIn six) gs ws fs) → k ≡ hosted six (called (Arrival a now) (gateIn six) gs ws fs) → h ≡ k
-  arrive-once a now gs ws fs = admits (hosted six (called (Arrival a now) (gateIn six) gs ws fs)) h k
+  pub arrive-once : (a : Arriving) (now : ℕ) (gs ws fs : List ℕ) → h ≡ hosted seven (called (Arrival a now) (gateIn seven) gs ws fs) → k ≡ hosted seven (called (Arrival a now) (gateIn seven) gs ws fs) → h ≡ k
+  arrive-once a now gs ws fs = admits (hosted seven (called (Arrival a now) (gateIn seven) gs ws fs)) h k
 
-  pub complete-once : (f : Flight) (now : ℕ) (gs ws fs : List ℕ) → h ≡ hosted six (called (Completion f now) (gateIn six) gs ws fs) → k ≡ hosted six (called (Completion f now) (gateIn six) gs ws fs) → h ≡ k
-  complete-once f now gs ws fs = admits (hosted six (called (Completion f now) (gateIn six) gs ws fs)) h k
+  pub complete-once : (f : Flight) (now : ℕ) (gs ws fs : List ℕ) → h ≡ hosted seven (called (Completion f now) (gateIn seven) gs ws fs) → k ≡ hosted seven (called (Completion f now) (gateIn seven) gs ws fs) → h ≡ k
+  complete-once f now gs ws fs = admits (hosted seven (called (Completion f now) (gateIn seven) gs ws fs)) h k
 
-  pub tick-once : (now : ℕ) (gs ws fs : List ℕ) → h ≡ hosted six (called (Tick now) (gateIn six) gs ws fs) → k ≡ hosted six (called (Tick now) (gateIn six) gs ws fs) → h ≡ k
-  tick-once now gs ws fs = admits (hosted six (called (Tick now) (gateIn six) gs ws fs)) h k
+  pub tick-once : (now : ℕ) (gs ws fs : List ℕ) → h ≡ hosted seven (called (Tick now) (gateIn seven) gs ws fs) → k ≡ hosted seven (called (Tick now) (gateIn seven) gs ws fs) → h ≡ k
+  tick-once now gs ws fs = admits (hosted seven (called (Tick now) (gateIn seven) gs ws fs)) h k
 
-  pub open-once : (d n c : ℕ) (ss gs ws fs : List ℕ) → h ≡ hosted six (opened d n c ss gs ws fs) → k ≡ hosted six (opened d n c ss gs ws fs) → h ≡ k
-  open-once d n c ss gs ws fs = admits (hosted six (opened d n c ss gs ws fs)) h k
+  pub open-once : (d n c rule : ℕ) (ss gs ws fs : List ℕ) → h ≡ hosted seven (opened d n c rule ss gs ws fs) → k ≡ hosted seven (opened d n c rule ss gs ws fs) → h ≡ k
+  open-once d n c rule ss gs ws fs = admits (hosted seven (opened d n c rule ss gs ws fs)) h k

@@ -11,11 +11,11 @@ use Rattle.gate.specs.declared.replies.Reply.{Reply}
 use Rattle.gate.specs.Replies.{replyOf}
 use Rattle.host.specs.Host.{gateIn, written, hosted}
 
--- what was handed back, with the six numbers written and the answer as five
+-- what was handed back, with the seven numbers written and the answer as five
 pub returned : (v v′ : List ℕ) (r : Reply) (h k : Handed) → seen h ≡ seen k → r ≡ replyOf (h .0 .answer) (h .0 .wake) → v′ ≡ written (h .0 .answer) (h .0 .gate) v → (r, v′, h .1, h .2, h .3) ≡ hosted v k
 returned v v′ r h k p er ev = (λ i. (er i, ev i, h .1, h .2, h .3)) ∙ ap (hosted v) (seen-once h k p)
 
--- the same of a call on the gate that the six numbers are
+-- the same of a call on the gate that the seven numbers are
 pub call-returned : (e : Event) (v v′ : List ℕ) (g : Gate) → g ≡ gateIn v → (gs ws fs : List ℕ) (r : Reply) (h : Handed) → seen h ≡ seen (called e g gs ws fs)
     → r ≡ replyOf (h .0 .answer) (h .0 .wake) → v′ ≡ written (h .0 .answer) (h .0 .gate) v → (r, v′, h .1, h .2, h .3) ≡ hosted v (called e (gateIn v) gs ws fs)
 call-returned e v v′ g eg gs ws fs r h p er ev = returned v v′ r h (called e (gateIn v) gs ws fs) (p ∙ ap (λ (x : Gate). seen (called e x gs ws fs)) eg) er ev

@@ -32,19 +32,19 @@ timely (At n) t x = x .at-most
 timely Never t x = tt
 
 -- An accepted call, on tables that are long enough and sound.
-pub through-wakes : (h : Lent) (e : Event) → length (h .six) ≡ 6 → firm numbers (inside h) ≡ true → Takes (through e h .0)
+pub through-wakes : (h : Lent) (e : Event) → length (h .seven) ≡ 7 → firm numbers (inside h) ≡ true → Takes (through e h .0)
     → (w : Wake) × Wakes (shownBy (kept (through e h))) w × Timely w × (through e h .0 .wake ≡ fifthOf w)
-through-wakes h e six f t =
+through-wakes h e seven f t =
     let x = call numbers e (inside h) in
     let w = x .0 .wake in
-    let k : Wakes (shownBy (kept (through e h))) w = subst (λ (u : Host numbers). Wakes (shows numbers u) w) (sym (call-back h six e)) (calls-wake numbers numbers-lawful (inside h) e f (takes-is (x .0 .answer) w .0 t)) in
+    let k : Wakes (shownBy (kept (through e h))) w = subst (λ (u : Host numbers). Wakes (shows numbers u) w) (sym (call-back h seven e)) (calls-wake numbers numbers-lawful (inside h) e f (takes-is (x .0 .answer) w .0 t)) in
     (w, k, timely w (shownBy (kept (through e h))) k, refl)
 
 -- An accepted opening: nothing waits.
-pub through-opening-wakes : (six : List ℕ) (d n c : ℕ) (ss gs ws fs : List ℕ) → Takes (hosted six (opened d n c ss gs ws fs) .0) → hosted six (opened d n c ss gs ws fs) .0 .wake ≡ never
-through-opening-wakes six d n c ss gs ws fs t =
-    let x = opened d n c ss gs ws fs in
-    ap fifthOf (opening-wakes numbers numbers-lawful d n c ss gs ws fs (takes-is (x .0 .answer) (x .0 .wake) .0 t))
+pub through-opening-wakes : (seven : List ℕ) (d n c rule : ℕ) (ss gs ws fs : List ℕ) → Takes (hosted seven (opened d n c rule ss gs ws fs) .0) → hosted seven (opened d n c rule ss gs ws fs) .0 .wake ≡ never
+through-opening-wakes seven d n c rule ss gs ws fs t =
+    let x = opened d n c rule ss gs ws fs in
+    ap fifthOf (opening-wakes numbers numbers-lawful d n c rule ss gs ws fs (takes-is (x .0 .answer) (x .0 .wake) .0 t))
 
 -- kind 3 is a refusal's
 is-refused : (a : Answer) (w : Wake) (n : ℕ) → Refuses (replyOf a w) n → ((r : Refusal) → a ≡ Refused r → w ≡ At 0) → fifthOf w ≡ 0
@@ -56,11 +56,11 @@ is-refused (Refused r) w n p k = ap fifthOf (k r refl)
 -- A refused call.
 pub through-refused-wakes : (h : Lent) (e : Event) (n : ℕ) → Refuses (through e h .0) n → through e h .0 .wake ≡ 0
 through-refused-wakes h e n p =
-    let x = called e (gateIn (h .six)) (h .guests) (h .waiting) (h .flight) in
-    is-refused (x .0 .answer) (x .0 .wake) n p (λ r q. ap (λ (c : HandedIn numbers). c .0 .wake) (refusal-keeps numbers e (gateIn (h .six)) (h .guests) (h .waiting) (h .flight) r q))
+    let x = called e (gateIn (h .seven)) (h .guests) (h .waiting) (h .flight) in
+    is-refused (x .0 .answer) (x .0 .wake) n p (λ r q. ap (λ (c : HandedIn numbers). c .0 .wake) (refusal-keeps numbers e (gateIn (h .seven)) (h .guests) (h .waiting) (h .flight) r q))
 
 -- And a refused opening.
-pub through-refused-opening-wakes : (six : List ℕ) (d n c : ℕ) (ss gs ws fs : List ℕ) (m : ℕ) → Refuses (hosted six (opened d n c ss gs ws fs) .0) m → hosted six (opened d n c ss gs ws fs) .0 .wake ≡ 0
-through-refused-opening-wakes six d n c ss gs ws fs m p =
-    let x = opened d n c ss gs ws fs in
-    is-refused (x .0 .answer) (x .0 .wake) m p (λ r q. ap (λ (k : HandedIn numbers). k .0 .wake) (opening-keeps numbers d n c ss gs ws fs r q))
+pub through-refused-opening-wakes : (seven : List ℕ) (d n c rule : ℕ) (ss gs ws fs : List ℕ) (m : ℕ) → Refuses (hosted seven (opened d n c rule ss gs ws fs) .0) m → hosted seven (opened d n c rule ss gs ws fs) .0 .wake ≡ 0
+through-refused-opening-wakes seven d n c rule ss gs ws fs m p =
+    let x = opened d n c rule ss gs ws fs in
+    is-refused (x .0 .answer) (x .0 .wake) m p (λ why q. ap (λ (k : HandedIn numbers). k .0 .wake) (opening-keeps numbers d n c rule ss gs ws fs why q))

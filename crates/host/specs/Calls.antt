@@ -1,4 +1,4 @@
--- A run of calls through C, each handed what the last one left: the gate's six numbers and the three tables, as a host holds them.
+-- A run of calls through C, each handed what the last one left: the gate's seven numbers and the three tables, as a host holds them.
 use Prim.Native.Nat.{ℕ}
 use mathlib.Core.Path.{_≡_}
 use mathlib.Core.Bool.{Bool, not, _&&_}
@@ -14,28 +14,28 @@ use Rattle.gate.specs.Replies.{Four, four}
 use Rattle.batch.specs.Batches.{Batch, batch}
 use Rattle.host.specs.Host.{gateIn, hosted, batchHosted}
 
--- what a host in C holds between calls: the gate's six numbers, and its three tables
+-- what a host in C holds between calls: the gate's seven numbers, and its three tables
 pub record Lent : Type 0 where
-  pub six : List ℕ
+  pub seven : List ℕ
   pub guests : List ℕ
   pub waiting : List ℕ
   pub flight : List ℕ
 
--- the same with the gate that the six numbers are
+-- the same with the gate that the seven numbers are
 abbrev pub inside : Lent → Host numbers
-inside h = record { gate = gateIn (h .six); guests = h .guests; waiting = h .waiting; flight = h .flight }
+inside h = record { gate = gateIn (h .seven); guests = h .guests; waiting = h .waiting; flight = h .flight }
 
 -- the table that is shown
 abbrev pub shownBy : Lent → Table
 shownBy h = shows numbers (inside h)
 
--- a call through C on what a host holds: the answer's five numbers, the six of the gate, and the three tables
+-- a call through C on what a host holds: the answer's five numbers, the seven of the gate, and the three tables
 abbrev pub through : Event → Lent → Reply × List ℕ × List ℕ × List ℕ × List ℕ
-through e h = hosted (h .six) (called e (gateIn (h .six)) (h .guests) (h .waiting) (h .flight))
+through e h = hosted (h .seven) (called e (gateIn (h .seven)) (h .guests) (h .waiting) (h .flight))
 
 -- what a host holds after it
 abbrev pub kept : Reply × List ℕ × List ℕ × List ℕ × List ℕ → Lent
-kept b = record { six = b .1; guests = b .2; waiting = b .3; flight = b .4 }
+kept b = record { seven = b .1; guests = b .2; waiting = b .3; flight = b .4 }
 
 -- what it holds after a run of calls
 unfoldable pub heldBy : Lent → List Event → Lent
@@ -68,23 +68,23 @@ takes r = not (eqb (r .kind) 3)
 unfoldable pub freeFours : Lent → List Event → List Four
 freeFours h [] = []
 freeFours h (e ∷ es) =
-    if takes (through e h .0) && finds e (gateIn (h .six))
+    if takes (through e h .0) && finds e (gateIn (h .seven))
     then four (through e h .0) ∷ freeFours (kept (through e h)) es
     else freeFours (kept (through e h)) es
 
 -- BATCHES (document 02, K5)
 
--- what a batch hands back through C: 0 or the number of the refusal, the six numbers, the three tables and the answers
+-- what a batch hands back through C: 0 or the number of the refusal, the seven numbers, the three tables and the answers
 abbrev pub BackBatch : Type 0
 BackBatch = ℕ × List ℕ × List ℕ × List ℕ × List ℕ × List ℕ
 
 -- a batch through C on what a host holds
 abbrev pub throughBatch : Batch → Lent → BackBatch
-throughBatch b h = batchHosted (h .six) (batch numbers b (inside h))
+throughBatch b h = batchHosted (h .seven) (batch numbers b (inside h))
 
 -- what a host holds after it
 abbrev pub keptBatch : BackBatch → Lent
-keptBatch b = record { six = b .1; guests = b .2; waiting = b .3; flight = b .4 }
+keptBatch b = record { seven = b .1; guests = b .2; waiting = b .3; flight = b .4 }
 
 -- what it holds after a run of batches
 unfoldable pub heldByBatches : Lent → List Batch → Lent

@@ -1,5 +1,5 @@
-// What a C or Rust host links: the calls over numbers, under the names of include/sgq.h. The gate is six numbers (depth, guests,
-// capacity, time, waiting, flight), the answer five (kind, guest, id, refusal, wake). Each call takes whatever it is handed.
+// What a C or Rust host links: the calls over numbers, under the names of include/sgq.h. The gate is seven numbers (depth, guests,
+// capacity, time, waiting, flight, rule), the answer five (kind, guest, id, refusal, wake). Each call takes whatever it is handed.
 use batch::numbers::Batched;
 use gate::numbers::Judged;
 use gate::replies::Reply;
@@ -18,32 +18,34 @@ ghost use Rattle.gate.specs.Replies.{replyOf};
 ghost use Rattle.batch.specs.Promise.{foundOf, batched};
 ghost use Rattle.host.specs.Host.{gateIn, gateOver, written, hosted, foundWritten, batchHosted};
 
-// The gate that six numbers are.
-fn gate_in(six: &[u64; 6]) -> Gate
-    ensures { λ g. ⌜ g ≡ gateIn (now (six .entry)) ⌝ }
+// The gate that seven numbers are.
+fn gate_in(seven: &[u64; 7]) -> Gate
+    ensures { λ g. ⌜ g ≡ gateIn (now (seven .entry)) ⌝ }
 {
     let setup = Setup {
-        depth: six[0],
-        capacity: six[2],
+        depth: seven[0],
+        capacity: seven[2],
+        rule: seven[6],
     };
-    gate_at(setup, six[1], six[3], six[4], six[5])
+    gate_at(setup, seven[1], seven[3], seven[4], seven[5])
 }
 
-// The six numbers of a gate, written over those that were lent.
-fn gate_over(six: &mut [u64; 6], gate: Gate)
-    ensures { λ _. ⌜ now (six .exit) ≡ gateOver gate (now (six .entry)) ⌝ }
+// The seven numbers of a gate, written over those that were lent.
+fn gate_over(seven: &mut [u64; 7], gate: Gate)
+    ensures { λ _. ⌜ now (seven .exit) ≡ gateOver gate (now (seven .entry)) ⌝ }
 {
-    six[0] = gate.setup.depth;
-    six[1] = gate.guests;
-    six[2] = gate.setup.capacity;
-    six[3] = gate.time;
-    six[4] = gate.waiting;
-    six[5] = gate.flight;
+    seven[0] = gate.setup.depth;
+    seven[1] = gate.guests;
+    seven[2] = gate.setup.capacity;
+    seven[3] = gate.time;
+    seven[4] = gate.waiting;
+    seven[5] = gate.flight;
+    seven[6] = gate.setup.rule;
 }
 
-// Writes the gate after a call over the six numbers and gives its answer; a refusal leaves the six numbers as they stood.
-fn hand_back(six: &mut [u64; 6], outcome: Outcome) -> Reply
-    ensures { λ r. ⌜ (r ≡ replyOf (outcome .answer) (outcome .wake)) × (now (six .exit) ≡ written (outcome .answer) (outcome .gate) (now (six .entry))) ⌝ }
+// Writes the gate after a call over the seven numbers and gives its answer; a refusal leaves the seven numbers as they stood.
+fn hand_back(seven: &mut [u64; 7], outcome: Outcome) -> Reply
+    ensures { λ r. ⌜ (r ≡ replyOf (outcome .answer) (outcome .wake)) × (now (seven .exit) ≡ written (outcome .answer) (outcome .gate) (now (seven .entry))) ⌝ }
 {
     let answer = outcome.answer;
     let wake = outcome.wake;
@@ -51,38 +53,48 @@ fn hand_back(six: &mut [u64; 6], outcome: Outcome) -> Reply
     match answer {
         Answer::Refused(_) => five_of(answer, wake),
         Answer::Nothing => {
-            gate_over(six, gate);
+            gate_over(seven, gate);
             five_of(answer, wake)
         }
         Answer::Sent { .. } => {
-            gate_over(six, gate);
+            gate_over(seven, gate);
             five_of(answer, wake)
         }
     }
 }
 
-// Opens the lent tables with these counts, and three settings a guest.
+// Opens the lent tables with these counts, under this rule for limits, and with four settings a guest.
 #[no_mangle]
 pub extern "C" fn sgq_open(
-    six: &mut [u64; 6],
+    seven: &mut [u64; 7],
     depth: u64,
     known: u64,
     capacity: u64,
+    rule: u64,
     settings: &[u64],
     guests: &mut [u64],
     waiting: &mut [u64],
     flight: &mut [u64],
 ) -> Reply
-    ensures { λ r. ⌜ (r, now (six .exit), now (guests .exit), now (waiting .exit), now (flight .exit)) ≡ hosted (now (six .entry)) (opened depth known capacity (now (settings .entry)) (now (guests .entry)) (now (waiting .entry)) (now (flight .entry))) ⌝ }
+    ensures { λ r. ⌜ (r, now (seven .exit), now (guests .exit), now (waiting .exit), now (flight .exit)) ≡ hosted (now (seven .entry)) (opened depth known capacity rule (now (settings .entry)) (now (guests .entry)) (now (waiting .entry)) (now (flight .entry))) ⌝ }
 {
-    let outcome = gate::numbers::open(depth, known, capacity, settings, guests, waiting, flight);
-    hand_back(six, outcome)
+    let outcome = gate::numbers::open(
+        depth,
+        known,
+        capacity,
+        rule,
+        settings,
+        guests,
+        waiting,
+        flight,
+    );
+    hand_back(seven, outcome)
 }
 
-// An arrival at the gate that the six numbers are.
+// An arrival at the gate that the seven numbers are.
 #[no_mangle]
 pub extern "C" fn sgq_arrive(
-    six: &mut [u64; 6],
+    seven: &mut [u64; 7],
     guests: &mut [u64],
     waiting: &mut [u64],
     flight: &mut [u64],
@@ -90,9 +102,9 @@ pub extern "C" fn sgq_arrive(
     id: u32,
     time: u64,
 ) -> Reply
-    ensures { λ r. ⌜ (r, now (six .exit), now (guests .exit), now (waiting .exit), now (flight .exit)) ≡ hosted (now (six .entry)) (called (Arrival (record { guest = guest; id = id }) time) (gateIn (now (six .entry))) (now (guests .entry)) (now (waiting .entry)) (now (flight .entry))) ⌝ }
+    ensures { λ r. ⌜ (r, now (seven .exit), now (guests .exit), now (waiting .exit), now (flight .exit)) ≡ hosted (now (seven .entry)) (called (Arrival (record { guest = guest; id = id }) time) (gateIn (now (seven .entry))) (now (guests .entry)) (now (waiting .entry)) (now (flight .entry))) ⌝ }
 {
-    let gate = gate_in(six);
+    let gate = gate_in(seven);
     let outcome = gate::numbers::arrive(
         gate,
         guests,
@@ -101,13 +113,13 @@ pub extern "C" fn sgq_arrive(
         Arriving { guest, id },
         time,
     );
-    hand_back(six, outcome)
+    hand_back(seven, outcome)
 }
 
-// A completion at the gate that the six numbers are.
+// A completion at the gate that the seven numbers are.
 #[no_mangle]
 pub extern "C" fn sgq_complete(
-    six: &mut [u64; 6],
+    seven: &mut [u64; 7],
     guests: &mut [u64],
     waiting: &mut [u64],
     flight: &mut [u64],
@@ -115,9 +127,9 @@ pub extern "C" fn sgq_complete(
     id: u32,
     time: u64,
 ) -> Reply
-    ensures { λ r. ⌜ (r, now (six .exit), now (guests .exit), now (waiting .exit), now (flight .exit)) ≡ hosted (now (six .entry)) (called (Completion (record { guest = guest; id = id }) time) (gateIn (now (six .entry))) (now (guests .entry)) (now (waiting .entry)) (now (flight .entry))) ⌝ }
+    ensures { λ r. ⌜ (r, now (seven .exit), now (guests .exit), now (waiting .exit), now (flight .exit)) ≡ hosted (now (seven .entry)) (called (Completion (record { guest = guest; id = id }) time) (gateIn (now (seven .entry))) (now (guests .entry)) (now (waiting .entry)) (now (flight .entry))) ⌝ }
 {
-    let gate = gate_in(six);
+    let gate = gate_in(seven);
     let outcome = gate::numbers::complete(
         gate,
         guests,
@@ -126,54 +138,54 @@ pub extern "C" fn sgq_complete(
         Flight { guest, id },
         time,
     );
-    hand_back(six, outcome)
+    hand_back(seven, outcome)
 }
 
-// A tick at the gate that the six numbers are.
+// A tick at the gate that the seven numbers are.
 #[no_mangle]
 pub extern "C" fn sgq_tick(
-    six: &mut [u64; 6],
+    seven: &mut [u64; 7],
     guests: &mut [u64],
     waiting: &mut [u64],
     flight: &mut [u64],
     time: u64,
 ) -> Reply
-    ensures { λ r. ⌜ (r, now (six .exit), now (guests .exit), now (waiting .exit), now (flight .exit)) ≡ hosted (now (six .entry)) (called (Tick time) (gateIn (now (six .entry))) (now (guests .entry)) (now (waiting .entry)) (now (flight .entry))) ⌝ }
+    ensures { λ r. ⌜ (r, now (seven .exit), now (guests .exit), now (waiting .exit), now (flight .exit)) ≡ hosted (now (seven .entry)) (called (Tick time) (gateIn (now (seven .entry))) (now (guests .entry)) (now (waiting .entry)) (now (flight .entry))) ⌝ }
 {
-    let gate = gate_in(six);
+    let gate = gate_in(seven);
     let outcome = gate::numbers::tick(gate, guests, waiting, flight, time);
-    hand_back(six, outcome)
+    hand_back(seven, outcome)
 }
 
-// Writes the gate after a batch over the six numbers and gives the number of what was found; a refused batch leaves the six numbers as they stood.
-fn hand_over(six: &mut [u64; 6], done: Batched) -> u64
-    ensures { λ n. ⌜ (n ≡ foundOf (done .found)) × (now (six .exit) ≡ foundWritten (done .found) (done .gate) (now (six .entry))) ⌝ }
+// Writes the gate after a batch over the seven numbers and gives the number of what was found; a refused batch leaves the seven numbers as they stood.
+fn hand_over(seven: &mut [u64; 7], done: Batched) -> u64
+    ensures { λ n. ⌜ (n ≡ foundOf (done .found)) × (now (seven .exit) ≡ foundWritten (done .found) (done .gate) (now (seven .entry))) ⌝ }
 {
     let found = done.found;
     let gate = done.gate;
     match found {
         Judged::Bad(why) => rules::number(why),
         Judged::Good => {
-            gate_over(six, gate);
+            gate_over(seven, gate);
             0
         }
     }
 }
 
-// Up to 256 events, four numbers each, at the gate that the six numbers are; each answer goes into its place of `answers`, five numbers each. Gives 0, or 16
+// Up to 256 events, four numbers each, at the gate that the seven numbers are; each answer goes into its place of `answers`, five numbers each. Gives 0, or 16
 // or 17 with nothing done.
 #[no_mangle]
 pub extern "C" fn sgq_batch(
-    six: &mut [u64; 6],
+    seven: &mut [u64; 7],
     guests: &mut [u64],
     waiting: &mut [u64],
     flight: &mut [u64],
     events: &[u64],
     answers: &mut [u64],
 ) -> u64
-    ensures { λ n. ⌜ (n, now (six .exit), now (guests .exit), now (waiting .exit), now (flight .exit), now (answers .exit)) ≡ batchHosted (now (six .entry)) (batched (now (events .entry)) (gateIn (now (six .entry))) (now (guests .entry)) (now (waiting .entry)) (now (flight .entry)) (now (answers .entry))) ⌝ }
+    ensures { λ n. ⌜ (n, now (seven .exit), now (guests .exit), now (waiting .exit), now (flight .exit), now (answers .exit)) ≡ batchHosted (now (seven .entry)) (batched (now (events .entry)) (gateIn (now (seven .entry))) (now (guests .entry)) (now (waiting .entry)) (now (flight .entry)) (now (answers .entry))) ⌝ }
 {
-    let gate = gate_in(six);
+    let gate = gate_in(seven);
     let done = batch::numbers::call(gate, guests, waiting, flight, events, answers);
-    hand_over(six, done)
+    hand_over(seven, done)
 }

@@ -26,6 +26,7 @@ use Rattle.host.proofs.Wakes.{through-wakes, through-refused-wakes, through-ope
 use Rattle.trace.proofs.HeaderExactly.{header-exactly}
 use Rattle.trace.proofs.LineExactly.{line-exactly, line-numbers, table-sound}
 use Rattle.trace.proofs.NoCredit.{no-credit}
+use Rattle.trace.proofs.RuleOne.{rule-1}
 use Rattle.trace.proofs.Order.{trace-in-order}
 use Rattle.trace.proofs.Demand3.{trace-demand-3-places}
 use Rattle.batch.proofs.Exactly.{batch-exactly}
@@ -118,6 +119,7 @@ trace-kept =
       line-exactly = line-exactly;
       line-numbers = line-numbers;
       table-sound = table-sound;
+      rule-1 = rule-1;
       no-credit = no-credit;
       in-order = trace-in-order;
       demand-3 = trace-demand-3-places;

@@ -20,7 +20,7 @@ use Rattle.rules.specs.Refused.{RefusedExactly, NoneHolds, callCases, openCases
 use Rattle.rules.specs.Order.{waits, left}
 use Rattle.rules.specs.Run.{fresh, step, after}
 use Rattle.rules.specs.Turn.{findsRoom, atFree}
-use Rattle.rules.specs.TurnAt.{DueAt, InTurnAt}
+use Rattle.rules.specs.TurnAt.{DueAt, InTurnAt, TurnKept}
 use Rattle.rules.specs.Waking.{told}
 use Rattle.rules.specs.Woken.{Wakes}
 use Rattle.rules.specs.declared.Settings.{Settings}
@@ -72,13 +72,13 @@ use Rattle.book.proofs.Sums.{WaitsAre}
 
 -- ON THE RULES
 
--- an accepted event in plain facts, which fit one outcome only, demand 3, and when to wake, in plain facts that fit one value only; document 02, K6: "Credit
+-- an accepted event in plain facts, which fit one outcome only, demand 3 under either rule for limits, and when to wake, in plain facts that fit one value only; document 02, K6: "Credit
 -- 0 is the rule of K3"
 pub record OnTheRules : Type 0 where
   pub described : (t : Table) (e : Event) → accepted t e ≡ true → (u : Table) × Entered t e u × Chosen u (step t e)
   pub once : (t : Table) (e : Event) (u : Table) (r : Result) → accepted t e ≡ true → Entered t e u → Chosen u r → r ≡ step t e
   pub sound-kept : (t : Table) (e : Event) → sound t ≡ true → sound (step t e .table) ≡ true
-  pub demand-3 : (t : Table) (i : ℕ) (es : List Event) → sound t ≡ true → DueAt t i → InTurnAt t i (atFree t es)
+  pub demand-3 : (t : Table) (i : ℕ) (es : List Event) → sound t ≡ true → TurnKept t i (atFree t es)
   pub no-place-no-send : (t : Table) (e : Event) → accepted t e ≡ true → findsRoom t e ≡ false → step t e .answer ≡ Nothing
   pub wakes : (t : Table) (e : Event) → accepted t e ≡ true → Wakes (step t e .table) (told (step t e))
   pub wakes-none : (t : Table) (e : Event) → accepted t e ≡ true
@@ -94,35 +94,35 @@ pub record OverLent (v : Lending) (lawful : Lawful v) : Type 0 where
   -- demand 1: each refusal is given exactly when document 01 says, with its number, and changes nothing
   pub called-exactly : (g : Gate) (gs : List (v .Cell)) (ws fs : List ℕ) (e : Event)
       → RefusedExactly (callCases (shortIn v g gs ws fs) (not (soundIn v g gs ws fs)) (tableIn v g gs ws fs) e) (λ n. shown (calledIn v e g gs ws fs .0 .answer) ≡ X n) (taken (calledIn v e g gs ws fs .0 .answer) ≡ true)
-  pub opened-exactly : (d n c : ℕ) (ss : List ℕ) (gs : List (v .Cell)) (ws fs : List ℕ)
-      → RefusedExactly (openCases (openShortIn v d n c ss gs ws fs) d n c (settingsIn ss n)) (λ k. shown (openedIn v d n c ss gs ws fs .0 .answer) ≡ X k) (taken (openedIn v d n c ss gs ws fs .0 .answer) ≡ true)
+  pub opened-exactly : (d n c rule : ℕ) (ss : List ℕ) (gs : List (v .Cell)) (ws fs : List ℕ)
+      → RefusedExactly (openCases (openShortIn v d n c ss gs ws fs) d n c rule (settingsIn ss n)) (λ k. shown (openedIn v d n c rule ss gs ws fs .0 .answer) ≡ X k) (taken (openedIn v d n c rule ss gs ws fs .0 .answer) ≡ true)
   pub refusal-keeps : (e : Event) (g : Gate) (gs : List (v .Cell)) (ws fs : List ℕ) (r : Refusal) → calledIn v e g gs ws fs .0 .answer ≡ Refused r
       → calledIn v e g gs ws fs ≡ unchangedIn v g gs ws fs (Refused r)
-  pub opening-keeps : (d n c : ℕ) (ss : List ℕ) (gs : List (v .Cell)) (ws fs : List ℕ) (r : Refusal) → openedIn v d n c ss gs ws fs .0 .answer ≡ Refused r
-      → openedIn v d n c ss gs ws fs ≡ unchangedIn v unopened gs ws fs (Refused r)
+  pub opening-keeps : (d n c rule : ℕ) (ss : List ℕ) (gs : List (v .Cell)) (ws fs : List ℕ) (why : Refusal) → openedIn v d n c rule ss gs ws fs .0 .answer ≡ Refused why
+      → openedIn v d n c rule ss gs ws fs ≡ unchangedIn v unopened gs ws fs (Refused why)
   -- demand 2: an accepted opening gives a fresh table, a run of calls is a run of steps, and both leave tables that are sound; any two outcomes that a promise admits are equal
-  pub opens : (d n c : ℕ) (ss : List ℕ) (gs : List (v .Cell)) (ws fs : List ℕ) → taken (openedIn v d n c ss gs ws fs .0 .answer) ≡ true
-      → (firm v (holds v (openedIn v d n c ss gs ws fs)) ≡ true) × (shows v (holds v (openedIn v d n c ss gs ws fs)) ≡ fresh d c (settingsIn ss n))
+  pub opens : (d n c rule : ℕ) (ss : List ℕ) (gs : List (v .Cell)) (ws fs : List ℕ) → taken (openedIn v d n c rule ss gs ws fs .0 .answer) ≡ true
+      → (firm v (holds v (openedIn v d n c rule ss gs ws fs)) ≡ true) × (shows v (holds v (openedIn v d n c rule ss gs ws fs)) ≡ fresh d c rule (settingsIn ss n))
   pub runs : (es : List Event) (h : Host v) → firm v h ≡ true → all narrow es ≡ true → Runs v lawful h es
   pub called-once : (h k : HandedIn v) (gs : List (v .Cell)) (ws fs : List ℕ) (e : Event) (g : Gate)
       → seenIn v h ≡ seenIn v (calledIn v e g gs ws fs) → seenIn v k ≡ seenIn v (calledIn v e g gs ws fs) → h ≡ k
-  pub opened-once : (h k : HandedIn v) (gs : List (v .Cell)) (ws fs : List ℕ) (d n c : ℕ) (ss : List ℕ)
-      → seenIn v h ≡ seenIn v (openedIn v d n c ss gs ws fs) → seenIn v k ≡ seenIn v (openedIn v d n c ss gs ws fs) → h ≡ k
+  pub opened-once : (h k : HandedIn v) (gs : List (v .Cell)) (ws fs : List ℕ) (d n c rule : ℕ) (ss : List ℕ)
+      → seenIn v h ≡ seenIn v (openedIn v d n c rule ss gs ws fs) → seenIn v k ≡ seenIn v (openedIn v d n c rule ss gs ws fs) → h ≡ k
   -- "Places beyond what the settings need are neither read nor changed, at opening too."
   pub called-untouched : (e : Event) (g : Gate) (gs : List (v .Cell)) (ws fs : List ℕ) → Beyond v (g .guests) (g .setup .capacity) (g .setup .depth) gs ws fs (calledIn v e g gs ws fs)
-  pub opened-untouched : (d n c : ℕ) (ss : List ℕ) (gs : List (v .Cell)) (ws fs : List ℕ) → Beyond v n c d gs ws fs (openedIn v d n c ss gs ws fs)
+  pub opened-untouched : (d n c rule : ℕ) (ss : List ℕ) (gs : List (v .Cell)) (ws fs : List ℕ) → Beyond v n c d gs ws fs (openedIn v d n c rule ss gs ws fs)
   pub called-unread : (e : Event) (g : Gate) (gs : List (v .Cell)) (ws fs : List ℕ) (hs : List (v .Cell)) (vs es : List ℕ)
       → Alike v (g .guests) (g .setup .capacity) (g .setup .depth) gs ws fs hs vs es → Same v (g .guests) (g .setup .capacity) (g .setup .depth) (calledIn v e g gs ws fs) (calledIn v e g hs vs es)
-  pub opened-unread : (d n c : ℕ) (ss ts : List ℕ) (gs : List (v .Cell)) (ws fs : List ℕ) (hs : List (v .Cell)) (vs es : List ℕ) → take (n * settingsWide) ss ≡ take (n * settingsWide) ts
-      → Alike v n c d gs ws fs hs vs es → Same v n c d (openedIn v d n c ss gs ws fs) (openedIn v d n c ts hs vs es)
+  pub opened-unread : (d n c rule : ℕ) (ss ts : List ℕ) (gs : List (v .Cell)) (ws fs : List ℕ) (hs : List (v .Cell)) (vs es : List ℕ) → take (n * settingsWide) ss ≡ take (n * settingsWide) ts
+      → Alike v n c d gs ws fs hs vs es → Same v n c d (openedIn v d n c rule ss gs ws fs) (openedIn v d n c rule ts hs vs es)
   -- "Requests of one guest always leave in order of acceptance"
   pub in-order : (n : ℕ) (es : List Event) (h : Host v) → waits n (shows v h) ++ took n es (replies v h es) ≡ left n (replies v h es) ++ waits n (shows v (held v h es))
-  -- demand 3
-  pub demand-3 : (h : Host v) (es : List Event) → firm v h ≡ true → all narrow es ≡ true → (i : ℕ) → DueAt (shows v h) i → InTurnAt (shows v h) i (freeReplies v h es)
+  -- demand 3, under the gate's rule for limits
+  pub demand-3 : (h : Host v) (es : List Event) → firm v h ≡ true → all narrow es ≡ true → (i : ℕ) → TurnKept (shows v h) i (freeReplies v h es)
   pub no-place-no-send : (h : Host v) (e : Event) → firm v h ≡ true → taken (call v e h .0 .answer) ≡ true → finds e (h .gate) ≡ false → call v e h .0 .answer ≡ Nothing
   -- document 02, K2: an accepted call carries when to wake the gate that it leaves; an accepted opening, in which nothing waits, none
   pub wakes : (h : Host v) (e : Event) → firm v h ≡ true → taken (call v e h .0 .answer) ≡ true → Wakes (shows v (holds v (call v e h))) (call v e h .0 .wake)
-  pub opening-wakes : (d n c : ℕ) (ss : List ℕ) (gs : List (v .Cell)) (ws fs : List ℕ) → taken (openedIn v d n c ss gs ws fs .0 .answer) ≡ true → openedIn v d n c ss gs ws fs .0 .wake ≡ Never
+  pub opening-wakes : (d n c rule : ℕ) (ss : List ℕ) (gs : List (v .Cell)) (ws fs : List ℕ) → taken (openedIn v d n c rule ss gs ws fs .0 .answer) ≡ true → openedIn v d n c rule ss gs ws fs .0 .wake ≡ Never
 
 -- OF A BATCH, in a way of lending guests
 
@@ -145,33 +145,33 @@ pub record OfABatch (v : Lending) : Type 0 where
   -- what a batch leaves and answers is what the calls one by one leave and answer, on any tables; and demand 3 through any run of batches
   pub as-calls : (es : List ℕ) (h : Host v) (bs : List ℕ) → judged (batchTests es bs) ≡ accept → AsCalls v es h bs
   pub stays-firm : (bs : List Batch) (h : Host v) → firm v h ≡ true → firm v (heldBatches v h bs) ≡ true
-  pub demand-3 : (h : Host v) (bs : List Batch) → firm v h ≡ true → (i : ℕ) → DueAt (shows v h) i → InTurnAt (shows v h) i (freeAnswers v h (allDone bs))
+  pub demand-3 : (h : Host v) (bs : List Batch) → firm v h ≡ true → (i : ℕ) → TurnKept (shows v h) i (freeAnswers v h (allDone bs))
 
--- THROUGH C, over the gate's six numbers and the three tables as a host holds them. The tables that a call leaves are those over numbers, so what
+-- THROUGH C, over the gate's seven numbers and the three tables as a host holds them. The tables that a call leaves are those over numbers, so what
 -- stands beyond the need is untouched and unread there
 
 pub record ThroughC : Type 0 where
   pub called-exactly : (h : Lent) (e : Event)
-      → RefusedExactly (callCases (shortIn numbers (gateIn (h .six)) (h .guests) (h .waiting) (h .flight)) (not (soundIn numbers (gateIn (h .six)) (h .guests) (h .waiting) (h .flight))) (shownBy h) e) (Refuses (through e h .0)) (Takes (through e h .0))
-  pub opened-exactly : (six : List ℕ) (d n c : ℕ) (ss gs ws fs : List ℕ)
-      → RefusedExactly (openCases (openShortIn numbers d n c ss gs ws fs) d n c (settingsIn ss n)) (Refuses (hosted six (opened d n c ss gs ws fs) .0)) (Takes (hosted six (opened d n c ss gs ws fs) .0))
-  pub opens : (six : List ℕ) → length six ≡ 6 → (d n c : ℕ) (ss gs ws fs : List ℕ) → Takes (hosted six (opened d n c ss gs ws fs) .0)
-      → (length (kept (hosted six (opened d n c ss gs ws fs)) .six) ≡ 6) × (firm numbers (inside (kept (hosted six (opened d n c ss gs ws fs)))) ≡ true) × (shownBy (kept (hosted six (opened d n c ss gs ws fs))) ≡ fresh d c (settingsIn ss n))
-  pub runs : (es : List Event) (h : Lent) → length (h .six) ≡ 6 → firm numbers (inside h) ≡ true → all narrow es ≡ true → ThroughRuns h es
+      → RefusedExactly (callCases (shortIn numbers (gateIn (h .seven)) (h .guests) (h .waiting) (h .flight)) (not (soundIn numbers (gateIn (h .seven)) (h .guests) (h .waiting) (h .flight))) (shownBy h) e) (Refuses (through e h .0)) (Takes (through e h .0))
+  pub opened-exactly : (seven : List ℕ) (d n c rule : ℕ) (ss gs ws fs : List ℕ)
+      → RefusedExactly (openCases (openShortIn numbers d n c ss gs ws fs) d n c rule (settingsIn ss n)) (Refuses (hosted seven (opened d n c rule ss gs ws fs) .0)) (Takes (hosted seven (opened d n c rule ss gs ws fs) .0))
+  pub opens : (seven : List ℕ) → length seven ≡ 7 → (d n c rule : ℕ) (ss gs ws fs : List ℕ) → Takes (hosted seven (opened d n c rule ss gs ws fs) .0)
+      → (length (kept (hosted seven (opened d n c rule ss gs ws fs)) .seven) ≡ 7) × (firm numbers (inside (kept (hosted seven (opened d n c rule ss gs ws fs)))) ≡ true) × (shownBy (kept (hosted seven (opened d n c rule ss gs ws fs))) ≡ fresh d c rule (settingsIn ss n))
+  pub runs : (es : List Event) (h : Lent) → length (h .seven) ≡ 7 → firm numbers (inside h) ≡ true → all narrow es ≡ true → ThroughRuns h es
   pub called-once : (b c : Back) (h : Lent) (e : Event) → b ≡ through e h → c ≡ through e h → b ≡ c
-  pub opened-once : (b c : Back) (six : List ℕ) (d n m : ℕ) (ss gs ws fs : List ℕ) → b ≡ hosted six (opened d n m ss gs ws fs) → c ≡ hosted six (opened d n m ss gs ws fs) → b ≡ c
+  pub opened-once : (b c : Back) (seven : List ℕ) (d n m rule : ℕ) (ss gs ws fs : List ℕ) → b ≡ hosted seven (opened d n m rule ss gs ws fs) → c ≡ hosted seven (opened d n m rule ss gs ws fs) → b ≡ c
   pub four-once : (a b : Answer) → fourOf a ≡ fourOf b → a ≡ b
   pub fifth-once : (w x : Wake) → Timely w → Timely x → fifthOf w ≡ fifthOf x → w ≡ x
-  pub in-order : (n : ℕ) (es : List Event) (h : Lent) → length (h .six) ≡ 6
+  pub in-order : (n : ℕ) (es : List Event) (h : Lent) → length (h .seven) ≡ 7
       → (got : List Answer) × (fours h es ≡ map fourOf got) × (waits n (shownBy h) ++ took n es got ≡ left n got ++ waits n (shownBy (heldBy h es)))
-  pub demand-3 : (h : Lent) (es : List Event) → length (h .six) ≡ 6 → firm numbers (inside h) ≡ true → all narrow es ≡ true → (i : ℕ) → DueAt (shownBy h) i
-      → (got : List Answer) × (freeFours h es ≡ map fourOf got) × InTurnAt (shownBy h) i got
+  pub demand-3 : (h : Lent) (es : List Event) → length (h .seven) ≡ 7 → firm numbers (inside h) ≡ true → all narrow es ≡ true → (i : ℕ)
+      → (got : List Answer) × (freeFours h es ≡ map fourOf got) × TurnKept (shownBy h) i got
   -- document 02, K2: the fifth number, in a refusal 0
-  pub wakes : (h : Lent) (e : Event) → length (h .six) ≡ 6 → firm numbers (inside h) ≡ true → Takes (through e h .0)
+  pub wakes : (h : Lent) (e : Event) → length (h .seven) ≡ 7 → firm numbers (inside h) ≡ true → Takes (through e h .0)
       → (w : Wake) × Wakes (shownBy (kept (through e h))) w × Timely w × (through e h .0 .wake ≡ fifthOf w)
   pub refused-wakes : (h : Lent) (e : Event) (n : ℕ) → Refuses (through e h .0) n → through e h .0 .wake ≡ 0
-  pub opening-wakes : (six : List ℕ) (d n c : ℕ) (ss gs ws fs : List ℕ) → Takes (hosted six (opened d n c ss gs ws fs) .0) → hosted six (opened d n c ss gs ws fs) .0 .wake ≡ never
-  pub refused-opening-wakes : (six : List ℕ) (d n c : ℕ) (ss gs ws fs : List ℕ) (m : ℕ) → Refuses (hosted six (opened d n c ss gs ws fs) .0) m → hosted six (opened d n c ss gs ws fs) .0 .wake ≡ 0
+  pub opening-wakes : (seven : List ℕ) (d n c rule : ℕ) (ss gs ws fs : List ℕ) → Takes (hosted seven (opened d n c rule ss gs ws fs) .0) → hosted seven (opened d n c rule ss gs ws fs) .0 .wake ≡ never
+  pub refused-opening-wakes : (seven : List ℕ) (d n c rule : ℕ) (ss gs ws fs : List ℕ) (m : ℕ) → Refuses (hosted seven (opened d n c rule ss gs ws fs) .0) m → hosted seven (opened d n c rule ss gs ws fs) .0 .wake ≡ 0
 
 -- OF A TRACE, of any bytes
 
@@ -181,7 +181,8 @@ pub record OfATrace : Type 0 where
       → RefusedExactly (lineCases (tableAt bs k) (bytesAt bs k)) (λ n. shown (answerAt bs k) ≡ X n) (taken (answerAt bs k) ≡ true)
   pub line-numbers : (bs : List ℕ) → NoneHolds (headerCases bs) → (k : ℕ) → k * 14 < length (eventBytes bs) → (n : ℕ) → shown (answerAt bs k) ≡ X n → 3 < n
   pub table-sound : (bs : List ℕ) → NoneHolds (headerCases bs) → (k : ℕ) → sound (tableAt bs k) ≡ true
-  -- a trace of version 1 says no credit, so no guest has one
+  -- a trace of version 1 says no rule for limits, so it is rule 1, and no credit, so no guest has one
+  pub rule-1 : (bs : List ℕ) (k : ℕ) → (tableAt bs k) .setup .rule ≡ 1
   pub no-credit : (bs : List ℕ) (k g : ℕ) → (owner ((tableAt bs k) .guests) g) .settings .credit ≡ 0
   pub in-order : (g : ℕ) (bs : List ℕ) → acceptedIds g (readsOf (eventBytes bs)) (answersOf bs) ≡ left g (answersOf bs) ++ waits g (tableAt bs (whole (eventBytes bs)))
   pub demand-3 : (bs : List ℕ) → NoneHolds (headerCases bs) → (k : ℕ) → k ≤ whole (eventBytes bs) → (i : ℕ) → DueAt (tableAt bs k) i → InTurnAt (tableAt bs k) i (freeFrom bs k)
@@ -191,11 +192,11 @@ pub record OfATrace : Type 0 where
 pub record OfTheSheet : Type 0 where
   -- for each guest, from any table: what it held and what came is what it holds and what left; from a fresh one: accepted arrivals are what waits, flies and was completed
   pub balance : (t : Table) (es : List Event) → Balanced t (turnedBy (firstPage t) es)
-  pub arrivals : (d c : ℕ) (ss : List Settings) (es : List Event) (g : ℕ) → g < length ss
-      → figuresFor d c ss es g .arrivals ≡ waitsOf g (after (fresh d c ss) es) + fliesOf g (after (fresh d c ss) es) + figuresFor d c ss es g .completions
-  pub left : (d c : ℕ) (ss : List Settings) (es : List Event) (g : ℕ) → g < length ss → Covered (after (fresh d c ss) es) g (figuresFor d c ss es g)
+  pub arrivals : (d c rule : ℕ) (ss : List Settings) (es : List Event) (g : ℕ) → g < length ss
+      → figuresFor d c rule ss es g .arrivals ≡ waitsOf g (after (fresh d c rule ss) es) + fliesOf g (after (fresh d c rule ss) es) + figuresFor d c rule ss es g .completions
+  pub left : (d c rule : ℕ) (ss : List Settings) (es : List Event) (g : ℕ) → g < length ss → Covered (after (fresh d c rule ss) es) g (figuresFor d c rule ss es g)
   -- the waits are from a request's own acceptance to its send, their sum and the longest are theirs, and the sum fits into two 64-bit numbers
-  pub book : (d c : ℕ) (ss : List Settings) (es : List Event) → Follows (turnedBy (firstPage (fresh d c ss)) es)
+  pub book : (d c rule : ℕ) (ss : List Settings) (es : List Event) → Follows (turnedBy (firstPage (fresh d c rule ss)) es)
   pub wait : (p : Page) → Follows p → Past p → (e : Event) → accepted (p .table) e ≡ true → (ph : Phase) (g i : ℕ) → step (p .table) e .answer ≡ Sent ph g i
       → Stood (noted e (p .book)) (named g i) (moment e) (waited (enter (p .table) e) (named g i) (noted e (p .book)))
   pub waits : (t : Table) (es : List Event) (g : ℕ) → g < length (t .guests) → WaitsAre (figuresAt (turnedBy (firstPage t) es .figures) g) (waitsBy g (firstPage t) es)

@@ -129,7 +129,7 @@ module _ (g : Gate) (rs : List Guest) (ws fs : List ℕ) where
 
 -- OPENING
 
-module _ (d n c : ℕ) (ss : List ℕ) (rs : List Guest) (ws fs : List ℕ) where
+module _ (d n c rule : ℕ) (ss : List ℕ) (rs : List Guest) (ws fs : List ℕ) where
   abbrev ys : List ℕ
   ys = part n rs
 
@@ -138,28 +138,28 @@ module _ (d n c : ℕ) (ss : List ℕ) (rs : List Guest) (ws fs : List ℕ) wher
   same-open-short few = ap (λ (b : Bool). ltb (length ss) (n * settingsWide) || b || ltb (length ws) (c * waitingWide) || ltb (length fs) (d * flightWide)) (too-few n rs few)
 
   -- counts out of range: 1 at once
-  same-opening : openingIn numbers d n c ss ys ws fs ≡ openingIn records d n c ss rs ws fs
+  same-opening : openingIn numbers d n c rule ss ys ws fs ≡ openingIn records d n c rule ss rs ws fs
   unfolding openingIn openTests
   same-opening = go (counted d n c) refl
     where
-      go : (b : Bool) → counted d n c ≡ b → openingIn numbers d n c ss ys ws fs ≡ openingIn records d n c ss rs ws fs
+      go : (b : Bool) → counted d n c ≡ b → openingIn numbers d n c rule ss ys ws fs ≡ openingIn records d n c rule ss rs ws fs
       go false h = rw h refl
-      go true h = ap (λ (b : Bool). judged (openTests b d n c (settingsIn ss n))) (same-open-short (counted-few d n c h))
+      go true h = ap (λ (b : Bool). judged (openTests b d n c rule (settingsIn ss n))) (same-open-short (counted-few d n c h))
 
   -- an opening is accepted only with counts in range and records enough
-  open-all : openingIn records d n c ss rs ws fs ≡ accept → count n rs ≡ n
+  open-all : openingIn records d n c rule ss rs ws fs ≡ accept → count n rs ≡ n
   open-all h =
-      let a = accepted-open records d n c ss rs ws fs h in
+      let a = accepted-open records d n c ss rs ws fs rule h in
       in-use n rs (counted-few d n c (a .0)) (open-roomy records d n c ss rs ws fs (a .1) .1)
 
-  opened-by-home : (v : Verdict) → openingIn records d n c ss rs ws fs ≡ v → homed n rs (openedByIn numbers v d n c ss ys ws fs) ≡ openedByIn records v d n c ss rs ws fs
-  opened-by-home accept h = result-home n rs ws fs (open-all h) (record { table = fresh d c (settingsIn ss n); answer = Nothing }) (fresh-sized d n c ss .guests)
-  opened-by-home (refuse r) h = refusal-home n rs unopened ws fs (Refused r)
+  opened-by-home : (v : Verdict) → openingIn records d n c rule ss rs ws fs ≡ v → homed n rs (openedByIn numbers v d n c rule ss ys ws fs) ≡ openedByIn records v d n c rule ss rs ws fs
+  opened-by-home accept h = result-home n rs ws fs (open-all h) (record { table = fresh d c rule (settingsIn ss n); answer = Nothing }) (fresh-sized d n c rule ss .guests)
+  opened-by-home (refuse why) h = refusal-home n rs unopened ws fs (Refused why)
 
   -- an opening on the numbers, brought home
-  pub opened-home : homed n rs (openedIn numbers d n c ss ys ws fs) ≡ openedIn records d n c ss rs ws fs
+  pub opened-home : homed n rs (openedIn numbers d n c rule ss ys ws fs) ≡ openedIn records d n c rule ss rs ws fs
   unfolding openedIn
-  opened-home = ap (λ (v : Verdict). homed n rs (openedByIn numbers v d n c ss ys ws fs)) same-opening ∙ opened-by-home (openingIn records d n c ss rs ws fs) refl
+  opened-home = ap (λ (v : Verdict). homed n rs (openedByIn numbers v d n c rule ss ys ws fs)) same-opening ∙ opened-by-home (openingIn records d n c rule ss rs ws fs) refl
 
 -- THE PROMISE
 

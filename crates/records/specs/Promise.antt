@@ -31,5 +31,5 @@ abbrev pub called : Event → Gate → List Guest → (ws fs : List ℕ) → Han
 called = calledIn records
 
 -- THE PROMISE of an opening
-abbrev pub opened : (d n c : ℕ) (ss : List ℕ) → List Guest → (ws fs : List ℕ) → HandedIn records
+abbrev pub opened : (d n c rule : ℕ) (ss : List ℕ) → List Guest → (ws fs : List ℕ) → HandedIn records
 opened = openedIn records

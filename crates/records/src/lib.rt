@@ -35,17 +35,18 @@ pub fn call(
     r
 }
 
-// Opening: the lent tables become a fresh table of these settings, four numbers a guest.
+// Opening: the lent tables become a fresh table of these settings, four numbers a guest, under this rule for limits.
 pub fn open(
     depth: u64,
     known: u64,
     capacity: u64,
+    rule: u64,
     settings: &[u64],
     guests: &mut [Guest],
     waiting: &mut [u64],
     flight: &mut [u64],
 ) -> Outcome
-    ensures { λ r. ⌜ seen (r, now (guests .exit), now (waiting .exit), now (flight .exit)) ≡ seen (opened depth known capacity (now (settings .entry)) (now (guests .entry)) (now (waiting .entry)) (now (flight .entry))) ⌝ }
+    ensures { λ r. ⌜ seen (r, now (guests .exit), now (waiting .exit), now (flight .exit)) ≡ seen (opened depth known capacity rule (now (settings .entry)) (now (guests .entry)) (now (waiting .entry)) (now (flight .entry))) ⌝ }
 {
     let mut rows: [u64; GUESTS_LONG] = [0; GUESTS_LONG];
     let count = used(known, guests.len());
@@ -54,6 +55,7 @@ pub fn open(
         depth,
         known,
         capacity,
+        rule,
         settings,
         &mut rows,
         count,

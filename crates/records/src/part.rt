@@ -40,6 +40,7 @@ pub fn open(
     depth: u64,
     known: u64,
     capacity: u64,
+    rule: u64,
     settings: &[u64],
     rows: &mut [u64],
     count: usize,
@@ -47,12 +48,13 @@ pub fn open(
     flight: &mut [u64],
 ) -> Outcome
     requires { ⌜ count * guestWide ≤ length (now rows) ⌝ }
-    ensures { λ r. ⌜ seen (r, now (rows .exit), now (waiting .exit), now (flight .exit)) ≡ seen (inPart count (now (rows .entry)) (λ gs. opened depth known capacity (now (settings .entry)) gs (now (waiting .entry)) (now (flight .entry)))) ⌝ }
+    ensures { λ r. ⌜ seen (r, now (rows .exit), now (waiting .exit), now (flight .exit)) ≡ seen (inPart count (now (rows .entry)) (λ gs. opened depth known capacity rule (now (settings .entry)) gs (now (waiting .entry)) (now (flight .entry)))) ⌝ }
 {
     numbers::open(
         depth,
         known,
         capacity,
+        rule,
         settings,
         &mut rows[..count * GUEST_WIDE],
         waiting,

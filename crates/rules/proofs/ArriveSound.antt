@@ -13,18 +13,19 @@ use Rattle.lists.specs.Words.{if_then_else_, all, empty}
 use Rattle.lists.specs.WordsLaws.{both, join, eqb-sym, all-append, all-parts, all-filter, lowest-all, all-of-map, map-same, filter-map, filter-append, getD-each}
 use Rattle.rules.specs.Numbers.{ceiling}
 use Rattle.rules.specs.Tables.{Guest, Request, Flight, Table, reserved, limited, rspacing, lspacing, sspacing, nobodys, owner, of, mine, idle, name, lacks, names}
-use Rattle.rules.specs.Sound.{ranges, distinct, lawful, orderly}
+use Rattle.rules.specs.Sound.{ranges, ruled, distinct, lawful, orderly}
 use Rattle.rules.specs.Events.{Arriving, calledBy, smallest, shifted, shiftedNext, adjusted, shareTag, stamped, following, placed, stampedFor, arriveAs, arrive}
 use Rattle.rules.specs.Refusals.{passing}
 use Rattle.rules.proofs.Spacings.{no-down, no-up}
 use Rattle.rules.proofs.Names.{distinct-mid, names-mid}
 use Rattle.rules.proofs.Chains.{kept-same, kept-shift, kept-snoc}
-use Rattle.rules.proofs.SameSettings.{same-ranges, same-count, placed-settings, adjusted-settings}
+use Rattle.rules.proofs.SameSettings.{same-ranges, same-rule, same-count, placed-settings, adjusted-settings}
 use Rattle.rules.proofs.Facts.{Sound, orderly-is, is-orderly}
 
 -- what an arrival finds and leaves, but for the tags, which it tests, and the number of those that wait
 record Firm (t : Table) : Type 0 where
   in-range : ranges t ≡ true
+  rule-known : ruled (t .setup .rule) ≡ true
   flight-fits : length (t .flight) ≤ t .setup .depth
   guests-known : all (λ f. ltb (f .guest) (length (t .guests))) (names t) ≡ true
   names-once : distinct (names t) ≡ true
@@ -122,6 +123,7 @@ module _ (t : Table) (now : ℕ) where
       let n = same-count (adjusted b now t) t k in
       record {
         in-range = same-ranges (adjusted b now t) t k ∙ s .in-range;
+        rule-known = same-rule (adjusted b now t) t k ∙ s .rule-known;
         flight-fits = rw (adjusted-flight b, k .setup) (s .flight-fits);
         guests-known = rw (n, adjusted-names b) (s .guests-known);
         names-once = rw (adjusted-names b) (s .names-once);
@@ -192,6 +194,7 @@ module _ (u : Table) (c : Firm u) (now : ℕ) (q : Request) (known : q .guest < 
       let is : map name (u .waiting ++ (q ∷ [])) ++ u .flight ≡ map name (u .waiting) ++ name q ∷ u .flight = names-mid (u .waiting) [] q (u .flight) in
       record {
         in-range = same-ranges (placed now q u) u k ∙ c .in-range;
+        rule-known = same-rule (placed now q u) u k ∙ c .rule-known;
         flight-fits = c .flight-fits;
         guests-known = rw (same-count (placed now q u) u k, is)
             (all-append f (map name (u .waiting)) (name q ∷ u .flight) (parts .0) (join (lt-ltb (q .guest) (length (u .guests)) known) (parts .1)));
@@ -219,6 +222,7 @@ module _ (t : Table) (s : Sound t) (now : ℕ) (a : Arriving) (known : a .guest 
       let f = both (all lawful w) (lawful q) (not-false (all lawful w && lawful q) fit) in
       record {
         in-range = c .in-range;
+        rule-known = c .rule-known;
         waiting-fits = rw (length-append w (q ∷ []), adjusted-length t now b, (adjusted-settings b now t) .setup) (omega arith);
         flight-fits = c .flight-fits;
         time-fits = time;

@@ -19,7 +19,7 @@ credited r l s c = record { reservation = r; limit = l; shares = s; credit = c }
 abbrev full : Settings → (snext : ℕ) → Table
 full s n =
     record {
-      setup = record { depth = 1; capacity = 8 };
+      setup = record { depth = 1; capacity = 8; rule = 1 };
       time = 0;
       guests = record { settings = s; rnext = 0; lnext = 0; snext = n } ∷ newcomer (settings 0 0 1) ∷ [];
       waiting = [];
@@ -55,10 +55,10 @@ pub record Bursts : Type 0 where
   -- a credit of 256 is good, one above is not: it is 3 in an open table
   pub most : settled (credited 0 0 1 256) ≡ true
   pub too-much : settled (credited 0 0 1 257) ≡ false
-  pub three-where-open : lines (fresh 1 8 (credited 0 0 1 257 ∷ [])) (Tick 0 ∷ []) ≡ X 3 ∷ []
+  pub three-where-open : lines (fresh 1 8 1 (credited 0 0 1 257 ∷ [])) (Tick 0 ∷ []) ≡ X 3 ∷ []
   -- K3's 2^62 − 1 case is for credit 0 of every guest: guest 0 has none, and no reservation or limit, and its first request does not wait; its second is
   -- refused 9 all the same, as it would move the share tags of guest 1, which lie back, past the ceiling
-  pub another's-credit : lines (fresh 1 8 (settings 0 0 1 ∷ credited 0 0 1000 2 ∷ [])) lastBurst ≡ W 0 1 ∷ - ∷ - ∷ X 9 ∷ []
+  pub another's-credit : lines (fresh 1 8 1 (settings 0 0 1 ∷ credited 0 0 1000 2 ∷ [])) lastBurst ≡ W 0 1 ∷ - ∷ - ∷ X 9 ∷ []
 
 -- they hold, each by itself: together they would be too much to compute
 lies : waitingAfter Request.stag (desk 0) (burst 100) ≡ ms 98 ∷ ms 99 ∷ ms 100 ∷ []
@@ -77,7 +77,7 @@ limits : waitingAfter Request.ltag (desk 0) (burst 100) ≡ ms 100 ∷ ms 102 �
 unfolding lines
 limits = refl
 
-last : lines (fresh 1 8 (settings 0 0 1 ∷ credited 0 0 1000 2 ∷ [])) lastBurst ≡ W 0 1 ∷ - ∷ - ∷ X 9 ∷ []
+last : lines (fresh 1 8 1 (settings 0 0 1 ∷ credited 0 0 1000 2 ∷ [])) lastBurst ≡ W 0 1 ∷ - ∷ - ∷ X 9 ∷ []
 unfolding lines
 last = refl
 

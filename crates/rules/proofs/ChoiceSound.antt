@@ -15,7 +15,7 @@ use Rattle.rules.specs.Choice.{sending, earlier, sooner, dropOf, dropped
 use Rattle.rules.proofs.Spacings.{down-le, up-le, no-down}
 use Rattle.rules.proofs.Names.{distinct-last, names-mid, names-sent}
 use Rattle.rules.proofs.Chains.{kept-tail, kept-above, kept-same, kept-drop}
-use Rattle.rules.proofs.SameSettings.{same-ranges, same-count, sending-settings, dropped-settings}
+use Rattle.rules.proofs.SameSettings.{same-ranges, same-rule, same-count, sending-settings, dropped-settings}
 use Rattle.rules.proofs.Facts.{Sound, orderly-is, is-orderly, Lawful, lawful-is, waiting-known, any-orderly}
 use Rattle.rules.proofs.Picks.{Goes, due-goes, open-goes}
 use Rattle.rules.proofs.Drops.{dropped-names, dropped-length, dropped-flight, dropped-time, dropped-lawful, dropped-own, dropped-owner, dropped-others, dropped-other}
@@ -68,6 +68,7 @@ module _ (t : Table) (s : Sound t) (p : Request) (v : List Request) (c : Goes t 
       let kn = all-mid f (map name (k .before)) (name p) (map name (k .after) ++ t .flight) (rw was at (s .guests-known)) in
       record {
         in-range = same-ranges (sending t p v) t (sending-settings t p v) ∙ s .in-range;
+        rule-known = same-rule (sending t p v) t (sending-settings t p v) ∙ s .rule-known;
         waiting-fits = omega (arith, s .waiting-fits);
         flight-fits = rw (length-append (t .flight) (name p ∷ [])) (omega (arith, ltb-true (length (t .flight)) (t .setup .depth) r));
         time-fits = s .time-fits;
@@ -140,6 +141,7 @@ module _ (u : Table) (s : Sound u) (p : Request) (known : p .guest < length (u .
       let k = dropped-settings p u in
       record {
         in-range = same-ranges (dropped p u) u k ∙ s .in-range;
+        rule-known = same-rule (dropped p u) u k ∙ s .rule-known;
         waiting-fits = rw (dropped-length p u, k .setup) (s .waiting-fits);
         flight-fits = rw (dropped-flight p u, k .setup) (s .flight-fits);
         time-fits = rw (dropped-time p u) (s .time-fits);

@@ -1,17 +1,54 @@
 -- The choice is what document 01 says of it, and nothing else is: never another send, and none withheld. Assumes nothing.
-use mathlib.Core.Path.{_≡_, refl, sym}
-use mathlib.Core.Bool.{Bool, true, false, true≢false}
-use Prim.Native.Nat.{_<_}
+use mathlib.Core.Path.{_≡_, refl, sym, subst}
+use mathlib.Core.Bool.{Bool, true, false, not, _&&_, _||_, true≢false, false≢true}
+use mathlib.Core.Logic.{_↔_}
+use Prim.Native.Nat.{_≤_, _<_}
+use lib.Dec.{leb, eqb}
 use lib.ListN.{length}
-use borrow.Author.Tests.{ltb-true, ltb-false, lt-ltb, le-ltb}
+use borrow.Author.Tests.{ltb-true, ltb-false, lt-ltb, le-ltb, leb-true, le-leb, eqb-true, eq-eqb}
 use Rattle.lists.specs.Words.{if_then_else_}
-use Rattle.rules.specs.Tables.{Request, Table}
-use Rattle.rules.specs.Choice.{Result, Pick, nobody, picked, least, due, open?, room, byWeight, byReservation, choice}
+use Rattle.lists.specs.WordsLaws.{both, join}
+use Rattle.rules.specs.Tables.{Request, Table, reserved, limited, settingsOf}
+use Rattle.rules.specs.Choice.{Result, Pick, nobody, picked, least, dueAt, openAt, passesAt, passes, due, open?, room, byWeight, byReservation, choice}
 use Rattle.rules.specs.Events.{Event, enter}
 use Rattle.rules.specs.Refusals.{Verdict, accept, refuse, verdict, isAccept, accepted}
 use Rattle.rules.specs.Run.{decided, step}
-use Rattle.rules.specs.Chosen.{NoneIs, unsent, Chosen, full, reservation, weight, nothing}
+use Rattle.rules.specs.Chosen.{Open, Due, NoneIs, unsent, Chosen, full, reservation, weight, nothing}
 use Rattle.rules.proofs.Places.{Says, least-place, least-at, least-none}
+
+-- what the weight phase asks, as a test
+pub open-means : (t : Table) (q : Request) → (open? t q ≡ true) ↔ Open t q
+unfolding openAt
+open-means t q = go (limited (settingsOf (t .guests) q))
+  where
+    go : (b : Bool) → (not b || leb (q .ltag) (t .time) ≡ true) ↔ (b ≡ true → q .ltag ≤ t .time)
+    go false = (λ h e. absurd (false≢true e), λ k. refl)
+    go true = (λ h e. leb-true (q .ltag) (t .time) h, λ k. le-leb (q .ltag) (t .time) (k refl))
+
+-- what the reservation phase asks, as a test
+pub due-means : (t : Table) (q : Request) → (due t q ≡ true) ↔ Due t q
+unfolding dueAt passesAt
+due-means t q = (to, back)
+  where
+    r : Bool
+    r = reserved (settingsOf (t .guests) q)
+
+    by-rule : (b : Bool) → eqb (t .setup .rule) 2 ≡ b → (t .setup .rule ≡ 2 → Open t q) → (if b then open? t q else true) ≡ true
+    by-rule true e k = open-means t q .1 (k (eqb-true (t .setup .rule) 2 e))
+    by-rule false e k = refl
+
+    to : due t q ≡ true → Due t q
+    to h =
+        let c = both (r && leb (q .rtag) (t .time)) (passes t q) h in
+        let d = both r (leb (q .rtag) (t .time)) (c .0) in
+        record {
+          has-tag = d .0;
+          at-or-before = leb-true (q .rtag) (t .time) (d .1);
+          by-rule-2 = λ e. open-means t q .0 (subst (λ (b : Bool). (if b then open? t q else true) ≡ true) (eq-eqb (t .setup .rule) 2 e) (c .1));
+        }
+
+    back : Due t q → due t q ≡ true
+    back d = join (join (d .has-tag) (le-leb (q .rtag) (t .time) (d .at-or-before))) (by-rule (eqb (t .setup .rule) 2) refl (d .by-rule-2))
 
 -- the choice is what the description asks
 pub chosen : (t : Table) → Chosen t (choice t)

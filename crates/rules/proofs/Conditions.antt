@@ -1,6 +1,6 @@
 -- What each condition of a refusal says in plain facts, where it holds and where it does not. Assumes nothing.
 use mathlib.Core.Path.{_≡_, refl, sym, ap, _∙_}
-use mathlib.Core.Bool.{Bool, true, false, not, _&&_, _||_, true≢false, false≢true}
+use mathlib.Core.Bool.{Bool, true, false, not, _&&_, _||_, true≢false, false≢true, or-true}
 use mathlib.Core.List.{List, List·Memᴰ, Memᴰ·cast}
 use mathlib.Core.Logic.{_↔_, inl, inr, ⊎-elim}
 use Prim.Native.Nat.{ℕ, _+_, _-_, _≤_, _<_}
@@ -10,10 +10,10 @@ use Rattle.lists.specs.Words.{all}
 use Rattle.lists.specs.WordsLaws.{both, join, either-fails, left-fails, right-fails, all-of-map, all-each, each-all, all-but, but-all}
 use Rattle.rules.specs.Numbers.{ceiling, mostCredit, within}
 use Rattle.rules.specs.Tables.{Settings, Request, Flight, Table, limited, same, lacks}
-use Rattle.rules.specs.Sound.{counted, settled, lawful}
+use Rattle.rules.specs.Sound.{counted, settled, ruled, lawful}
 use Rattle.rules.specs.Events.{Arriving, smallest, shifted, adjusted, stampedFor}
 use Rattle.rules.specs.Refusals.{passing}
-use Rattle.rules.specs.Refused.{Above, Passing, given, moved, Countable, Good}
+use Rattle.rules.specs.Refused.{Above, Passing, given, moved, Countable, Ruled, Good}
 
 -- what it says that a condition holds, and that it does not
 pub record Means (b : Bool) (Holds Fails : Type 0) : Type 0 where
@@ -135,6 +135,19 @@ counted-means d n c = means (to, λ k. join (join (within-means 1 64 d .1 (k .de
         let p = both (within 1 64 d && within 1 64 n) (within 1 1024 c) h in
         let q = both (within 1 64 d) (within 1 64 n) (p .0) in
         record { depths = within-means 1 64 d .0 (q .0); guest-count = within-means 1 64 n .0 (q .1); capacities = within-means 1 1024 c .0 (p .1) }
+
+-- a rule that there is
+pub ruled-means : (r : ℕ) → Means (ruled r) (Ruled r) (Ruled r → ⊥)
+unfolding ruled
+ruled-means r = means (to (eqb r 1) refl, back)
+  where
+    to : (b : Bool) → eqb r 1 ≡ b → b || eqb r 2 ≡ true → Ruled r
+    to true e h = inl (eqb-true r 1 e)
+    to false e h = inr (eqb-true r 2 h)
+
+    back : Ruled r → eqb r 1 || eqb r 2 ≡ true
+    back (inl e) = rw (eq-eqb r 1 e)
+    back (inr e) = rw (eq-eqb r 2 e, or-true (eqb r 1))
 
 -- one guest's settings in their ranges
 pub settled-good : (s : Settings) → (settled s ≡ true) ↔ Good s

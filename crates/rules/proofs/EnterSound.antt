@@ -27,6 +27,7 @@ unfolding wait ranges
 wait-sound now t s h =
     record {
       in-range = s .in-range;
+      rule-known = s .rule-known;
       waiting-fits = s .waiting-fits;
       flight-fits = s .flight-fits;
       time-fits = h;
@@ -44,6 +45,7 @@ complete-sound now f t s h =
     let k = all-parts known (map name (t .waiting)) (t .flight) (s .guests-known) in
     record {
       in-range = s .in-range;
+      rule-known = s .rule-known;
       waiting-fits = s .waiting-fits;
       flight-fits = omega (arith, length-without (same f) (t .flight), s .flight-fits);
       time-fits = h;

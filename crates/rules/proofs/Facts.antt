@@ -11,11 +11,12 @@ use Rattle.lists.specs.Words.{all}
 use Rattle.lists.specs.WordsLaws.{both, join, below-at, at-below, all-parts, all-of-map}
 use Rattle.rules.specs.Numbers.{ceiling}
 use Rattle.rules.specs.Tables.{Guest, Request, Table, reserved, limited, rspacing, lspacing, sspacing, nobodys, owner, mine, name, names}
-use Rattle.rules.specs.Sound.{ranges, roomy, timely, known, distinct, lawful, kept, orderly, ordered, sound}
+use Rattle.rules.specs.Sound.{ranges, ruled, roomy, timely, known, distinct, lawful, kept, orderly, ordered, sound}
 
 -- "A table is sound when"
 pub record Sound (t : Table) : Type 0 where
   pub in-range : ranges t ≡ true
+  pub rule-known : ruled (t .setup .rule) ≡ true
   pub waiting-fits : length (t .waiting) ≤ t .setup .capacity
   pub flight-fits : length (t .flight) ≤ t .setup .depth
   pub time-fits : t .time ≤ ceiling
@@ -28,15 +29,17 @@ pub record Sound (t : Table) : Type 0 where
 pub sound-is : (t : Table) → sound t ≡ true → Sound t
 unfolding sound
 sound-is t h =
-    let h7 = both (ranges t && roomy t && timely t && known t && distinct (names t) && all lawful (t .waiting)) (ordered t) h in
-    let h6 = both (ranges t && roomy t && timely t && known t && distinct (names t)) (all lawful (t .waiting)) (h7 .0) in
-    let h5 = both (ranges t && roomy t && timely t && known t) (distinct (names t)) (h6 .0) in
-    let h4 = both (ranges t && roomy t && timely t) (known t) (h5 .0) in
-    let h3 = both (ranges t && roomy t) (timely t) (h4 .0) in
-    let h2 = both (ranges t) (roomy t) (h3 .0) in
+    let h7 = both (ranges t && ruled (t .setup .rule) && roomy t && timely t && known t && distinct (names t) && all lawful (t .waiting)) (ordered t) h in
+    let h6 = both (ranges t && ruled (t .setup .rule) && roomy t && timely t && known t && distinct (names t)) (all lawful (t .waiting)) (h7 .0) in
+    let h5 = both (ranges t && ruled (t .setup .rule) && roomy t && timely t && known t) (distinct (names t)) (h6 .0) in
+    let h4 = both (ranges t && ruled (t .setup .rule) && roomy t && timely t) (known t) (h5 .0) in
+    let h3 = both (ranges t && ruled (t .setup .rule) && roomy t) (timely t) (h4 .0) in
+    let h2 = both (ranges t && ruled (t .setup .rule)) (roomy t) (h3 .0) in
+    let h1 = both (ranges t) (ruled (t .setup .rule)) (h2 .0) in
     let room = both (leb (length (t .waiting)) (t .setup .capacity)) (leb (length (t .flight)) (t .setup .depth)) (h2 .1) in
     record {
-      in-range = h2 .0;
+      in-range = h1 .0;
+      rule-known = h1 .1;
       waiting-fits = leb-true (length (t .waiting)) (t .setup .capacity) (room .0);
       flight-fits = leb-true (length (t .flight)) (t .setup .depth) (room .1);
       time-fits = leb-true (t .time) ceiling (h3 .1);
@@ -51,7 +54,7 @@ pub is-sound : (t : Table) → Sound t → sound t ≡ true
 unfolding sound
 is-sound t s =
     let room = join (le-leb (length (t .waiting)) (t .setup .capacity) (s .waiting-fits)) (le-leb (length (t .flight)) (t .setup .depth) (s .flight-fits)) in
-    join (join (join (join (join (join (s .in-range) room) (le-leb (t .time) ceiling (s .time-fits))) (s .guests-known)) (s .names-once)) (s .tags-fit))
+    join (join (join (join (join (join (join (s .in-range) (s .rule-known)) room) (le-leb (t .time) ceiling (s .time-fits))) (s .guests-known)) (s .names-once)) (s .tags-fit))
     (at-below (length (t .guests)) (λ g. orderly (owner (t .guests) g) (mine g (t .waiting))) (s .guests-orderly))
 
 -- the three kinds of tags of a guest of which w waits

@@ -4,12 +4,12 @@ use mathlib.Core.Bool.{Bool, true, false, false≢true}
 use mathlib.Core.List.{List, [], _∷_}
 use Prim.Native.Nat.{ℕ, _≤_, _<_}
 use native.Mathlib.Omega.{arith}
-use lib.Dec.{leb}
+use lib.Dec.{leb, eqb}
 use borrow.Author.Tests.{leb-true, leb-false, le-leb, eqb-true}
 use Rattle.lists.specs.Words.{if_then_else_, all}
 use Rattle.lists.specs.WordsLaws.{both, join, filter-passes}
 use Rattle.rules.specs.Tables.{Request, Table, reserved, limited, rspacing, lspacing, sspacing, owner, settingsOf, of, mine}
-use Rattle.rules.specs.Choice.{Pick, nobody, picked, behind, against, least, dueAt, openAt, passes, due, open?}
+use Rattle.rules.specs.Choice.{Pick, nobody, picked, behind, against, least, dueAt, openAt, passesAt, passes, due, open?}
 use Rattle.rules.proofs.Chains.{rising, kept-rising}
 use Rattle.rules.proofs.Facts.{Sound, Orderly, orderly-is, any-orderly}
 
@@ -71,30 +71,20 @@ module _ (ok : Request → Bool) (tag : Request → ℕ) (g : ℕ) where
 
 -- WITHIN A GUEST
 
--- what else the reservation phase asks is asked of none
-pub passes-all : (t : Table) (q : Request) → passes t q ≡ true
-unfolding passes
-passes-all t q = refl
+-- what is open has all else that the reservation phase asks, whatever the rule
+pub open-passes : (t : Table) (q : Request) → open? t q ≡ true → passes t q ≡ true
+unfolding passesAt
+open-passes t q h = elim (eqb (t .setup .rule) 2) as (λ b. (if b then open? t q else true) ≡ true) [ true ↦ h | false ↦ refl ]
 
 module _ (t : Table) (g : ℕ) where
-  -- an earlier request is due where a later one is
-  pub earlier-due : (q y : Request) → of g q ≡ true → of g y ≡ true → (reserved ((owner (t .guests) g) .settings) ≡ true → q .rtag ≤ y .rtag)
-      → Before (due t) Request.rtag q y
-  unfolding dueAt
-  earlier-due q y a b h d =
-      let c = both (dueAt (settingsOf (t .guests) y) (t .time) y) (passes t y) d in
-      let e = both (reserved (settingsOf (t .guests) y)) (leb (y .rtag) (t .time)) (c .0) in
-      let r : reserved ((owner (t .guests) g) .settings) ≡ true = rw (eqb-true (y .guest) g b) at (e .0) in
-      let k : q .rtag ≤ y .rtag = h r in
-      let z = leb-true (y .rtag) (t .time) (e .1) in
-      let has : reserved (settingsOf (t .guests) q) ≡ true = rw (eqb-true (q .guest) g a) r in
-      (join (join has (le-leb (q .rtag) (t .time) (omega arith))) (passes-all t q), k)
+  -- the limit tags of guest g's requests q and y stand in order
+  abbrev LimitsRise : Request → Request → Type 0
+  LimitsRise q y = limited ((owner (t .guests) g) .settings) ≡ true → q .ltag ≤ y .ltag
 
   -- an earlier request is open where a later one is
-  pub earlier-open : (q y : Request) → of g q ≡ true → of g y ≡ true → (limited ((owner (t .guests) g) .settings) ≡ true → q .ltag ≤ y .ltag)
-      → q .stag ≤ y .stag → Before (open? t) Request.stag q y
+  opens : (q y : Request) → of g q ≡ true → of g y ≡ true → LimitsRise q y → open? t y ≡ true → open? t q ≡ true
   unfolding openAt
-  earlier-open q y a b h s d = (go (limited ((owner (t .guests) g) .settings)) refl, s)
+  opens q y a b h d = go (limited ((owner (t .guests) g) .settings)) refl
     where
       go : (c : Bool) → limited ((owner (t .guests) g) .settings) ≡ c → open? t q ≡ true
       go false e = rw (eqb-true (q .guest) g a, e)
@@ -103,24 +93,56 @@ module _ (t : Table) (g : ℕ) where
           let k : q .ltag ≤ y .ltag = h e in
           rw (eqb-true (q .guest) g a, e) (le-leb (q .ltag) (t .time) (omega arith))
 
+  -- and passes where a later one does
+  earlier-passes : (q y : Request) → of g q ≡ true → of g y ≡ true → LimitsRise q y → passes t y ≡ true → passes t q ≡ true
+  unfolding passesAt
+  earlier-passes q y a b h =
+      elim (eqb (t .setup .rule) 2) as (λ c. (if c then open? t y else true) ≡ true → (if c then open? t q else true) ≡ true)
+      [ true ↦ opens q y a b h | false ↦ λ e. refl ]
+
+  -- so it is due where a later one is
+  pub earlier-due : (q y : Request) → of g q ≡ true → of g y ≡ true → (reserved ((owner (t .guests) g) .settings) ≡ true → q .rtag ≤ y .rtag)
+      → LimitsRise q y → Before (due t) Request.rtag q y
+  unfolding dueAt
+  earlier-due q y a b h i d =
+      let c = both (dueAt (settingsOf (t .guests) y) (t .time) y) (passes t y) d in
+      let e = both (reserved (settingsOf (t .guests) y)) (leb (y .rtag) (t .time)) (c .0) in
+      let r : reserved ((owner (t .guests) g) .settings) ≡ true = rw (eqb-true (y .guest) g b) at (e .0) in
+      let k : q .rtag ≤ y .rtag = h r in
+      let z = leb-true (y .rtag) (t .time) (e .1) in
+      let has : reserved (settingsOf (t .guests) q) ≡ true = rw (eqb-true (q .guest) g a) r in
+      (join (join has (le-leb (q .rtag) (t .time) (omega arith))) (earlier-passes q y a b i (c .1)), k)
+
+  -- what rises from q to each of the list y ∷ l rises to y, and to each of l
+  first-rises : (tag : Request → ℕ) (q y : Request) (l : List Request) → all (λ y. leb (tag q) (tag y)) (y ∷ l) ≡ true → tag q ≤ tag y
+  first-rises tag q y l h = leb-true (tag q) (tag y) (both (leb (tag q) (tag y)) (all (λ y. leb (tag q) (tag y)) l) h .0)
+
+  rest-rises : (tag : Request → ℕ) (q y : Request) (l : List Request) → all (λ y. leb (tag q) (tag y)) (y ∷ l) ≡ true → all (λ y. leb (tag q) (tag y)) l ≡ true
+  rest-rises tag q y l h = both (leb (tag q) (tag y)) (all (λ y. leb (tag q) (tag y)) l) h .1
+
   -- a request stands before later ones of its guest in the reservation phase
   before-due : (q : Request) (l : List Request) → of g q ≡ true → all (of g) l ≡ true
-      → (reserved ((owner (t .guests) g) .settings) ≡ true → all (λ y. leb (q .rtag) (y .rtag)) l ≡ true) → BeforeAll (due t) Request.rtag q l
-  before-due q [] a b h = tt
-  before-due q (y ∷ l) a b h =
+      → (reserved ((owner (t .guests) g) .settings) ≡ true → all (λ y. leb (q .rtag) (y .rtag)) l ≡ true)
+      → (limited ((owner (t .guests) g) .settings) ≡ true → all (λ y. leb (q .ltag) (y .ltag)) l ≡ true) → BeforeAll (due t) Request.rtag q l
+  before-due q [] a b h i = tt
+  before-due q (y ∷ l) a b h i =
       let c = both (of g y) (all (of g) l) b in (
-        earlier-due q y a (c .0) (λ r. leb-true (q .rtag) (y .rtag) (both (leb (q .rtag) (y .rtag)) (all (λ y. leb (q .rtag) (y .rtag)) l) (h r) .0)),
-        before-due q l a (c .1) (λ r. both (leb (q .rtag) (y .rtag)) (all (λ y. leb (q .rtag) (y .rtag)) l) (h r) .1),
+        earlier-due q y a (c .0) (λ r. first-rises Request.rtag q y l (h r)) (λ r. first-rises Request.ltag q y l (i r)),
+        before-due q l a (c .1) (λ r. rest-rises Request.rtag q y l (h r)) (λ r. rest-rises Request.ltag q y l (i r)),
       )
+
+  -- what rises rises from the first on, and behind it
+  from-first : (tag : Request → ℕ) (q : Request) (l : List Request) → rising tag (q ∷ l) ≡ true → (all (λ y. leb (tag q) (tag y)) l ≡ true) × (rising tag l ≡ true)
+  from-first tag q l h = both (all (λ y. leb (tag q) (tag y)) l) (rising tag l) h
 
   -- and so all of a guest stand in order
   ordered-due : (l : List Request) → all (of g) l ≡ true → (reserved ((owner (t .guests) g) .settings) ≡ true → rising Request.rtag l ≡ true)
-      → Ordered (due t) Request.rtag l
-  ordered-due [] a h = tt
-  ordered-due (q ∷ l) a h =
+      → (limited ((owner (t .guests) g) .settings) ≡ true → rising Request.ltag l ≡ true) → Ordered (due t) Request.rtag l
+  ordered-due [] a h i = tt
+  ordered-due (q ∷ l) a h i =
       let c = both (of g q) (all (of g) l) a in (
-        before-due q l (c .0) (c .1) (λ r. both (all (λ y. leb (q .rtag) (y .rtag)) l) (rising Request.rtag l) (h r) .0),
-        ordered-due l (c .1) (λ r. both (all (λ y. leb (q .rtag) (y .rtag)) l) (rising Request.rtag l) (h r) .1),
+        before-due q l (c .0) (c .1) (λ r. from-first Request.rtag q l (h r) .0) (λ r. from-first Request.ltag q l (i r) .0),
+        ordered-due l (c .1) (λ r. from-first Request.rtag q l (h r) .1) (λ r. from-first Request.ltag q l (i r) .1),
       )
 
   -- the same in the weight phase
@@ -129,11 +151,9 @@ module _ (t : Table) (g : ℕ) where
       → all (λ y. leb (q .stag) (y .stag)) l ≡ true → BeforeAll (open? t) Request.stag q l
   before-open q [] a b h s = tt
   before-open q (y ∷ l) a b h s =
-      let c = both (of g y) (all (of g) l) b in
-      let k = both (leb (q .stag) (y .stag)) (all (λ y. leb (q .stag) (y .stag)) l) s in (
-        earlier-open q y a (c .0) (λ r. leb-true (q .ltag) (y .ltag) (both (leb (q .ltag) (y .ltag)) (all (λ y. leb (q .ltag) (y .ltag)) l) (h r) .0))
-            (leb-true (q .stag) (y .stag) (k .0)),
-        before-open q l a (c .1) (λ r. both (leb (q .ltag) (y .ltag)) (all (λ y. leb (q .ltag) (y .ltag)) l) (h r) .1) (k .1),
+      let c = both (of g y) (all (of g) l) b in (
+        λ d. (opens q y a (c .0) (λ r. first-rises Request.ltag q y l (h r)) d, first-rises Request.stag q y l s),
+        before-open q l a (c .1) (λ r. rest-rises Request.ltag q y l (h r)) (rest-rises Request.stag q y l s),
       )
 
   -- and so all of a guest stand in order
@@ -142,9 +162,9 @@ module _ (t : Table) (g : ℕ) where
   ordered-open [] a h s = tt
   ordered-open (q ∷ l) a h s =
       let c = both (of g q) (all (of g) l) a in
-      let k = both (all (λ y. leb (q .stag) (y .stag)) l) (rising Request.stag l) s in (
-        before-open q l (c .0) (c .1) (λ r. both (all (λ y. leb (q .ltag) (y .ltag)) l) (rising Request.ltag l) (h r) .0) (k .0),
-        ordered-open l (c .1) (λ r. both (all (λ y. leb (q .ltag) (y .ltag)) l) (rising Request.ltag l) (h r) .1) (k .1),
+      let k = from-first Request.stag q l s in (
+        before-open q l (c .0) (c .1) (λ r. from-first Request.ltag q l (h r) .0) (k .0),
+        ordered-open l (c .1) (λ r. from-first Request.ltag q l (h r) .1) (k .1),
       )
 
 -- IN A SOUND TABLE
@@ -161,7 +181,8 @@ module _ (t : Table) (s : Sound t) (g : ℕ) where
       let own = mine g (t .waiting) in
       firsts (due t) Request.rtag g (t .waiting)
       (ordered-due t g own (filter-passes (of g) (t .waiting))
-      (kept-rising Request.rtag (rspacing h) (rspacing h) (reserved h) own ((owner (t .guests) g) .rnext) (orderly-own .reservations)))
+      (kept-rising Request.rtag (rspacing h) (rspacing h) (reserved h) own ((owner (t .guests) g) .rnext) (orderly-own .reservations))
+      (kept-rising Request.ltag (lspacing h) (lspacing h) (limited h) own ((owner (t .guests) g) .lnext) (orderly-own .limits)))
 
   -- what the weight phase picks is the first of its guest
   pub first-open : First (open? t) Request.stag g (least (open? t) Request.stag (t .waiting)) (t .waiting)

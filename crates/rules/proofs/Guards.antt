@@ -7,11 +7,11 @@ use Prim.Native.Nat.{ℕ, suc}
 use lib.ListN.{replicate}
 use Rattle.rules.specs.Numbers.{ceiling}
 use Rattle.rules.specs.Tables.{Settings, Guest, Request, Table}
-use Rattle.rules.specs.Events.{Event, Arrival, Tick}
+use Rattle.rules.specs.Events.{Event, Arrival, Completion, Tick}
 use Rattle.rules.specs.Answers.{hour}
 use Rattle.rules.specs.Run.{after, fresh}
 use Rattle.rules.specs.Waking.{readyAt, wake, wakes}
-use Rattle.rules.proofs.Readings.{one, ten}
+use Rattle.rules.proofs.Readings.{oneBy, one, ten}
 use Rattle.rules.proofs.Trials.{ms, settings, comes, ends, three, -, R, W, X, lines, waitingAfter, guestsAfter, flightAfter, named}
 
 -- a guest without reservation or limit, with shares 1: its spacing is a second
@@ -26,13 +26,17 @@ owed = settings 1 0 1
 abbrev comesAt : (g i : ℕ) → ℕ → Event
 comesAt g i n = Arrival (record { guest = g; id = i }) n
 
+-- a completion at a time in nanoseconds
+abbrev endsAt : (g i : ℕ) → ℕ → Event
+endsAt g i n = Completion (record { guest = g; id = i }) n
+
 -- guest 0's ids 1, 2, 3 at the last time there is
 abbrev lastly : List Event
 lastly = comesAt 0 1 ceiling ∷ comesAt 0 2 ceiling ∷ comesAt 0 3 ceiling ∷ []
 
 -- a fresh table with one place at the array and eight to wait; so of three arrivals of one guest at 0 one is in flight and two wait
 abbrev gate : List Settings → Table
-gate ss = fresh 1 8 ss
+gate ss = fresh 1 8 1 ss
 
 -- guest 0's reservation 1, limit 1 and shares 1 put a second between its tags
 abbrev bound : Table
@@ -66,6 +70,14 @@ flown = comes 0 7 0 ∷ comes 1 5 0 ∷ comes 0 6 0 ∷ comes 1 9 0 ∷ ends 1 5
 abbrev third : Table
 third = gate (settings 3 3 3 ∷ [])
 
+-- two places, both taken; guest 0's id 2 has the reservation tag 333,333,333 and the limit tag 333,333,334, guest 1's the same reservation tag and no limit,
+-- and guest 2 waits, accepted before that, with a share tag as small. A place is freed at each of those times
+abbrev tied : (rule : ℕ) → Table
+tied rule = fresh 2 8 rule (settings 3 3 1 ∷ settings 3 0 1 ∷ free ∷ [])
+
+abbrev freed : List Event
+freed = comes 0 1 0 ∷ comes 1 1 0 ∷ comes 0 2 0 ∷ comes 2 1 0 ∷ comes 1 2 0 ∷ endsAt 0 1 333333333 ∷ endsAt 1 1 333333334 ∷ []
+
 -- the times to wake that the outcomes of a run carry
 abbrev wakings : Table → List Event → List (List ℕ)
 wakings t es = map hour (wakes t es)
@@ -76,15 +88,15 @@ pub record Guards : Type 0 where
   pub last-time : lines (gate (free ∷ [])) (Tick ceiling ∷ Tick (suc ceiling) ∷ []) ≡ - ∷ X 5 ∷ []
   -- Document 02, K3: "The 2^62 − 1 case of 01 is refused 9 only while the first request still waits or the guest has a reservation or a limit." Without them
   -- the second arrival is accepted where the first is sent, and the one behind it is refused while it waits
-  pub last-arrival : lines (fresh 1 8 (free ∷ [])) lastly ≡ W 0 1 ∷ - ∷ X 9 ∷ []
-  pub last-arrivals : lines (fresh 2 8 (free ∷ [])) lastly ≡ W 0 1 ∷ W 0 2 ∷ - ∷ []
-  pub last-reserved : lines (fresh 2 8 (owed ∷ [])) lastly ≡ R 0 1 ∷ X 9 ∷ X 9 ∷ []
-  pub last-limited : lines (fresh 2 8 (settings 0 1 1 ∷ [])) lastly ≡ W 0 1 ∷ X 9 ∷ X 9 ∷ []
+  pub last-arrival : lines (fresh 1 8 1 (free ∷ [])) lastly ≡ W 0 1 ∷ - ∷ X 9 ∷ []
+  pub last-arrivals : lines (fresh 2 8 1 (free ∷ [])) lastly ≡ W 0 1 ∷ W 0 2 ∷ - ∷ []
+  pub last-reserved : lines (fresh 2 8 1 (owed ∷ [])) lastly ≡ R 0 1 ∷ X 9 ∷ X 9 ∷ []
+  pub last-limited : lines (fresh 2 8 1 (settings 0 1 1 ∷ [])) lastly ≡ W 0 1 ∷ X 9 ∷ X 9 ∷ []
   -- a share tag moved passes the ceiling: that of id 3, one second behind the smallest
   pub moved-past : lines (gate (free ∷ free ∷ [])) (three (comesAt 1 1 ceiling ∷ [])) ≡ W 0 1 ∷ - ∷ - ∷ X 9 ∷ []
   -- "Capacity 1, depth 1, one unlimited guest, three ids: first arrival sent, second waits, third refused 8; after a completion the third is accepted."
   pub one-place :
-      lines (fresh 1 1 (free ∷ [])) (comes 0 1 0 ∷ comes 0 2 0 ∷ comes 0 3 0 ∷ ends 0 1 0 ∷ comes 0 3 0 ∷ []) ≡ W 0 1 ∷ - ∷ X 8 ∷ W 0 2 ∷ - ∷ []
+      lines (fresh 1 1 1 (free ∷ [])) (comes 0 1 0 ∷ comes 0 2 0 ∷ comes 0 3 0 ∷ ends 0 1 0 ∷ comes 0 3 0 ∷ []) ≡ W 0 1 ∷ - ∷ X 8 ∷ W 0 2 ∷ - ∷ []
   -- "Guest 64 of 64 (number 63) is known; 64 is refused 4."
   pub last-guest : lines (gate (replicate 64 free)) (comes 64 1 0 ∷ comes 63 1 0 ∷ []) ≡ X 4 ∷ W 63 1 ∷ []
   -- each event's time is judged, and an equal time is accepted
@@ -115,7 +127,7 @@ pub record Guards : Type 0 where
   pub spare-tags : waitingAfter Request.rtag (gate (owed ∷ owed ∷ [])) spared ≡ ms 1000 ∷ ms 1000 ∷ []
   pub spare-nexts : guestsAfter Guest.rnext (gate (owed ∷ owed ∷ [])) spared ≡ ms 2000 ∷ ms 2000 ∷ []
   -- "Requests in flight stand in order of sending and close up in the same way."
-  pub in-flight : flightAfter (fresh 3 8 (free ∷ free ∷ [])) flown ≡ named 0 7 ∷ named 0 6 ∷ named 1 9 ∷ []
+  pub in-flight : flightAfter (fresh 3 8 1 (free ∷ free ∷ [])) flown ≡ named 0 7 ∷ named 0 6 ∷ named 1 9 ∷ []
   -- the spacings of reservations and shares are rounded down, those of limits up
   pub thirds-reserved : waitingAfter Request.rtag third (three []) ≡ 333333333 ∷ 666666666 ∷ []
   pub thirds-limited : waitingAfter Request.ltag third (three []) ≡ 333333334 ∷ 666666668 ∷ []
@@ -124,6 +136,14 @@ pub record Guards : Type 0 where
   -- none where nothing waits; and 0 in a refusal
   pub ten-wakes :
       wakings one ten ≡ [] ∷ (ms 4 ∷ []) ∷ (ms 4 ∷ []) ∷ (ms 4 ∷ []) ∷ (ms 8 ∷ []) ∷ (ms 10 ∷ []) ∷ [] ∷ (0 ∷ []) ∷ [] ∷ (0 ∷ []) ∷ []
+  -- under rule 1 the earlier accepted of two equal reservation tags goes; under rule 2 it is passed over while its limit is not due, the other goes, by
+  -- reservation and not by weight, and then it goes, at its limit tag
+  pub by-rule-1 : lines (tied 1) freed ≡ R 0 1 ∷ R 1 1 ∷ - ∷ - ∷ - ∷ R 0 2 ∷ R 1 2 ∷ []
+  pub by-rule-2 : lines (tied 2) freed ≡ R 0 1 ∷ R 1 1 ∷ - ∷ - ∷ - ∷ R 1 2 ∷ R 0 2 ∷ []
+  -- under rule 2 the reservation tag does not wake: at the limit tag, 12 ms, after events 6, 7 and 9
+  pub ten-wakes-by-rule-2 :
+      wakings (oneBy 2) ten
+      ≡ [] ∷ (ms 4 ∷ []) ∷ (ms 4 ∷ []) ∷ (ms 4 ∷ []) ∷ (ms 8 ∷ []) ∷ (ms 12 ∷ []) ∷ (ms 12 ∷ []) ∷ (0 ∷ []) ∷ (ms 12 ∷ []) ∷ (0 ∷ []) ∷ []
   -- at once where a tick came late and more than one is due, and at none where no place is free
   pub late-wakes : wakings one (three (Tick (ms 20) ∷ [])) ≡ [] ∷ (ms 4 ∷ []) ∷ (ms 4 ∷ []) ∷ (ms 20 ∷ []) ∷ []
   pub full-wakes : wakings (gate (free ∷ [])) (three []) ≡ [] ∷ [] ∷ [] ∷ []
@@ -132,7 +152,7 @@ pub record Guards : Type 0 where
 abbrev between : Table
 between =
     record {
-      setup = record { depth = 1; capacity = 8 };
+      setup = record { depth = 1; capacity = 8; rule = 1 };
       time = 0;
       guests =
           record { settings = settings 1 1 1; rnext = ms 3000; lnext = ms 3000; snext = ms 2000 }
@@ -191,6 +211,9 @@ guards =
       thirds-limited = refl;
       thirds-shared = refl;
       ten-wakes = refl;
+      by-rule-1 = refl;
+      by-rule-2 = refl;
+      ten-wakes-by-rule-2 = refl;
       late-wakes = refl;
       full-wakes = refl;
     }

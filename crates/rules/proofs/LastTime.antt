@@ -20,7 +20,7 @@ use Rattle.rules.specs.Sound.{counted, settled, ranges, lawful, sound}
 use Rattle.rules.specs.Events.{Arriving, Event, Arrival, Completion, Tick, moment, calledBy, smallest, shifted, adjusted, busyTag, shareTag, stamped, placed, stampedFor, arriveAs, arrive, complete, wait, enter}
 use Rattle.rules.specs.Refusals.{tests, eventTests, accepted}
 use Rattle.rules.specs.Refused.{FirstOf, Passing, given, moved, Good, eventCases, callCases}
-use Rattle.rules.specs.Choice.{nobody, least, dueAt, due, sending, earlier, sooner, dropOf, dropped, choice}
+use Rattle.rules.specs.Choice.{nobody, picked, least, dueAt, due, open?, sending, earlier, sooner, dropOf, dropped, choice}
 use Rattle.rules.specs.Run.{step, after, answers}
 use Rattle.rules.specs.Order.{waits, brings, sends, came, left}
 use Rattle.rules.specs.Chosen.{blank, at}
@@ -31,7 +31,7 @@ use Rattle.rules.proofs.Judged.{passed}
 use Rattle.rules.proofs.Conditions.{settled-good}
 use Rattle.rules.proofs.SameSettings.{same-count, same-owner, choice-settings, enter-settings, step-settings}
 use Rattle.rules.proofs.Facts.{Sound, is-sound, lawful-is}
-use Rattle.rules.proofs.Firsts.{passes-all}
+use Rattle.rules.proofs.Firsts.{First, open-passes, first-open}
 use Rattle.rules.proofs.Picks.{Goes, due-goes, open-goes, none-ok}
 use Rattle.rules.proofs.Drops.{dropped-owner, dropped-other}
 use Rattle.rules.proofs.ChoiceSound.{sent-known, choice-sound}
@@ -203,29 +203,29 @@ enter-past g t (Tick now) h c k b p = p
 -- THE CHOICE AT THE CEILING: every reservation tag is due then, so a guest that has one is sent nothing by weight, and nothing drops
 
 module _ (t : Table) (s : Sound t) (now : t .time ≡ ceiling) (q : Request) (v : List Request) (c : Goes t q v) where
-  -- a request of a guest with a reservation would have gone by it
-  unreserved : least (due t) Request.rtag (t .waiting) ≡ nobody → reserved (settingsOf (t .guests) q) ≡ true → ⊥
+  -- a request of a guest with a reservation that is open would have gone by it
+  unreserved : least (due t) Request.rtag (t .waiting) ≡ nobody → open? t q ≡ true → reserved (settingsOf (t .guests) q) ≡ true → ⊥
   unfolding dueAt
-  unreserved n r =
+  unreserved n o r =
       let k = c .split in
       let fit = lawful-is q (all-mid lawful (k .before) q (k .after) (rw (k .stood) at (s .tags-fit)) .0) in
-      let due-now : due t q ≡ true = join (join r (le-leb (q .rtag) (t .time) (omega (arith, fit .reservation)))) (passes-all t q) in
+      let due-now : due t q ≡ true = join (join r (le-leb (q .rtag) (t .time) (omega (arith, fit .reservation)))) (open-passes t q o) in
       let none : all (λ q. not (due t q)) (k .before ++ q ∷ k .after) ≡ true =
       ap (all (λ q. not (due t q))) (sym (k .stood)) ∙ none-ok (due t) Request.rtag (t .waiting) n
       in
       true≢false (sym due-now ∙ not-true (due t q) (all-mid (λ q. not (due t q)) (k .before) q (k .after) none .0))
 
   -- what a weight send leaves
-  weight-past : least (due t) Request.rtag (t .waiting) ≡ nobody → (g : ℕ) → (b : Bool) → eqb g (q .guest) ≡ b → PastOf g t → PastOf g (dropped q (sending t q v))
+  weight-past : least (due t) Request.rtag (t .waiting) ≡ nobody → open? t q ≡ true → (g : ℕ) → (b : Bool) → eqb g (q .guest) ≡ b → PastOf g t → PastOf g (dropped q (sending t q v))
   unfolding sending sooner
-  weight-past n g false e p =
+  weight-past n o g false e p =
       let is : owner ((dropped q (sending t q v)) .guests) g ≡ owner (t .guests) g = dropped-other q (sending t q v) g e in
       record {
         reservation = λ r. rw is (p .reservation (ap (λ (h : Guest). reserved (h .settings)) (sym is) ∙ r));
         limit = λ r. rw is (p .limit (ap (λ (h : Guest). limited (h .settings)) (sym is) ∙ r));
         share = rw is (p .share);
       }
-  weight-past n g true e p =
+  weight-past n o g true e p =
       let z = eqb-true g (q .guest) e in
       let is : owner ((dropped q (sending t q v)) .guests) g ≡ sooner (dropOf t q) (owner (t .guests) g) =
       rw z (dropped-owner q (sending t q v) (sent-known t s q v c))
@@ -233,7 +233,7 @@ module _ (t : Table) (s : Sound t) (now : t .time ≡ ceiling) (q : Request) (v 
       record {
         reservation = λ r.
             absurd
-            (unreserved n (ap (λ (i : ℕ). reserved ((owner (t .guests) i) .settings)) (sym z) ∙ ap (λ (h : Guest). reserved (h .settings)) (sym is) ∙ r));
+            (unreserved n o (ap (λ (i : ℕ). reserved ((owner (t .guests) i) .settings)) (sym z) ∙ ap (λ (h : Guest). reserved (h .settings)) (sym is) ∙ r));
         limit = λ r. rw is (p .limit (ap (λ (h : Guest). limited (h .settings)) (sym is) ∙ r));
         share = rw is (p .share);
       }
@@ -243,7 +243,9 @@ unfolding sending
 choice-past g t s now p =
     choice-by (λ r. PastOf g (r .table)) t p
     (λ q v f e. p)
-    (λ q v f n e. weight-past t s now q v (open-goes t s q v e) n g (eqb g (q .guest)) refl p)
+    (λ q v f n e.
+    let o : First (open? t) Request.stag (q .guest) (picked q v) (t .waiting) = rw e at (first-open t s (q .guest)) in
+    weight-past t s now q v (open-goes t s q v e) n (o .1) g (eqb g (q .guest)) refl p)
 
 -- an event
 step-last : (g : ℕ) (u : Table) (e : Event) → Last g u → (if accepted u e then brings g e else []) ≡ [] → Last g ((step u e) .table)

@@ -2,7 +2,7 @@
 -- takes the first in line that passes, and takes it out of the line. Assumes nothing.
 use mathlib.Core.Path.{_≡_, refl, sym, ap, _∙_}
 use mathlib.Core.Bool.{Bool, true, false, _&&_}
-use mathlib.Core.List.{List, [], _∷_}
+use mathlib.Core.List.{List, [], _∷_, _++_}
 use Prim.Native.Nat.{ℕ, _≤_, _<_}
 use native.Mathlib.Omega.{arith}
 use lib.Dec.{leb}
@@ -11,7 +11,7 @@ use Rattle.lists.specs.Words.{if_then_else_, filter}
 use Rattle.rules.specs.Tables.{Request}
 use Rattle.rules.specs.Choice.{Pick, nobody, picked, behind, against, least}
 use Rattle.rules.specs.Turn.{insert, sorted}
-use Rattle.rules.proofs.Sorted.{From, Rising, each-weaken, insert-le, insert-gt, insert-left, sorted-rises}
+use Rattle.rules.proofs.Sorted.{Each, From, Rising, each-weaken, insert-le, insert-gt, insert-left, sorted-rises}
 
 -- the line of the list w
 abbrev pub lineOf : (R : Request → Bool) → List Request → List Request
@@ -105,11 +105,21 @@ first-in-line R ok (q ∷ w) = go (R q) refl (ok q) refl (least (λ q. R q && ok
         [ true ↦ refl | false ↦ rw e ]))
     go true e false f (picked p v) h = rw (e, f) (joins (picked p v) h ∙ rw (f, e))
 
--- so where the first in line is the pick k and the head of the line is ok, k is the head, and the line is left without it
-pub head-goes : (R ok : Request → Bool) (k : Pick) (p : Request) (l : List Request) → first ok (p ∷ l) ≡ inLine R k → ok p ≡ true
-    → (v : List Request) × (k ≡ picked p v) × (lineOf R v ≡ l)
-head-goes R ok k p l e h = go k (sym (rw h at e))
+-- so where the pick k is p in line, p is picked, and what stays has the line that stays
+pub out-of-line : (R : Request → Bool) (k : Pick) (p : Request) (l : List Request) → inLine R k ≡ picked p l → (v : List Request) × (k ≡ picked p v) × (lineOf R v ≡ l)
+out-of-line R nobody p l e = let z : _≡_ {A = ℕ} 0 1 = cc in absurd (omega arith)
+out-of-line R (picked y v) p l e = (v, cc, cc)
+
+-- what the first of the list h ++ x ∷ r is, where x is ok: x itself, if none of h is ok, or one of h behind those that are not ok
+pub data Found (ok : Request → Bool) (h : List Request) (x : Request) (r : List Request) (k : Pick) : Type 0 where
+  last : Each (λ q. ok q ≡ false) h → k ≡ picked x (h ++ r) → Found ok h x r k
+  sooner : (a : List Request) (y : Request) (b : List Request) → h ≡ a ++ y ∷ b → Each (λ q. ok q ≡ false) a → k ≡ picked y ((a ++ b) ++ x ∷ r) → Found ok h x r k
+
+pub finds : (ok : Request → Bool) (h : List Request) (x : Request) (r : List Request) → ok x ≡ true → Found ok h x r (first ok (h ++ x ∷ r))
+finds ok [] x r e = rw e (last tt refl)
+finds ok (q ∷ h) x r e = go (ok q) refl (finds ok h x r e)
   where
-    go : (k : Pick) → inLine R k ≡ picked p l → (v : List Request) × (k ≡ picked p v) × (lineOf R v ≡ l)
-    go nobody a = let z : _≡_ {A = ℕ} 0 1 = cc in absurd (omega arith)
-    go (picked y v) a = (v, cc, cc)
+    go : (b : Bool) → ok q ≡ b → Found ok h x r (first ok (h ++ x ∷ r)) → Found ok (q ∷ h) x r (if b then picked q (h ++ x ∷ r) else behind q (first ok (h ++ x ∷ r)))
+    go true f k = sooner [] q h refl tt refl
+    go false f (last n k) = last (f, n) (ap (behind q) k)
+    go false f (sooner a y b i n k) = sooner (q ∷ a) y b (ap (q ∷_) i) (f, n) (ap (behind q) k)

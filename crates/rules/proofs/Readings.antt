@@ -22,8 +22,12 @@ abbrev given : (idle : Bool) (now : ℕ) → List ℕ
 given idle now = tagsOf (stamped idle now (record { guest = 0; id = 1 }) tens)
 
 -- "depth 4, one guest (reservation 100, limit 250, shares 1), capacity 8"
+abbrev pub oneBy : (rule : ℕ) → Table
+oneBy rule = fresh 4 8 rule (settings 100 250 1 ∷ [])
+
+-- under document 01's own rule
 abbrev pub one : Table
-one = fresh 4 8 (settings 100 250 1 ∷ [])
+one = oneBy 1
 
 -- "arrivals of ids 1, 2, 3, 4 at 0; ticks at 4, 8, 10, 9; completion of id 1 at 10, twice"
 abbrev pub ten : List Event
@@ -34,7 +38,7 @@ ten =
 
 -- "Depth 1, two guests without reservation or limit, A with shares 1, B with shares 2."
 abbrev two : Table
-two = fresh 1 8 (settings 0 0 1 ∷ settings 0 0 2 ∷ [])
+two = fresh 1 8 1 (settings 0 0 1 ∷ settings 0 0 2 ∷ [])
 
 -- the share tags that wait after a run
 abbrev tags : Table → List Event → List ℕ
@@ -52,6 +56,8 @@ pub record Readings : Type 0 where
   pub next-before-idle : given true 9 ≡ 10 ∷ 10 ∷ 9 ∷ []
   pub next-after : (idle : Bool) → given idle 11 ≡ 11 ∷ 11 ∷ 11 ∷ []
   pub ten-answers : lines one ten ≡ R 0 1 ∷ - ∷ - ∷ - ∷ W 0 2 ∷ W 0 3 ∷ R 0 4 ∷ X 6 ∷ - ∷ X 10 ∷ []
+  -- Document 02, K7: "Event 7 of 01 prints `-` under rule 2." So id 4 still waits at events 8 to 10
+  pub ten-answers-by-rule-2 : lines (oneBy 2) ten ≡ R 0 1 ∷ - ∷ - ∷ - ∷ W 0 2 ∷ W 0 3 ∷ - ∷ X 6 ∷ - ∷ X 10 ∷ []
   pub first-tags : tags two (three []) ≡ 0 ∷ ms 1000 ∷ []
   pub moved-down : tags two (three (comes 1 1 100 ∷ [])) ≡ ms 100 ∷ ms 1100 ∷ ms 100 ∷ []
   pub tie-to-the-earlier : lines two (three (comes 1 1 100 ∷ ends 0 1 100 ∷ ends 0 2 100 ∷ [])) ≡ W 0 1 ∷ - ∷ - ∷ - ∷ W 0 2 ∷ W 1 1 ∷ []
@@ -71,6 +77,7 @@ readings =
       next-before-idle = refl;
       next-after = λ idle. elim idle as (λ b. given b 11 ≡ 11 ∷ 11 ∷ 11 ∷ []) [ true ↦ refl | false ↦ refl ];
       ten-answers = refl;
+      ten-answers-by-rule-2 = refl;
       first-tags = refl;
       moved-down = refl;
       tie-to-the-earlier = refl;

@@ -14,7 +14,7 @@ use Rattle.rules.specs.Refusals.{Test, Verdict, accept, judged, timeTest
 use Rattle.rules.specs.Refused.{Case, RefusedExactly, timeCases, guestCases, eventCases, callCases, openCases}
 use Rattle.rules.proofs.Judged.{Gives, numbers, Tested, end, unless, _and_, judged-first, judged-none}
 use Rattle.rules.proofs.Facts.{sound-is}
-use Rattle.rules.proofs.Conditions.{at-most, less, equal, negated, lacking, passing-means, counted-means, settled-means}
+use Rattle.rules.proofs.Conditions.{at-most, less, equal, negated, lacking, passing-means, counted-means, ruled-means, settled-means}
 
 -- `gives` and `accepts` tell a verdict
 pub record Tells (v : Verdict) (gives : ℕ → Type 0) (accepts : Type 0) : Type 0 where
@@ -55,10 +55,11 @@ pub call-tested : (short unsound : Bool) (t : Table) (e : Event) → (unsound �
 call-tested short unsound t e honest = Iff·rfl and unless Iff·rfl (λ u. event-tested t e (honest u))
 
 -- an opening's
-pub open-tested : (short : Bool) (d n c : ℕ) (ss : List Settings) → Tested (openTests short d n c ss) (openCases short d n c ss)
+pub open-tested : (short : Bool) (d n c r : ℕ) (ss : List Settings) → Tested (openTests short d n c r ss) (openCases short d n c r ss)
 unfolding openTests openCases
-open-tested short d n c ss =
+open-tested short d n c r ss =
     negated (counted-means d n c) .holds
+    and negated (ruled-means r) .holds
     and Iff·rfl
     and negated (settled-means ss) .holds
     and end
@@ -77,6 +78,6 @@ module _ (short unsound : Bool) (t : Table) (now : ℕ) where
   unfolding eventTests
   tick-numbers = refl
 
-pub opening-numbers : (short : Bool) (d n c : ℕ) (ss : List Settings) → numbers (openTests short d n c ss) ≡ 1 ∷ 2 ∷ 1 ∷ []
+pub opening-numbers : (short : Bool) (d n c r : ℕ) (ss : List Settings) → numbers (openTests short d n c r ss) ≡ 1 ∷ 1 ∷ 2 ∷ 1 ∷ []
 unfolding openTests
-opening-numbers short d n c ss = refl
+opening-numbers short d n c r ss = refl

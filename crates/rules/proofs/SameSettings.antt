@@ -1,4 +1,4 @@
--- A step leaves what was chosen at opening: depth and capacity, the number of guests and every guest's settings. Assumes nothing.
+-- A step leaves what was chosen at opening: depth, capacity and rule, the number of guests and every guest's settings. Assumes nothing.
 use mathlib.Core.Path.{_≡_, refl, sym, ap, _∙_}
 use mathlib.Core.Bool.{Bool, true, false}
 use mathlib.Core.List.{List, [], _∷_, map}
@@ -7,8 +7,8 @@ use lib.ListN.{length, getD, length-map, List·getD-map}
 use lib.Seq.{map-set-same}
 use Rattle.lists.specs.Words.{if_then_else_, all}
 use Rattle.lists.specs.WordsLaws.{all-of-map, map-each}
-use Rattle.rules.specs.Tables.{Settings, Guest, Request, Table, nobodys, owner, idle}
-use Rattle.rules.specs.Sound.{settled, ranges}
+use Rattle.rules.specs.Tables.{Settings, Guest, Request, Setup, Table, nobodys, owner, idle}
+use Rattle.rules.specs.Sound.{settled, ranges, ruled}
 use Rattle.rules.specs.Choice.{sending, sooner, dropOf, dropped, choice}
 use Rattle.rules.specs.Events.{Event, Arrival, Completion, Tick, smallest, shiftedNext, adjusted, following, placed, stampedFor, arriveAs, arrive, complete, wait, enter}
 use Rattle.rules.specs.Refusals.{Verdict, accept, refuse, verdict}
@@ -48,6 +48,10 @@ module _ (u t : Table) (s : SameSettings u t) where
       sym (all-of-map settled Guest.settings (u .guests)) ∙ ap (all settled) (s .settings) ∙ all-of-map settled Guest.settings (t .guests)
       in
       rw (s .setup, same-count, each)
+
+  -- and so with the rule
+  pub same-rule : ruled (u .setup .rule) ≡ ruled (t .setup .rule)
+  same-rule = ap (λ (p : Setup). ruled (p .rule)) (s .setup)
 
 -- THE PARTS OF A STEP
 
@@ -103,7 +107,7 @@ unfolding decided
 decided-settings accept t e = through (choice-settings (enter t e)) (enter-settings t e)
 decided-settings (refuse r) t e = same-settings t
 
--- A step leaves depth and capacity, the number of guests and every guest's settings.
+-- A step leaves depth, capacity and rule, the number of guests and every guest's settings.
 pub step-settings : (t : Table) (e : Event) → SameSettings ((step t e) .table) t
 unfolding step
 step-settings t e = decided-settings (verdict t e) t e

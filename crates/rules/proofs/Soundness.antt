@@ -13,10 +13,10 @@ use Rattle.lists.specs.WordsLaws.{both, join, all-of-map, all-each, each-all, a
 use Rattle.rules.specs.Numbers.{ceiling, second, idleBound}
 use Rattle.rules.specs.Tables.{Settings, Guest, Request, Flight, Table, reserved, limited, rspacing, lspacing, sspacing, owner, mine, lacks, names}
 use Rattle.rules.specs.Sound.{counted, settled, ranges, distinct, lawful, apart, follows, kept, sound}
-use Rattle.rules.specs.Refused.{Countable, Good}
+use Rattle.rules.specs.Refused.{Countable, Ruled, Good}
 use Rattle.rules.specs.Chosen.{blank, at}
 use Rattle.rules.proofs.Facts.{Sound, sound-is, is-sound, Orderly, orderly-is, is-orderly, lawful-is, is-lawful}
-use Rattle.rules.proofs.Conditions.{counted-means, settled-means, lacking}
+use Rattle.rules.proofs.Conditions.{counted-means, ruled-means, settled-means, lacking}
 
 -- one kind of tag of what waits of a guest, l, and its next number: the guest has this kind, or lacks it
 pub record Kept (has : Bool) (tag spacing : Request → ℕ) (l : List Request) (next : ℕ) : Type 0 where
@@ -38,6 +38,7 @@ Once l = (a b : List Flight) (f : Flight) → l ≡ a ++ f ∷ b → List·Mem�
 pub record SoundTable (t : Table) : Type 0 where
   -- "settings lie in the ranges"
   pub counts-in-range : Countable (t .setup .depth) (length (t .guests)) (t .setup .capacity)
+  pub rule-known : Ruled (t .setup .rule)
   pub settings-in-range : (s : Settings) → List·Memᴰ s (map Guest.settings (t .guests)) → Good s
   -- "counts do not exceed capacity and depth"
   pub waiting-fits : length (t .waiting) ≤ t .setup .capacity
@@ -156,6 +157,7 @@ module _ (t : Table) where
       let o : (g : ℕ) → g < length (t .guests) → Orderly (owner (t .guests) g) (mine g (t .waiting)) = λ g h. orderly-is (owner (t .guests) g) (mine g (t .waiting)) (s .guests-orderly g h) in
       record {
         counts-in-range = counted-means (t .setup .depth) (length (t .guests)) (t .setup .capacity) .holds .0 (c .0);
+        rule-known = ruled-means (t .setup .rule) .holds .0 (s .rule-known);
         settings-in-range = settled-means (map Guest.settings (t .guests)) .holds .0 (all-of-map settled Guest.settings (t .guests) ∙ c .1);
         waiting-fits = s .waiting-fits;
         flight-fits = s .flight-fits;
@@ -175,6 +177,7 @@ module _ (t : Table) where
         in-range =
             join (counted-means (t .setup .depth) (length (t .guests)) (t .setup .capacity) .holds .1 (s .counts-in-range))
             (sym (all-of-map settled Guest.settings (t .guests)) ∙ settled-means (map Guest.settings (t .guests)) .holds .1 (s .settings-in-range));
+        rule-known = ruled-means (t .setup .rule) .holds .1 (s .rule-known);
         waiting-fits = s .waiting-fits;
         flight-fits = s .flight-fits;
         time-fits = s .time-fits;

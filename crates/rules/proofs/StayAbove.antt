@@ -15,7 +15,7 @@ use Rattle.rules.specs.declared.Phase.the-variants.{Reservation, Weight}
 use Rattle.rules.specs.declared.Answer.the-variants.{Nothing, Sent, Refused}
 use Rattle.rules.specs.Tables.{Request, Table, reserved, rspacing, owner, settingsOf, mine}
 use Rattle.rules.specs.Sound.{sound}
-use Rattle.rules.specs.Choice.{Result, nobody, picked, least, dueAt, passes, due, open?, sending, earlier, sooner, dropOf, dropped, choice}
+use Rattle.rules.specs.Choice.{Result, nobody, picked, least, dueAt, due, open?, sending, earlier, sooner, dropOf, dropped, choice}
 use Rattle.rules.specs.Chosen.{blank, at}
 use Rattle.rules.specs.Events.{Event, moment, enter}
 use Rattle.rules.specs.Refusals.{Verdict, accept, refuse, isAccept, verdict}
@@ -23,7 +23,7 @@ use Rattle.rules.specs.Run.{decided, step}
 use Rattle.rules.proofs.Chains.{kept-above}
 use Rattle.rules.proofs.SameSettings.{same-owner, enter-settings}
 use Rattle.rules.proofs.Facts.{Sound, sound-is, orderly-is, any-orderly}
-use Rattle.rules.proofs.Firsts.{First, passes-all, first-open}
+use Rattle.rules.proofs.Firsts.{First, open-passes, first-open}
 use Rattle.rules.proofs.Picks.{Goes, open-goes, none-ok}
 use Rattle.rules.proofs.Drops.{dropped-own, dropped-owner}
 use Rattle.rules.proofs.ChoiceSound.{sent-known, sent-first}
@@ -34,10 +34,6 @@ use Rattle.rules.proofs.Cases.{choice-by}
 pub record Above (now g : ℕ) (u : Table) : Type 0 where
   pub tags : (j : ℕ) → j < length (mine g (u .waiting)) → now < (at (mine g (u .waiting)) j) .rtag
   pub next : now < (owner (u .guests) g) .rnext
-
--- what may go by weight asks nothing more to go by reservation than to be due
-open-passes : (t : Table) (p : Request) → open? t p ≡ true → passes t p ≡ true
-open-passes t p e = passes-all t p
 
 -- a request of a guest with a reservation that is open and not due has its tag after now
 not-due : (t : Table) (p : Request) → reserved (settingsOf (t .guests) p) ≡ true → open? t p ≡ true → due t p ≡ false → t .time < p .rtag

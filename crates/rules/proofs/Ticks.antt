@@ -75,9 +75,9 @@ ticks-count (suc m) t n s h k r =
     let g = ticks-count m u n (step-sound t (Tick n) s) (omega (arith, i .time-kept)) k (omega (arith, i .one-more, d)) in
     rw f (ap suc g)
 
--- so the request goes at the last of k + 1 ticks, where k + 1 places are free
-pub ticks-send : (t : Table) (a b : List Request) (x : Request) (n : ℕ) → sound t ≡ true → t .waiting ≡ a ++ x ∷ b → isDue t x ≡ true
+-- so under rule 1 the request goes at the last of k + 1 ticks, where k + 1 places are free
+pub ticks-send : (t : Table) (a b : List Request) (x : Request) (n : ℕ) → sound t ≡ true → t .setup .rule ≡ 1 → t .waiting ≡ a ++ x ∷ b → isDue t x ≡ true
     → t .time ≤ n → n ≤ ceiling → (k : ℕ) → k ≡ length (ahead t x a b) → length (t .flight) + suc k ≤ t .setup .depth
     → getD (atFree t (replicate (suc k) (Tick n))) k Nothing ≡ sentByReservation x
-ticks-send t a b x n s w d h c k e r =
-    demand-3-at t a b x (replicate (suc k) (Tick n)) s w d k e (omega (arith, ticks-count (suc k) t n s h c r))
+ticks-send t a b x n s one w d h c k e r =
+    demand-3-at t a b x (replicate (suc k) (Tick n)) s one w d k e (omega (arith, ticks-count (suc k) t n s h c r))

@@ -5,8 +5,8 @@ use Rattle.lists.specs.Words.{lowest}
 use Rattle.rules.specs.Numbers.{down, up}
 use Rattle.rules.specs.Tables.{Settings, Guest, Request, Flight, Table, idle}
 use Rattle.rules.specs.Answers.{Printed, shown}
-use Rattle.rules.specs.Sound.{counted, settled, ranges, distinct, lawful, kept, orderly, sound}
-use Rattle.rules.specs.Choice.{dueAt, openAt, passes, sending, earlier, sooner, dropped, byWeight, byReservation, room, choice}
+use Rattle.rules.specs.Sound.{counted, settled, ranges, ruled, distinct, lawful, kept, orderly, sound}
+use Rattle.rules.specs.Choice.{dueAt, openAt, passesAt, sending, earlier, sooner, dropped, byWeight, byReservation, room, choice}
 use Rattle.rules.specs.Events.{Event, Arrival, Completion, shifted, shiftedNext, adjusted, back, shareTag, stamped, following, placed, arriveAs, arrive, complete, wait, enter}
 use Rattle.rules.specs.Refusals.{eventTests}
 use Rattle.rules.specs.Run.{decided, step, after, answers, fresh}
@@ -49,7 +49,7 @@ X n = record { letter = 88; values = n ∷ [] }
 
 -- what is printed of a run; to unfold it is to unfold all that a run computes with
 unfoldable pub lines : Table → List Event → List Printed
-unfolding down up lowest idle counted settled ranges distinct lawful kept orderly sound dueAt openAt passes sending earlier sooner dropped byWeight byReservation room choice shifted shiftedNext adjusted back shareTag stamped following placed arriveAs arrive complete wait enter eventTests decided step after answers fresh
+unfolding down up lowest idle counted settled ranges ruled distinct lawful kept orderly sound dueAt openAt passesAt sending earlier sooner dropped byWeight byReservation room choice shifted shiftedNext adjusted back shareTag stamped following placed arriveAs arrive complete wait enter eventTests decided step after answers fresh
 lines t es = map shown (answers t es)
 
 -- a number of each request that waits after a run

@@ -1,30 +1,32 @@
--- Demand 3 by places: a due request goes by reservation, after just those that stand before it, at the accepted events that find a place free.
--- Words in quotes are demand 3's. Assumes nothing.
+-- Demand 3 by places: at the accepted events that find a place free a due request goes by reservation, under rule 1 after just those that stand before
+-- it, under rule 2 after none but those. Words in quotes are demand 3's. Assumes nothing.
 use mathlib.Core.Path.{_≡_, refl, sym, ap, subst, _∙_}
 use mathlib.Core.Bool.{Bool, true, false, _&&_, _||_, true≢false, false≢true, and-false, or-true, or-false}
-use mathlib.Core.List.{List, [], _∷_, _++_}
+use mathlib.Core.List.{List, [], _∷_, _++_, map}
 use mathlib.Core.Logic.{_⊎_, inl, inr, ⊎-elim}
-use Prim.Native.Nat.{ℕ, zero, suc, _≤_, _<_}
+use Prim.Native.Nat.{ℕ, zero, suc, _+_, _≤_, _<_}
 use native.Mathlib.Omega.{arith}
 use lib.Dec.{ltb, leb, eqb}
-use lib.ListN.{length, getD, take, drop, length-take}
-use lib.Seq.{split-at}
+use lib.ListN.{length, getD, take, drop, length-take, length-drop, length-map, length-append}
+use lib.Seq.{split-at, getD-take, getD-drop}
 use borrow.Author.Tests.{ltb-true, lt-ltb, le-ltb, leb-true, leb-false, le-leb, eqb-true, eqb-false, eq-eqb, ne-eqb}
 use Rattle.lists.specs.Words.{if_then_else_, filter}
 use Rattle.lists.specs.WordsLaws.{both, join}
 use Rattle.lists.specs.Tab.{lt-or-le}
-use Rattle.rules.specs.Tables.{Request, Table}
+use Rattle.rules.specs.Tables.{Request, Flight, Table, name}
 use Rattle.rules.specs.Sound.{sound}
-use Rattle.rules.specs.Choice.{dueAt, room, choice}
+use Rattle.rules.specs.Choice.{dueAt, due, room, choice}
 use Rattle.rules.specs.Events.{Event, enter}
 use Rattle.rules.specs.Refusals.{accepted}
 use Rattle.rules.specs.Run.{step}
 use Rattle.rules.specs.Chosen.{blank, at}
-use Rattle.rules.specs.Turn.{tagged, ahead, findsRoom, atFree, sentByReservation}
-use Rattle.rules.specs.TurnAt.{howMany, rtagAt, earlierTag, before, turnOf, DueAt, InTurnAt}
+use Rattle.rules.specs.Turn.{tagged, isDue, ahead, sorted, findsRoom, atFree, sentByReservation, byName, Drawn, ByTurn}
+use Rattle.rules.specs.TurnAt.{howMany, rtagAt, earlierTag, before, turnOf, DueAt, InTurnAt, ByTurnAt, TurnKept}
 use Rattle.rules.specs.declared.Answer.the-variants.{Nothing}
 use Rattle.rules.proofs.StepSound.{accepted-step}
-use Rattle.rules.proofs.Demand3.{demand-3-at}
+use Rattle.rules.proofs.Chosen.{due-means}
+use Rattle.rules.proofs.Sorted.{Each, each-append, each-insert, length-sorted}
+use Rattle.rules.proofs.Demand3.{demand-3-shared, demand-3-at}
 
 -- HOW MANY
 
@@ -291,13 +293,17 @@ module _ (t : Table) where
 
 -- DEMAND 3
 
--- the request at a due place goes by reservation, after just those that stand before it
-goes : (t : Table) (i : ℕ) (es : List Event) → sound t ≡ true → DueAt t i → turnOf t i < length (atFree t es)
-    → getD (atFree t es) (turnOf t i) Nothing ≡ sentByReservation (at (t .waiting) i)
+-- a due place has a request that is due
+is-due : (t : Table) (i : ℕ) → DueAt t i → isDue t (at (t .waiting) i) ≡ true
 unfolding dueAt
-goes t i es s d h =
-    demand-3-at t (take i (t .waiting)) (drop (suc i) (t .waiting)) (at (t .waiting) i) es s (split-at (t .waiting) i blank (d .waits))
-    (join (d .has-tag) (le-leb (rtagAt t i) (t .time) (d .at-or-before))) (turnOf t i) (turn-is t i (d .waits)) h
+is-due t i d = join (d .has-tag) (le-leb (rtagAt t i) (t .time) (d .at-or-before))
+
+-- RULE 1: the request at a due place goes by reservation, after just those that stand before it
+goes : (t : Table) (i : ℕ) (es : List Event) → sound t ≡ true → t .setup .rule ≡ 1 → DueAt t i → turnOf t i < length (atFree t es)
+    → getD (atFree t es) (turnOf t i) Nothing ≡ sentByReservation (at (t .waiting) i)
+goes t i es s one d h =
+    demand-3-at t (take i (t .waiting)) (drop (suc i) (t .waiting)) (at (t .waiting) i) es s one (split-at (t .waiting) i blank (d .waits))
+    (is-due t i d) (turnOf t i) (turn-is t i (d .waits)) h
 
 -- what stands before a due place is due
 due-before : (t : Table) (i j : ℕ) → DueAt t i → j < length (t .waiting) → before t i j ≡ true → DueAt t j
@@ -305,17 +311,119 @@ due-before t i j d h b =
     let c = before-is t i j b in
     record { waits = h; has-tag = c .0; at-or-before = ⊎-elim (λ l. omega (arith, d .at-or-before)) (λ l. omega (arith, l .0, d .at-or-before)) (c .1) }
 
--- "Take any sound table at its last accepted time and a waiting request whose reservation tag is at or before that time. Let k be how many
+-- WHAT STANDS BEFORE A PLACE, by name
+abbrev Ahead : Table → ℕ → Flight → Type 0
+Ahead t i f = (j : ℕ) × (j < length (t .waiting)) × (before t i j ≡ true) × (f ≡ name (at (t .waiting) j))
+
+-- what holds of each place that passes holds of each request that a filter leaves
+each-filter : (P : Request → Type 0) (g : Request → Bool) (l : List Request) → ((n : ℕ) → n < length l → g (at l n) ≡ true → P (at l n)) → Each P (filter g l)
+each-filter P g [] h = tt
+each-filter P g (q ∷ l) h = go (g q) refl (each-filter P g l (λ n k. h (suc n) (omega arith)))
+  where
+    go : (b : Bool) → g q ≡ b → Each P (filter g l) → Each P (if b then q ∷ filter g l else filter g l)
+    go true e r = (h 0 (omega arith) e, r)
+    go false e r = r
+
+-- those ahead of the request at place i stand at places before it
+ahead-stand : (t : Table) (i : ℕ) → i < length (t .waiting)
+    → Each (λ q. Ahead t i (name q)) (ahead t (at (t .waiting) i) (take i (t .waiting)) (drop (suc i) (t .waiting)))
+ahead-stand t i h =
+    each-append Stands (filter early (take i w)) (filter late (drop (suc i) w))
+    (each-filter Stands early (take i w)
+    (λ n k e.
+    let l : n < i = omega (arith, length-take i w) in
+    let here : at (take i w) n ≡ at w n = getD-take i w n blank l in
+    (n, omega arith, ap (tagged t (at w n) &&_) (order-earlier (rtagAt t n) n (rtagAt t i) i l) ∙ ap early (sym here) ∙ e, ap name here)))
+    (each-filter Stands late (drop (suc i) w)
+    (λ n k e.
+    let here : at (drop (suc i) w) n ≡ at w (suc i + n) = getD-drop (suc i) w n blank in
+    let l : suc i + n < length w = omega (arith, length-drop (suc i) w) in
+    (suc i + n, l, ap (tagged t (at w (suc i + n)) &&_) (order-later (rtagAt t (suc i + n)) (suc i + n) (rtagAt t i) i (omega arith)) ∙ ap late (sym here) ∙ e, ap name here)))
+  where
+    w : List Request
+    w = t .waiting
+
+    Stands : Request → Type 0
+    Stands q = Ahead t i (name q)
+
+    early : Request → Bool
+    early q = tagged t q && leb (q .rtag) (rtagAt t i)
+
+    late : Request → Bool
+    late q = tagged t q && ltb (q .rtag) (rtagAt t i)
+
+module _ (P : Flight → Type 0) where
+  -- it holds of every name of the list
+  abbrev Named : List Flight → Type 0
+  Named [] = Unit {0}
+  Named (f ∷ l) = P f × Named l
+
+  -- of the names of requests of which it holds
+  named-map : (l : List Request) → Each (λ q. P (name q)) l → Named (map name l)
+  named-map [] u = tt
+  named-map (q ∷ l) u = (u .0, named-map l (u .1))
+
+  -- of one in the middle, and of the others
+  named-mid : (a : List Flight) (f : Flight) (b : List Flight) → Named (a ++ f ∷ b) → P f × Named (a ++ b)
+  named-mid [] f b u = u
+  named-mid (g ∷ a) f b u = let c = named-mid a f b (u .1) in (c .0, (u .0, c .1))
+
+  -- and so of each that is drawn from them
+  named-drawn : (s l : List Flight) → Drawn s l → Named l → (n : ℕ) (d : Flight) → n < length s → P (getD s n d)
+  named-drawn [] l r u n d h = absurd (omega arith)
+  named-drawn (f ∷ s) l (a, b, e, r) u zero d h = named-mid a f b (rw e at u) .0
+  named-drawn (f ∷ s) l (a, b, e, r) u (suc n) d h = named-drawn s (a ++ b) r (named-mid a f b (rw e at u) .1) n d (omega arith)
+
+-- no more are drawn than there are
+drawn-length : (s l : List Flight) → Drawn s l → length s ≤ length l
+drawn-length [] l r = omega arith
+drawn-length (f ∷ s) l (a, b, e, r) = rw (e, length-append a (f ∷ b)) (omega (arith, drawn-length s (a ++ b) r, length-append a b))
+
+-- it holds of every request of a sorted list too
+each-sorted : (P : Request → Type 0) (l : List Request) → Each P l → Each P (sorted l)
+each-sorted P [] u = tt
+each-sorted P (q ∷ l) u = each-insert P q (sorted l) (u .0) (each-sorted P l (u .1))
+
+-- WHAT BOTH RULES SHARE, by places: a request that is due and passes goes after none but those that stand before it, each by reservation
+by-turn : (t : Table) (i : ℕ) (es : List Event) → sound t ≡ true → i < length (t .waiting) → due t (at (t .waiting) i) ≡ true → ByTurnAt t i (atFree t es)
+by-turn t i es s h d =
+    record {
+      turn = length (c .sent);
+      at-latest = omega (arith, drawn-length (c .sent) (map name those) (c .drawn), length-map those name, length-sorted them, turn-is t i h);
+      none-by-weight = λ n k l.
+          let (j, m, b, e) = named-drawn (Ahead t i) (c .sent) (map name those) (c .drawn) (named-map (Ahead t i) those (each-sorted (λ q. Ahead t i (name q)) them (ahead-stand t i h))) n (name x) k in
+          (j, m, b, c .some-first n k l ∙ ap byName e);
+      then-this = c .then-this;
+    }
+  where
+    x : Request
+    x = at (t .waiting) i
+
+    them : List Request
+    them = ahead t x (take i (t .waiting)) (drop (suc i) (t .waiting))
+
+    those : List Request
+    those = sorted them
+
+    c : ByTurn (t .setup .rule) those x (atFree t es)
+    c = demand-3-shared t (take i (t .waiting)) (drop (suc i) (t .waiting)) x es s (split-at (t .waiting) i blank h) d
+
+-- Under rule 1: "Take any sound table at its last accepted time and a waiting request whose reservation tag is at or before that time. Let k be how many
 -- waiting requests stand before it by reservation tag, equal tags by order of acceptance (requests of guests without a reservation have no such
 -- tag). In any sequence of later arrivals, completions and ticks, refused ones among them, the accepted events that find a place free at the
 -- array (a completion frees its own first) send exactly those k first, then this request at the (k+1)th, each by reservation."
+-- Document 02, K7: "In demand 3 under rule 2, the request must meet that too, k counts every waiting request whose reservation tag stands before it,
+-- its limit due or not, and it is sent at the (k+1)th such event at the latest, no send before it being by weight."
 -- The table is t, the request that at place i, k is turnOf t i, the sequence es; atFree has the answers to those events, in order.
-pub demand-3-places : (t : Table) (i : ℕ) (es : List Event) → sound t ≡ true → DueAt t i → InTurnAt t i (atFree t es)
-demand-3-places t i es s d =
+pub demand-3-places : (t : Table) (i : ℕ) (es : List Event) → sound t ≡ true → TurnKept t i (atFree t es)
+demand-3-places t i es s =
     record {
-      each-goes = λ j h b. (turn-earlier t i j h b, goes t j es s (due-before t i j d h b));
-      those-first = turn-of t (turnOf t i) i refl;
-      then-this = goes t i es s d;
+      rule-1 = λ one d. record {
+        each-goes = λ j h b. (turn-earlier t i j h b, goes t j es s one (due-before t i j d h b));
+        those-first = turn-of t (turnOf t i) i refl;
+        then-this = goes t i es s one d;
+      };
+      rule-2 = λ two d o. by-turn t i es s (d .waits) (due-means t (at (t .waiting) i) .1 (record { has-tag = d .has-tag; at-or-before = d .at-or-before; by-rule-2 = λ e. o }));
     }
 
 -- where no place is free the choice sends nothing

@@ -2,7 +2,7 @@
 use mathlib.Core.Bool.{Bool, true, not, _&&_, _||_}
 use mathlib.Core.List.{List, [], _∷_, _++_, map}
 use Prim.Native.Nat.{ℕ, _-_}
-use lib.Dec.{ltb, leb}
+use lib.Dec.{ltb, leb, eqb}
 use lib.ListN.{length, set}
 use Rattle.lists.specs.Words.{if_then_else_}
 use Rattle.rules.specs.Tables.{Settings, Guest, Request, Table, reserved, limited, rspacing, owner, settingsOf, of, name}
@@ -43,9 +43,14 @@ dueAt s now q = reserved s && leb (q .rtag) now
 unfoldable pub openAt : Settings → (now : ℕ) → Request → Bool
 openAt s now q = not (limited s) || leb (q .ltag) now
 
--- what else the reservation phase asks of a request: nothing, "The limit is not looked at."
-unfoldable pub passes : Table → Request → Bool
-passes t q = true
+-- what else the reservation phase asks of a request. Rule 1, document 01: nothing, "The limit is not looked at." Rule 2, document 02, K7: "Under rule 2
+-- the reservation phase also wants the request unlimited or its limit tag at or before t."
+unfoldable pub passesAt : (rule : ℕ) → Settings → (now : ℕ) → Request → Bool
+passesAt rule s now q = if eqb rule 2 then openAt s now q else true
+
+-- the same, under the rule of the table, at its time
+abbrev pub passes : Table → Request → Bool
+passes t q = passesAt (t .setup .rule) (settingsOf (t .guests) q) (t .time) q
 
 -- what the reservation phase chooses from
 abbrev pub due : Table → Request → Bool

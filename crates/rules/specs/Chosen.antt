@@ -1,11 +1,12 @@
--- What the choice is, described without computing it: document 01, "The choice", as facts about places.
+-- What the choice is, described without computing it: document 01, "The choice", as facts about places; and what each phase asks, under both rules for
+-- limits.
 use mathlib.Core.Path.{_≡_}
 use mathlib.Core.Bool.{Bool, true, false}
 use mathlib.Core.List.{List}
 use Prim.Native.Nat.{ℕ, _≤_, _<_}
 use lib.ListN.{length, getD}
 use Rattle.lists.specs.Tab.{removeAt}
-use Rattle.rules.specs.Tables.{Request, Table}
+use Rattle.rules.specs.Tables.{Request, Table, reserved, limited, settingsOf}
 use Rattle.rules.specs.Choice.{Result, due, open?, sending, dropped}
 use Rattle.rules.specs.declared.Phase.the-variants.{Reservation, Weight}
 use Rattle.rules.specs.declared.Answer.the-variants.{Nothing, Sent}
@@ -17,6 +18,17 @@ blank = record { guest = 0; id = 0; rtag = 0; ltag = 0; stag = 0 }
 -- the request at place i, places counted from 0 in order of acceptance
 abbrev pub at : List Request → ℕ → Request
 at w i = getD w i blank
+
+-- what the weight phase asks of a request: "unlimited or .. a limit tag at or before t"
+abbrev pub Open : Table → Request → Type 0
+Open t q = limited (settingsOf (t .guests) q) ≡ true → q .ltag ≤ t .time
+
+-- what the reservation phase asks: "a reservation tag at or before t", and by document 02, K7, "Under rule 2 the reservation phase also wants the request unlimited or its limit
+-- tag at or before t."
+pub record Due (t : Table) (q : Request) : Type 0 where
+  pub has-tag : reserved (settingsOf (t .guests) q) ≡ true
+  pub at-or-before : q .rtag ≤ t .time
+  pub by-rule-2 : t .setup .rule ≡ 2 → Open t q
 
 -- of the requests that are ok, place i has the one with the smallest tag, and no earlier one has a tag as small
 pub record Foremost (ok : Request → Bool) (tag : Request → ℕ) (w : List Request) (i : ℕ) : Type 0 where

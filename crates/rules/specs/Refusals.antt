@@ -7,7 +7,7 @@ use lib.ListN.{length}
 use Rattle.lists.specs.Words.{if_then_else_, all}
 use Rattle.rules.specs.Numbers.{ceiling}
 use Rattle.rules.specs.Tables.{Settings, Table, idle, lacks, names}
-use Rattle.rules.specs.Sound.{counted, settled, lawful, sound}
+use Rattle.rules.specs.Sound.{counted, settled, ruled, lawful, sound}
 use Rattle.rules.specs.Events.{Arriving, Event, Arrival, Completion, Tick, calledBy, adjusted, stampedFor}
 use Rattle.rules.specs.declared.Refusal.{Refusal}
 use Rattle.rules.specs.declared.Refusal.the-variants.{BadSetting, ShortTable, Unsound, UnknownGuest, TimeAboveCeiling, TimeBeforeLast, IdInUse, NoRoom, TagAboveCeiling, NotInFlight}
@@ -58,10 +58,11 @@ eventTests t (Tick now) = timeTests now t []
 abbrev pub tests : (short unsound : Bool) → Table → Event → List Test
 tests short unsound t e = record { refusal = ShortTable; holds = short } ∷ record { refusal = Unsound; holds = unsound } ∷ eventTests t e
 
--- the tests of an opening: "depth, guests and capacity (1), lengths (2), guest settings (1)."
-unfoldable pub openTests : (short : Bool) (depth guests capacity : ℕ) → List Settings → List Test
-openTests short d n c ss =
+-- the tests of an opening: "depth, guests and capacity (1), lengths (2), guest settings (1)." The rule is judged with the counts
+unfoldable pub openTests : (short : Bool) (depth guests capacity rule : ℕ) → List Settings → List Test
+openTests short d n c r ss =
     record { refusal = BadSetting; holds = not (counted d n c) }
+    ∷ record { refusal = BadSetting; holds = not (ruled r) }
     ∷ record { refusal = ShortTable; holds = short }
     ∷ record { refusal = BadSetting; holds = not (all settled ss) }
     ∷ []

@@ -51,6 +51,10 @@ pub record Countable (depth guests capacity : ℕ) : Type 0 where
   pub guest-count : (1 ≤ guests) × (guests ≤ 64)
   pub capacities : (1 ≤ capacity) × (capacity ≤ 1024)
 
+-- what `ruled` tests, document 02, K7: "a rule other than 1 or 2 is 1 at opening, 3 in an open table"
+abbrev pub Ruled : (rule : ℕ) → Type 0
+Ruled r = (r ≡ 1) ⊎ (r ≡ 2)
+
 -- what `settled` tests: "reservation 0 to 1,000,000 .. limit 0 to 1,000,000 .. shares 1 to 1,000,000. A reservation above a non-zero limit is bad; equal is good."
 -- Document 02, K6: "a credit above 256 is 1 at opening, 3 in an open table"
 pub record Good (s : Settings) : Type 0 where
@@ -89,10 +93,11 @@ eventCases t (Tick now) = timeCases now t []
 abbrev pub callCases : (short unsound : Bool) → Table → Event → List Case
 callCases short unsound t e = record { number = 2; condition = short ≡ true } ∷ record { number = 3; condition = unsound ≡ true } ∷ eventCases t e
 
--- the cases of an opening: "depth, guests and capacity (1), lengths (2), guest settings (1)."
-unfoldable pub openCases : (short : Bool) (depth guests capacity : ℕ) → List Settings → List Case
-openCases short d n c ss =
+-- the cases of an opening: "depth, guests and capacity (1), lengths (2), guest settings (1)." The rule is judged with the counts
+unfoldable pub openCases : (short : Bool) (depth guests capacity rule : ℕ) → List Settings → List Case
+openCases short d n c r ss =
     record { number = 1; condition = Countable d n c → ⊥ }
+    ∷ record { number = 1; condition = Ruled r → ⊥ }
     ∷ record { number = 2; condition = short ≡ true }
     ∷ record { number = 1; condition = (s : Settings) × List·Memᴰ s ss × (Good s → ⊥) }
     ∷ []

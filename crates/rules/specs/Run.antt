@@ -33,5 +33,5 @@ abbrev pub newcomer : Settings → Guest
 newcomer s = record { settings = s; rnext = 0; lnext = 0; snext = 0 }
 
 -- "A fresh table" of these settings
-unfoldable pub fresh : (depth capacity : ℕ) → List Settings → Table
-fresh d c ss = record { setup = record { depth = d; capacity = c }; time = 0; guests = map newcomer ss; waiting = []; flight = [] }
+unfoldable pub fresh : (depth capacity rule : ℕ) → List Settings → Table
+fresh d c r ss = record { setup = record { depth = d; capacity = c; rule = r }; time = 0; guests = map newcomer ss; waiting = []; flight = [] }

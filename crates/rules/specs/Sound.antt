@@ -23,6 +23,10 @@ settled s =
 unfoldable pub ranges : Table → Bool
 ranges t = counted (t .setup .depth) (length (t .guests)) (t .setup .capacity) && all (λ h. settled (h .settings)) (t .guests)
 
+-- Document 02, K7: "a rule other than 1 or 2 is 1 at opening, 3 in an open table". It is no count: no length depends on it
+unfoldable pub ruled : (rule : ℕ) → Bool
+ruled r = eqb r 1 || eqb r 2
+
 -- "counts do not exceed capacity and depth"
 abbrev pub roomy : Table → Bool
 roomy t = leb (length (t .waiting)) (t .setup .capacity) && leb (length (t .flight)) (t .setup .depth)
@@ -75,4 +79,4 @@ ordered t = below (length (t .guests)) (λ g. orderly (owner (t .guests) g) (min
 
 -- "A table is sound when": all of it. That unused places are zero is a rule of the lent numbers, beside their view.
 unfoldable pub sound : Table → Bool
-sound t = ranges t && roomy t && timely t && known t && distinct (names t) && all lawful (t .waiting) && ordered t
+sound t = ranges t && ruled (t .setup .rule) && roomy t && timely t && known t && distinct (names t) && all lawful (t .waiting) && ordered t

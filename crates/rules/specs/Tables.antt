@@ -15,7 +15,8 @@ pub use Rattle.rules.specs.declared.Settings.{Settings}
 pub use Rattle.rules.specs.declared.Guest.{Guest}
 -- a request in flight: its guest, and its id. The same two numbers name any request
 pub use Rattle.rules.specs.declared.Flight.{Flight}
--- "Depth (places at the array)", "Capacity (waiting places)": depth and capacity, what is set at opening for the whole array
+-- "Depth (places at the array)", "Capacity (waiting places)"; document 02, K7: "the rule is chosen at opening and kept in the table": depth, capacity and
+-- rule, what is set at opening for the whole array
 pub use Rattle.rules.specs.declared.Setup.{Setup}
 
 -- a waiting request: whose, its id, and its reservation, limit and share tag

@@ -1,13 +1,13 @@
--- What demand 3 speaks of: who stands before a request by reservation tag, and the accepted events that find a place free. Words in quotes are
--- demand 3's.
+-- What demand 3 speaks of: who stands before a request by reservation tag, and the accepted events that find a place free; what the two rules for
+-- limits share of it, and what rule 1 says. Words in quotes are demand 3's.
 use mathlib.Core.Path.{_≡_}
 use mathlib.Core.Bool.{Bool, _&&_}
-use mathlib.Core.List.{List, [], _∷_, _++_}
+use mathlib.Core.List.{List, [], _∷_, _++_, map}
 use Prim.Native.Nat.{ℕ, _<_}
 use lib.Dec.{ltb, leb}
 use lib.ListN.{length, getD}
 use Rattle.lists.specs.Words.{if_then_else_, filter}
-use Rattle.rules.specs.Tables.{Request, Table, reserved, settingsOf}
+use Rattle.rules.specs.Tables.{Request, Flight, Table, reserved, settingsOf, name}
 use Rattle.rules.specs.Choice.{dueAt, room}
 use Rattle.rules.specs.Events.{Event, enter}
 use Rattle.rules.specs.Refusals.{accepted}
@@ -51,7 +51,25 @@ atFree t (e ∷ es) = if findsRoom t e then step t e .answer ∷ atFree (step t 
 abbrev pub sentByReservation : Request → Answer
 sentByReservation q = Sent Reservation (q .guest) (q .id)
 
--- the answers "send exactly those k first, then this request at the (k+1)th, each by reservation", as far as there are answers
+-- the answer that sends the request of the name f by reservation
+abbrev pub byName : Flight → Answer
+byName f = Sent Reservation (f .guest) (f .id)
+
+-- the names s are drawn from the names l, one after the other and none twice
+abbrev pub Drawn : (s l : List Flight) → Type 0
+Drawn [] l = Unit {0}
+Drawn (f ∷ s) l = (a : List Flight) × (b : List Flight) × (l ≡ a ++ f ∷ b) × Drawn s (a ++ b)
+
+-- WHAT THE RULES SHARE: the answers first send some of those, then x, each by reservation, as far as there are answers. Under rule 1 none of those is passed
+-- over, so they send all of them, in their order
+pub record ByTurn (rule : ℕ) (those : List Request) (x : Request) (got : List Answer) : Type 0 where
+  pub sent : List Flight
+  pub drawn : Drawn sent (map name those)
+  pub none-over : rule ≡ 1 → sent ≡ map name those
+  pub some-first : (n : ℕ) → n < length sent → n < length got → getD got n Nothing ≡ byName (getD sent n (name x))
+  pub then-this : length sent < length got → getD got (length sent) Nothing ≡ sentByReservation x
+
+-- RULE 1: the answers "send exactly those k first, then this request at the (k+1)th, each by reservation", as far as there are answers
 pub record InTurn (those : List Request) (x : Request) (got : List Answer) : Type 0 where
   pub those-first : (n : ℕ) → n < length those → n < length got → getD got n Nothing ≡ sentByReservation (getD those n x)
   pub then-this : length those < length got → getD got (length those) Nothing ≡ sentByReservation x

@@ -3,6 +3,7 @@
 use mathlib.Core.Bool.{Bool, true, false, not, _&&_}
 use mathlib.Core.List.{List, [], _∷_, map}
 use Prim.Native.Nat.{ℕ, max, min}
+use lib.Dec.{eqb}
 use Rattle.lists.specs.Words.{if_then_else_, empty, lowest}
 use Rattle.rules.specs.Tables.{Settings, Guest, Request, Table, reserved, limited, settingsOf}
 use Rattle.rules.specs.Choice.{Result, room}
@@ -15,17 +16,17 @@ pub use Rattle.rules.specs.declared.Wake.{Wake}
 pub use Rattle.rules.specs.declared.Wake.the-variants.{At, Never}
 
 -- the time from which one phase or the other could send a request of a guest with these settings: at once where it is unlimited, else from its limit
--- tag on, or from its reservation tag on where that is earlier
-unfoldable pub readyAt : Settings → Request → ℕ
-readyAt s q = if limited s then (if reserved s then min (q .ltag) (q .rtag) else q .ltag) else 0
+-- tag on; under rule 1 from its reservation tag on where that is earlier. Under rule 2 neither phase sends it before its limit tag
+unfoldable pub readyAt : (rule : ℕ) → Settings → Request → ℕ
+readyAt rule s q = if limited s then (if reserved s && not (eqb rule 2) then min (q .ltag) (q .rtag) else q .ltag) else 0
 
 -- the same, with the settings of its guest in the table
-abbrev pub readyIn : List Guest → Request → ℕ
-readyIn gs q = readyAt (settingsOf gs q) q
+abbrev pub readyIn : (rule : ℕ) → List Guest → Request → ℕ
+readyIn rule gs q = readyAt rule (settingsOf gs q) q
 
 -- the time from which the first of all that wait could go
 abbrev pub soonest : Table → ℕ
-soonest t = lowest (map (readyIn (t .guests)) (t .waiting))
+soonest t = lowest (map (readyIn (t .setup .rule) (t .guests)) (t .waiting))
 
 -- WHEN TO WAKE: "now or later", or "none when no place is free or nothing waits"
 unfoldable pub wake : Table → Wake

@@ -25,10 +25,11 @@ pub struct Flight {
     pub id: u32,
 }
 
-// What is set at opening for the whole array: its places, and the places to wait in.
+// What is set at opening for the whole array: its places, the places to wait in, and the rule for limits, 1 or 2.
 pub struct Setup {
     pub depth: u64,
     pub capacity: u64,
+    pub rule: u64,
 }
 
 // An open table but for its rows: what was set, how many guests there are, the last accepted time, how many wait and how many are in flight.

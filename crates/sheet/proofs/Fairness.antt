@@ -24,9 +24,9 @@ use Rattle.sheet.specs.Sheet.{read, pageAfter, Stand, onward}
 use Rattle.sheet.specs.Standing.{Fair, Owing}
 
 -- the first page
-pub fair-first : (d c : ℕ) (ss : List Settings) → Fair (firstPage (fresh d c ss))
+pub fair-first : (d c rule : ℕ) (ss : List Settings) → Fair (firstPage (fresh d c rule ss))
 unfolding fresh
-fair-first d c ss = record { first = fresh d c ss; unwaited = refl; unflown = refl; balanced = balanced-first (fresh d c ss) }
+fair-first d c rule ss = record { first = fresh d c rule ss; unwaited = refl; unflown = refl; balanced = balanced-first (fresh d c rule ss) }
 
 -- after an event as it was read
 fair-read : (p : Page) (e : Read) → Fair p → Fair (read p e)

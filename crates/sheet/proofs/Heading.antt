@@ -14,7 +14,7 @@ use Rattle.rules.specs.declared.Settings.{Settings}
 use Rattle.rules.proofs.Conditions.{counted-means}
 use Rattle.table.specs.Columns.{mostGuests}
 use Rattle.lines.specs.Line.{refusalLine}
-use Rattle.trace.specs.Header.{guestsOf, body, settingsIn, headerOf}
+use Rattle.trace.specs.Header.{guestsOf, ruleOf, body, settingsIn, headerOf}
 use Rattle.trace.specs.declared.Header.{Header}
 use Rattle.trace.specs.declared.Header.the-variants.{Opened, Refused as Unopened}
 use Rattle.trace.proofs.HeaderLaws.{Opens, opened}
@@ -38,12 +38,12 @@ module _ (bs later : List ℕ) where
   begun-on d n c e (inl long) =
       let o : Opens bs d n c = opened bs d n c e in
       let few : guestsOf bs ≤ mostGuests = counted-means d (guestsOf bs) c .holds .0 (rw (o .guestsIs) at (o .counts)) .guest-count .1 in
-      ap (λ (ss : List Settings). record { bytes = drop (body n) (bs ++ later); page = firstPage (fresh d c ss) }) (settings-same bs later long few)
-      ∙ ap (λ (l : List ℕ). record { bytes = l; page = firstPage (fresh d c (settingsIn bs)) }) (drop-append-le (body n) bs later (o .whole))
+      ap (λ (ss : List Settings). record { bytes = drop (body n) (bs ++ later); page = firstPage (fresh d c (ruleOf bs) ss) }) (settings-same bs later long few)
+      ∙ ap (λ (l : List ℕ). record { bytes = l; page = firstPage (fresh d c (ruleOf bs) (settingsIn bs)) }) (drop-append-le (body n) bs later (o .whole))
   begun-on d n c e (inr none) =
       ap (λ (l : List ℕ). begunSheet d n c (bs ++ l)) none
       ∙ ap (begunSheet d n c) (append-nil bs)
-      ∙ ap (λ (l : List ℕ). record { bytes = l; page = firstPage (fresh d c (settingsIn bs)) }) (sym (append-nil (drop (body n) bs)))
+      ∙ ap (λ (l : List ℕ). record { bytes = l; page = firstPage (fresh d c (ruleOf bs) (settingsIn bs)) }) (sym (append-nil (drop (body n) bs)))
       ∙ ap (more (begunSheet d n c bs)) (sym none)
 
   -- what is printed of a bad header
@@ -83,5 +83,5 @@ module _ (n : ℕ) (bs : List ℕ) (f : First n bs) where
         mark = f .mark ∙ mark;
         wrote = f .wrote;
         stands = λ later may. ap (λ (l : List ℕ). sheetOf (l ++ later)) (f .read) ∙ sheet-opened bs later d g c e (whole-or-all later may);
-        fair = fair-first d c (settingsIn bs);
+        fair = fair-first d c (ruleOf bs) (settingsIn bs);
       })

@@ -13,7 +13,7 @@ use Rattle.rules.specs.Run.{fresh}
 use Rattle.rules.specs.declared.Gate.{Gate}
 use Rattle.table.specs.View.{guestForm, requestForm, guestsOf, tableOf}
 use Rattle.table.proofs.Facts.{Facts, facts}
-use Rattle.trace.specs.Header.{settingsIn}
+use Rattle.trace.specs.Header.{ruleOf, settingsIn}
 use Rattle.book.specs.Figures.{unseen, unseens}
 use Rattle.book.specs.Page.{firstPage}
 use Rattle.tally.specs.Columns.{figuresWide, figuresLong, figureAt}
@@ -60,7 +60,7 @@ module _ (d n c : ℕ) (bs rest : List ℕ) (g : Gate) (gs ws fs bk old fg : Lis
   pub begun-stands : standOf rest g gs ws fs bk fg ≡ begunSheet d n c bs
   begun-stands =
       let p : pageOf g gs ws fs bk fg ≡ firstPage (tableOf g gs ws fs) = λ i. record { table = tableOf g gs ws fs; book = books i; figures = seen i } in
-      let q : pageOf g gs ws fs bk fg ≡ firstPage (fresh d c (settingsIn bs)) = p ∙ ap firstPage (b .table) in
+      let q : pageOf g gs ws fs bk fg ≡ firstPage (fresh d c (ruleOf bs) (settingsIn bs)) = p ∙ ap firstPage (b .table) in
       λ i. record { bytes = b .bytes i; page = q i }
 
   -- and are known

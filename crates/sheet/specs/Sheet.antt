@@ -5,7 +5,7 @@ use mathlib.Core.List.{List, [], _∷_, _++_}
 use lib.ListN.{drop}
 use Rattle.rules.specs.Run.{fresh}
 use Rattle.lines.specs.Line.{decimalOf, spaced, refusalLine}
-use Rattle.trace.specs.Header.{body, settingsIn, headerOf}
+use Rattle.trace.specs.Header.{ruleOf, body, settingsIn, headerOf}
 use Rattle.trace.specs.Event.{eventsOf, whole}
 use Rattle.trace.specs.declared.Header.{Header}
 use Rattle.trace.specs.declared.Header.the-variants.{Opened, Refused as Unopened}
@@ -70,7 +70,7 @@ closing s = figuresLines 0 (onward s .page .figures)
 
 -- where the reading of events begins: at the fresh table that the header opens
 abbrev pub begunSheet : (depth guests capacity : ℕ) → List ℕ → Stand
-begunSheet d n c bs = record { bytes = drop (body n) bs; page = firstPage (fresh d c (settingsIn bs)) }
+begunSheet d n c bs = record { bytes = drop (body n) bs; page = firstPage (fresh d c (ruleOf bs) (settingsIn bs)) }
 
 -- Document 02, K1: "A bad header prints as in 01." Otherwise the lines of all guests
 abbrev pub sheetBy : Header → List ℕ → List ℕ

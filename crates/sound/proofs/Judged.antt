@@ -12,7 +12,7 @@ use Rattle.lists.specs.RowsLaws.{length-rows}
 use Rattle.rules.specs.Numbers.{ceiling}
 use Rattle.rules.specs.Tables.{Table, name, names, owner, mine}
 use Rattle.rules.specs.declared.Flight.{Flight}
-use Rattle.rules.specs.Sound.{counted, ranges, lawful, distinct, orderly, sound}
+use Rattle.rules.specs.Sound.{counted, ranges, ruled, lawful, distinct, orderly, sound}
 use Rattle.rules.specs.declared.Gate.{Gate}
 use Rattle.rules.proofs.Facts.{sound-is, is-sound}
 use Rattle.table.specs.Columns.{flightWide, waitingWide}
@@ -27,6 +27,7 @@ inOrder gate gs ws g = orderly (owner (guestsOf gs (gate .guests)) g) (mine g (w
 -- the rules, in the order of the code
 pub record Judged (gate : Gate) (gs ws fs : List ℕ) : Type 0 where
   pub isCounted : countable gate ≡ true
+  pub isRuled : ruled (gate .setup .rule) ≡ true
   pub isSettled : all settledGuest (guestsOf gs (gate .guests)) ≡ true
   pub waits : gate .waiting ≤ gate .setup .capacity
   pub flies : gate .flight ≤ gate .setup .depth
@@ -76,6 +77,7 @@ module _ (gate : Gate) (gs ws fs : List ℕ) where
       let m = all-parts (named (gate .guests)) (map name (t .waiting)) (t .flight) n in
       record {
         isCounted = rw size at (r .0);
+        isRuled = s .rule-known;
         isSettled = r .1;
         waits = omega (arith, s .waiting-fits, length-rows requestForm ws (gate .waiting));
         flies = omega (arith, s .flight-fits, length-rows flightForm fs (gate .flight));
@@ -99,6 +101,7 @@ module _ (gate : Gate) (gs ws fs : List ℕ) where
       is-sound t
       (record {
         in-range = join e (j .isSettled);
+        rule-known = j .isRuled;
         waiting-fits = omega (arith, j .waits, length-rows requestForm ws (gate .waiting));
         flight-fits = omega (arith, j .flies, length-rows flightForm fs (gate .flight));
         time-fits = j .timed;

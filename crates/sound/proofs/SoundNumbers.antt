@@ -185,6 +185,7 @@ module _ (g : Gate) (gs ws fs : List ℕ) where
       in
       record {
         counts-in-range = rw many at (s .counts-in-range);
+        rule-known = s .rule-known;
         settings-in-range = λ h k.
             subst (λ (x : Guest). Good (x .settings)) (guest-is h k)
             (s .settings-in-range ((owner (t .guests) h) .settings) (Memᴰ·map Guest.settings (place-mem (t .guests) h nobodys (omega (arith, many)))));
@@ -213,6 +214,7 @@ module _ (g : Gate) (gs ws fs : List ℕ) where
   back s =
       record {
         counts-in-range = rw many (s .counts-in-range);
+        rule-known = s .rule-known;
         settings-in-range = settings;
         waiting-fits = omega (arith, s .waiting-fits, long);
         flight-fits = omega (arith, s .flight-fits, far);

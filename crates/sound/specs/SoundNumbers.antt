@@ -10,7 +10,7 @@ use Rattle.rules.specs.Numbers.{ceiling, second}
 use Rattle.rules.specs.Tables.{Request, reserved, limited, rspacing, lspacing, sspacing, name}
 use Rattle.rules.specs.declared.Guest.{Guest}
 use Rattle.rules.specs.declared.Flight.{Flight}
-use Rattle.rules.specs.Refused.{Countable, Good}
+use Rattle.rules.specs.Refused.{Countable, Ruled, Good}
 use Rattle.rules.specs.declared.Gate.{Gate}
 use Rattle.table.specs.View.{guestForm, requestForm, flightForm}
 
@@ -46,6 +46,7 @@ pub record KeptAt (has : Bool) (tag spacing : Request → ℕ) (row : ℕ → Re
 pub record SoundNumbers (g : Gate) (gs ws fs : List ℕ) : Type 0 where
   -- "settings lie in the ranges"
   pub counts-in-range : Countable (g .setup .depth) (g .guests) (g .setup .capacity)
+  pub rule-known : Ruled (g .setup .rule)
   pub settings-in-range : (h : ℕ) → h < g .guests → Good ((guestRow gs h) .settings)
   -- "counts do not exceed capacity and depth"
   pub waiting-fits : g .waiting ≤ g .setup .capacity

@@ -11,6 +11,7 @@ use entries::settings::all_settled;
 use pairs::all_once;
 use rules::Gate;
 use table::numbers::CEILING;
+use table::ranges::is_ruled;
 use unused::is_clear;
 ghost use mathlib.Core.Path.{_≡_};
 ghost use Rattle.table.specs.View.{soundNumbers};
@@ -26,6 +27,9 @@ pub fn is_sound(gate: Gate, guests: &[u64], waiting: &[u64], flight: &[u64]) -> 
     let depth = gate.setup.depth as usize;
     let count = gate.waiting as usize;
     let sent = gate.flight as usize;
+    if !is_ruled(gate.setup.rule) {
+        return false;
+    }
     if !all_settled(guests, known) {
         return false;
     }

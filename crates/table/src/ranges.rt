@@ -1,10 +1,10 @@
-// Whether counts and settings lie in their ranges, on plain numbers.
+// Whether counts, rule and settings lie in their ranges, on plain numbers.
 use super::columns::MOST_CAPACITY;
 use super::columns::MOST_DEPTH;
 use super::columns::MOST_GUESTS;
 ghost use mathlib.Core.Path.{_≡_};
 ghost use Rattle.rules.specs.Numbers.{within as withinOf};
-ghost use Rattle.rules.specs.Sound.{counted, settled};
+ghost use Rattle.rules.specs.Sound.{counted, settled, ruled};
 
 // The most that a setting may be.
 const MOST: u64 = 1000000;
@@ -33,6 +33,16 @@ pub fn is_counted(depth: u64, guests: u64, capacity: u64) -> bool
         return false;
     }
     within(1, MOST_CAPACITY as u64, capacity)
+}
+
+// There is such a rule for limits.
+pub fn is_ruled(rule: u64) -> bool
+    ensures { λ b. ⌜ b ≡ ruled rule ⌝ }
+{
+    if rule == 1 {
+        return true;
+    }
+    rule == 2
 }
 
 // One guest's settings lie in their ranges. A reservation above a non-zero limit is bad; equal is good.

@@ -13,7 +13,7 @@ use Rattle.rules.specs.declared.Settings.{Settings}
 use Rattle.rules.specs.Run.{fresh}
 use Rattle.rules.proofs.Conditions.{counted-means}
 use Rattle.lines.specs.Line.{titleLine}
-use Rattle.trace.specs.Header.{guestsOf, body, settingsIn, headerOf}
+use Rattle.trace.specs.Header.{guestsOf, ruleOf, body, settingsIn, headerOf}
 use Rattle.trace.specs.Printed.{finished, begun, printedBy, printed}
 use Rattle.trace.specs.Reads.{joined, more, asRead, printedFirst, printedReads}
 use Rattle.trace.specs.declared.Header.{Header}
@@ -33,8 +33,8 @@ all-there (Opened d n c) bs = refl
 begun-more : (d n c : ℕ) (xs ys : List ℕ) → longest ≤ length xs → Opens xs d n c → more (begun d n c xs) ys ≡ begun d n c (xs ++ ys)
 begun-more d n c xs ys long o =
     let few : guestsOf xs ≤ mostGuests = counted-means d (guestsOf xs) c .holds .0 (rw (o .guestsIs) at (o .counts)) .guest-count .1 in
-    ap (λ (l : List ℕ). record { bytes = l; table = fresh d c (settingsIn xs); number = 0 }) (sym (drop-append-le (body n) xs ys (o .whole)))
-    ∙ ap (λ (ss : List Settings). record { bytes = drop (body n) (xs ++ ys); table = fresh d c ss; number = 0 }) (sym (settings-same xs ys long few))
+    ap (λ (l : List ℕ). record { bytes = l; table = fresh d c (ruleOf xs) (settingsIn xs); number = 0 }) (sym (drop-append-le (body n) xs ys (o .whole)))
+    ∙ ap (λ (ss : List Settings). record { bytes = drop (body n) (xs ++ ys); table = fresh d c (ruleOf xs) ss; number = 0 }) (sym (settings-same xs ys long few))
 
 -- a first read that holds any header
 first-there : (xs : List ℕ) (rs : List (List ℕ)) → longest ≤ length xs → (h : Header) → headerOf xs ≡ h → printedFirst h xs rs ≡ printedBy h (xs ++ joined rs)

@@ -1,5 +1,5 @@
 -- DEMAND 3 of the printed answers of a trace: at any event, a waiting request whose reservation is due goes by reservation, after exactly those that
--- stand before it. Words in quotes are demand 3's. Assumes nothing.
+-- stand before it. A trace of version 1 is one of rule 1. Words in quotes are demand 3's. Assumes nothing.
 use Prim.Native.Nat.{ℕ, _*_, _≤_}
 use mathlib.Core.Path.{_≡_, refl, ap, _∙_}
 use mathlib.Core.Bool.{true}
@@ -24,6 +24,7 @@ use Rattle.trace.specs.declared.Read.the-variants.{Good, Bad}
 use Rattle.trace.proofs.Runs.{run}
 use Rattle.trace.proofs.Answers.{answers-later}
 use Rattle.trace.proofs.LineExactly.{table-sound}
+use Rattle.trace.proofs.RuleOne.{rule-1}
 
 -- one event
 free-event : (t : Table) (e : Event) (l m : List Answer) → l ≡ m
@@ -51,10 +52,10 @@ pub trace-demand-3 : (bs : List ℕ) → NoneHolds (headerCases bs) → (i : ℕ
     → (those : List Request) × (those ≡ sorted (ahead (tableAt bs i) x a b)) × List·Permᴰ those (ahead (tableAt bs i) x a b)
     × (length those ≡ length (ahead (tableAt bs i) x a b)) × InTurn those x (freeFrom bs i)
 trace-demand-3 bs good i h a b x w due =
-    let d = demand-3 (tableAt bs i) a b x (run (readsOf (bytesAt bs i))) (table-sound bs good i) w due in
+    let d = demand-3 (tableAt bs i) a b x (run (readsOf (bytesAt bs i))) (table-sound bs good i) (rule-1 bs i) w due in
     (d .0, d .1, d .2, d .3, rw (free-from bs i h) (d .4))
 
 -- The same by places: the request at place i of those that wait is due when event k comes.
 pub trace-demand-3-places : (bs : List ℕ) → NoneHolds (headerCases bs) → (k : ℕ) → k ≤ whole (eventBytes bs) → (i : ℕ) → DueAt (tableAt bs k) i
     → InTurnAt (tableAt bs k) i (freeFrom bs k)
-trace-demand-3-places bs good k h i d = rw (free-from bs k h) (demand-3-places (tableAt bs k) i (run (readsOf (bytesAt bs k))) (table-sound bs good k) d)
+trace-demand-3-places bs good k h i d = rw (free-from bs k h) (demand-3-places (tableAt bs k) i (run (readsOf (bytesAt bs k))) (table-sound bs good k) .rule-1 (rule-1 bs k) d)

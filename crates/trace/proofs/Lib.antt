@@ -9,6 +9,7 @@ pub mod FirstRead
 pub mod AnySplit
 pub mod Example
 pub mod NoCredit
+pub mod RuleOne
 pub mod Answers
 pub mod HeaderExactly
 pub mod LineExactly

@@ -14,7 +14,7 @@ use Rattle.lists.specs.WordsLaws.{all-each}
 use Rattle.lists.specs.Tab.{length-tab}
 use Rattle.rules.specs.Tables.{Table}
 use Rattle.rules.specs.Answers.{shown, taken}
-use Rattle.rules.specs.Sound.{sound}
+use Rattle.rules.specs.Sound.{ruled, sound}
 use Rattle.rules.specs.declared.Event.{Event}
 use Rattle.rules.specs.declared.Event.the-variants.{Arrival, Completion, Tick}
 use Rattle.rules.specs.Refusals.{Test, Verdict, accept, refuse, judged, eventTests, openTests, verdict}
@@ -31,7 +31,7 @@ use Rattle.rules.specs.declared.Refusal.the-variants.{BadEvent, EventCut}
 use Rattle.rules.specs.declared.Answer.{Answer}
 use Rattle.rules.specs.declared.Answer.the-variants.{Refused}
 use Rattle.trace.specs.Little.{byteAt, fourAt, eightAt}
-use Rattle.trace.specs.Header.{depthOf, guestsOf, capacityOf, settingsAt, settingsIn, headerBy}
+use Rattle.trace.specs.Header.{depthOf, guestsOf, capacityOf, ruleOf, settingsAt, settingsIn, headerBy}
 use Rattle.trace.specs.Event.{eventFrom, eventOf, eventsOf}
 use Rattle.trace.specs.Printed.{answered}
 use Rattle.trace.specs.Answers.{byEvent, eventBytes, bytesAt, opening, tableAt, answerAt}
@@ -122,11 +122,11 @@ line-above t bs = read-above t (eventOf bs)
 
 module _ (bs : List ℕ) (good : NoneHolds (headerCases bs)) where
   opening-sound : sound (opening bs) ≡ true
-  unfolding openTests
+  unfolding openTests ruled
   opening-sound =
       let o = opened bs (depthOf bs) (guestsOf bs) (capacityOf bs) (ap (λ (v : Verdict). headerBy v bs) (header-good bs good)) in
-      let ok : judged (openTests false (depthOf bs) (guestsOf bs) (capacityOf bs) (settingsIn bs)) ≡ accept = rw (o .counts, o .settings) refl in
-      fresh-sound false (depthOf bs) (guestsOf bs) (capacityOf bs) (settingsIn bs) ok (length-tab (guestsOf bs) (settingsAt bs))
+      let ok : judged (openTests false (depthOf bs) (guestsOf bs) (capacityOf bs) (ruleOf bs) (settingsIn bs)) ≡ accept = rw (o .counts, o .settings) refl in
+      fresh-sound false (depthOf bs) (guestsOf bs) (capacityOf bs) (ruleOf bs) (settingsIn bs) ok (length-tab (guestsOf bs) (settingsAt bs))
 
   -- every event finds a sound table
   pub table-sound : (k : ℕ) → sound (tableAt bs k) ≡ true

@@ -13,7 +13,7 @@ use Rattle.rules.specs.Turn.{findsRoom}
 use Rattle.rules.specs.declared.Refusal.the-variants.{EventCut}
 use Rattle.rules.specs.declared.Answer.{Answer}
 use Rattle.rules.specs.declared.Answer.the-variants.{Nothing, Refused}
-use Rattle.trace.specs.Header.{depthOf, guestsOf, capacityOf, body, settingsIn}
+use Rattle.trace.specs.Header.{depthOf, guestsOf, capacityOf, ruleOf, body, settingsIn}
 use Rattle.trace.specs.Event.{eventsOf, whole}
 use Rattle.trace.specs.Printed.{answered, answersTo, tableAfter}
 use Rattle.trace.specs.declared.Read.{Read}
@@ -36,7 +36,7 @@ bytesAt bs k = drop (k * 14) (eventBytes bs)
 
 -- the fresh table that the header opens
 abbrev pub opening : List ℕ → Table
-opening bs = fresh (depthOf bs) (capacityOf bs) (settingsIn bs)
+opening bs = fresh (depthOf bs) (capacityOf bs) (ruleOf bs) (settingsIn bs)
 
 -- the table that event k finds: the fresh one, after the events before it
 abbrev pub tableAt : List ℕ → ℕ → Table

@@ -45,6 +45,10 @@ guestsOf bs = byteAt bs 6
 abbrev pub capacityOf : List ℕ → ℕ
 capacityOf bs = twoAt bs 7
 
+-- the rule for limits: rule 1, for a trace of version 1 cannot say one. Document 02, K9: "from version 1 to 2 (rule 1, credit 0, cost 1)"
+abbrev pub ruleOf : List ℕ → ℕ
+ruleOf bs = 1
+
 -- where the records of n guests end and the events begin
 abbrev pub body : ℕ → ℕ
 body n = 9 + 12 * n

@@ -9,7 +9,7 @@ use Rattle.rules.specs.Run.{step, fresh}
 use Rattle.rules.specs.declared.Refusal.the-variants.{BadEvent, EventCut}
 use Rattle.rules.specs.declared.Answer.{Answer}
 use Rattle.rules.specs.declared.Answer.the-variants.{Refused}
-use Rattle.trace.specs.Header.{body, settingsIn, headerOf}
+use Rattle.trace.specs.Header.{ruleOf, body, settingsIn, headerOf}
 use Rattle.trace.specs.Event.{eventsOf, whole}
 use Rattle.lines.specs.Line.{lineOf, refusalLine, titleLine}
 use Rattle.trace.specs.declared.Header.{Header}
@@ -71,7 +71,7 @@ finished p = lines p ++ cut (left p .number) (left p .bytes)
 
 -- where the reading of events begins: at the fresh table that the header opens
 abbrev pub begun : (depth guests capacity : ℕ) → List ℕ → Place
-begun d n c bs = record { bytes = drop (body n) bs; table = fresh d c (settingsIn bs); number = 0 }
+begun d n c bs = record { bytes = drop (body n) bs; table = fresh d c (ruleOf bs) (settingsIn bs); number = 0 }
 
 -- "A bad header prints the one line `trace refused` and the number. Otherwise the header line `event answer`, then a line for each event"
 abbrev pub printedBy : Header → List ℕ → List ℕ

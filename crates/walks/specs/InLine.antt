@@ -19,7 +19,7 @@ use Rattle.table.specs.View.{requestForm, waitingOf}
 use Rattle.walks.specs.Walks.{Picks, Owned, Rising, SharesFit, placeIn}
 use Rattle.walks.specs.Unseen.{unseen, unseen-some, kept-to-end}
 use Rattle.walks.specs.WalksLaws.{walk-behind, Told, told-start, told-take, told-pass, told-picks}
-use Rattle.walks.specs.WalksRows.{dueIn, openIn, row-from, rtag-at, stag-at, due-at, due-tag, open-at, open-is, due-behind, open-behind}
+use Rattle.walks.specs.WalksRows.{dueIn, openIn, row-from, rtag-at, stag-at, due-parts, due-is, due-tag, open-at, open-is, due-behind, open-behind}
 
 -- guest g has one of the first i rows
 pub record Stood (ws : List ℕ) (i g : ℕ) : Type 0 where
@@ -59,20 +59,20 @@ module _ (ws : List ℕ) where
           stood-later i g (m .stood g h (λ z. marked (getD-set-other seen (waitingAt ws i GUEST) g 1 0 (eqb-false g (waitingAt ws i GUEST) e) ∙ z)))
 
 -- the walk at the row whose numbers begin at `from`: the marks, and what each phase would send of the rows passed
-pub record InLine (gs ws : List ℕ) (known count time : ℕ) (seen : List ℕ) (first soonest spare smallest from : ℕ) : Type 0 where
+pub record InLine (gs ws : List ℕ) (known count time latest : ℕ) (seen : List ℕ) (first soonest spare smallest from : ℕ) : Type 0 where
   pub row : ℕ
   pub begins : from ≡ row * waitingWide
   pub inside : row ≤ count
   pub marks : Marks ws row seen
-  pub byTag : Told (dueIn gs known time) Request.rtag (waitingOf ws count) (time + 1) count row first soonest
+  pub byTag : Told (dueIn gs known time latest) Request.rtag (waitingOf ws count) (time + 1) count row first soonest
   pub byShare : Told (openIn time) Request.stag (waitingOf ws count) (ceiling + 1) count row spare smallest
 
-module _ (gs ws : List ℕ) (known count time : ℕ) where
+module _ (gs ws : List ℕ) (known count time latest : ℕ) where
   -- before the first row
-  pub line-start : InLine gs ws known count time (replicate mostGuests 0) (count * waitingWide) (time + 1) (count * waitingWide) (ceiling + 1) 0
+  pub line-start : InLine gs ws known count time latest (replicate mostGuests 0) (count * waitingWide) (time + 1) (count * waitingWide) (ceiling + 1) 0
   line-start = record { row = 0; begins = refl; inside = omega arith; marks = marks-start ws; byTag = told-start; byShare = told-start }
 
-  module _ {seen : List ℕ} {first soonest spare smallest from : ℕ} (l : InLine gs ws known count time seen first soonest spare smallest from) (more : from < count * waitingWide) where
+  module _ {seen : List ℕ} {first soonest spare smallest from : ℕ} (l : InLine gs ws known count time latest seen first soonest spare smallest from) (more : from < count * waitingWide) where
     -- the row is one of those that are used
     pub here : l .row < count
     here = omega (arith, l .begins)
@@ -85,26 +85,35 @@ module _ (gs ws : List ℕ) (known count time : ℕ) where
     pub known-here : Owned ws count known → getD ws (from + GUEST) 0 < known
     known-here owned = omega (arith, guest-here, owned (l .row) here)
 
-    -- the row's reservation tag is below the bound and its guest has a reservation: it is due, and taken
-    pub due-take : Owned ws count known → (ltb (getD ws (from + RTAG) 0) soonest && ltb 0 (guestAt gs (getD ws (from + GUEST) 0) RESERVATION)) ≡ true
-        → Told (dueIn gs known time) Request.rtag (waitingOf ws count) (time + 1) count (l .row + 1) from (getD ws (from + RTAG) 0)
+    -- what the code tests of the row, beside its reservation tag
+    abbrev passesHere : Bool
+    passesHere = ltb 0 (guestAt gs (getD ws (from + GUEST) 0) RESERVATION) && leb (getD ws (from + LTAG) 0) latest
+
+    -- the row's reservation tag is below the bound, its limit tag passes and its guest has a reservation: it is due, and taken
+    pub due-take : Owned ws count known → (ltb (getD ws (from + RTAG) 0) soonest && passesHere) ≡ true
+        → Told (dueIn gs known time latest) Request.rtag (waitingOf ws count) (time + 1) count (l .row + 1) from (getD ws (from + RTAG) 0)
     due-take owned e =
-        let b = both (ltb (getD ws (from + RTAG) 0) soonest) (ltb 0 (guestAt gs (getD ws (from + GUEST) 0) RESERVATION)) e in
+        let b = both (ltb (getD ws (from + RTAG) 0) soonest) passesHere e in
+        let c = both (ltb 0 (guestAt gs (getD ws (from + GUEST) 0) RESERVATION)) (leb (getD ws (from + LTAG) 0) latest) (b .1) in
         let low = ltb-true (getD ws (from + RTAG) 0) soonest (b .0) in
         let tag = row-from ws (l .row) RTAG (l .begins) in
-        let has : ltb 0 (guestAt gs (waitingAt ws (l .row) GUEST) RESERVATION) ≡ true = rw guest-here at (b .1) in
-        let soon = le-leb (waitingAt ws (l .row) RTAG) time (omega (arith, low, tag, l .byTag .walk .low)) in
-        told-take (l .byTag) (l .begins) (due-at ws count (l .row) here gs known time owned ∙ join has soon) (rtag-at ws count (l .row) here ∙ sym tag) low
+        let has : ltb 0 (guestAt gs (waitingAt ws (l .row) GUEST) RESERVATION) ≡ true = rw guest-here at (c .0) in
+        let within = leb-true (getD ws (from + LTAG) 0) latest (c .1) in
+        told-take (l .byTag) (l .begins)
+        (due-is ws count (l .row) here gs known time latest owned has (omega (arith, low, tag, l .byTag .walk .low)) (omega (arith, within, row-from ws (l .row) LTAG (l .begins))))
+        (rtag-at ws count (l .row) here ∙ sym tag) low
 
     -- else it is no due row with a smaller tag
-    pub due-pass : Owned ws count known → (ltb (getD ws (from + RTAG) 0) soonest && ltb 0 (guestAt gs (getD ws (from + GUEST) 0) RESERVATION)) ≡ false
-        → Told (dueIn gs known time) Request.rtag (waitingOf ws count) (time + 1) count (l .row + 1) first soonest
-    due-pass owned e = told-pass (l .byTag) (λ o. go (both (ltb 0 (guestAt gs (waitingAt ws (l .row) GUEST) RESERVATION)) (leb (waitingAt ws (l .row) RTAG) time) (sym (due-at ws count (l .row) here gs known time owned) ∙ o) .0))
+    pub due-pass : Owned ws count known → (ltb (getD ws (from + RTAG) 0) soonest && passesHere) ≡ false
+        → Told (dueIn gs known time latest) Request.rtag (waitingOf ws count) (time + 1) count (l .row + 1) first soonest
+    due-pass owned e = told-pass (l .byTag) go
       where
-        go : ltb 0 (guestAt gs (waitingAt ws (l .row) GUEST) RESERVATION) ≡ true → soonest ≤ (at (waitingOf ws count) (l .row)) .rtag
-        go has =
-            let h : ltb 0 (guestAt gs (getD ws (from + GUEST) 0) RESERVATION) ≡ true = rw guest-here has in
-            let f : ltb (getD ws (from + RTAG) 0) soonest ≡ false = sym (and-true _) ∙ rw h at e in
+        go : dueIn gs known time latest (at (waitingOf ws count) (l .row)) ≡ true → soonest ≤ (at (waitingOf ws count) (l .row)) .rtag
+        go o =
+            let c = due-parts ws count (l .row) here gs known time latest owned o in
+            let has : ltb 0 (guestAt gs (getD ws (from + GUEST) 0) RESERVATION) ≡ true = rw guest-here (c .0) in
+            let within = le-leb (getD ws (from + LTAG) 0) latest (omega (arith, c .2, row-from ws (l .row) LTAG (l .begins))) in
+            let f : ltb (getD ws (from + RTAG) 0) soonest ≡ false = sym (and-true _) ∙ rw (has, within) at e in
             omega (arith, ltb-false (getD ws (from + RTAG) 0) soonest f, rtag-at ws count (l .row) here, row-from ws (l .row) RTAG (l .begins))
 
     -- the row's share tag is below the bound and its limit tag at or before the time: it is open, and taken
@@ -130,7 +139,7 @@ module _ (gs ws : List ℕ) (known count time : ℕ) where
 
     -- a row whose guest is marked
     pub line-skip : Owned ws count known → known ≤ mostGuests → Rising ws count → (getD seen (getD ws (from + GUEST) 0) 0 ≡ 0 → ⊥)
-        → InLine gs ws known count time seen first soonest spare smallest (from + waitingWide)
+        → InLine gs ws known count time latest seen first soonest spare smallest (from + waitingWide)
     line-skip owned few rising marked =
         let g = waitingAt ws (l .row) GUEST in
         let s : Stood ws (l .row) g = l .marks .stood g (omega (arith, owned (l .row) here)) (λ z. marked (ap (λ (k : ℕ). getD seen k 0) guest-here ∙ z)) in
@@ -139,14 +148,14 @@ module _ (gs ws : List ℕ) (known count time : ℕ) where
           begins = omega (arith, l .begins);
           inside = omega (arith, here);
           marks = marks-later ws (l .row) seen (l .marks);
-          byTag = told-pass (l .byTag) (walk-behind (l .byTag .walk) (s .place) (s .before) (due-behind ws count gs known time owned rising (s .place) (l .row) (s .before) here (s .own)));
+          byTag = told-pass (l .byTag) (walk-behind (l .byTag .walk) (s .place) (s .before) (due-behind ws count gs known time latest owned rising (s .place) (l .row) (s .before) here (s .own)));
           byShare = told-pass (l .byShare) (walk-behind (l .byShare .walk) (s .place) (s .before) (open-behind ws count time rising (s .place) (l .row) (s .before) here (s .own)));
         }
 
     -- the first row of its guest, with what each phase would send of the rows up to it
-    pub line-next : {d' soonest' o' smallest' : ℕ} → Told (dueIn gs known time) Request.rtag (waitingOf ws count) (time + 1) count (l .row + 1) d' soonest'
+    pub line-next : {d' soonest' o' smallest' : ℕ} → Told (dueIn gs known time latest) Request.rtag (waitingOf ws count) (time + 1) count (l .row + 1) d' soonest'
         → Told (openIn time) Request.stag (waitingOf ws count) (ceiling + 1) count (l .row + 1) o' smallest'
-        → InLine gs ws known count time (set seen (getD ws (from + GUEST) 0) 1) d' soonest' o' smallest' (from + waitingWide)
+        → InLine gs ws known count time latest (set seen (getD ws (from + GUEST) 0) 1) d' soonest' o' smallest' (from + waitingWide)
     line-next d o =
         record {
           row = l .row + 1;
@@ -158,22 +167,22 @@ module _ (gs ws : List ℕ) (known count time : ℕ) where
         }
 
   -- where every guest is marked, the rows that are left change nothing: the walk may end
-  pub line-rest : {seen : List ℕ} {first soonest spare smallest from : ℕ} → InLine gs ws known count time seen first soonest spare smallest from
-      → Owned ws count known → known ≤ mostGuests → Rising ws count → unseen seen known ≡ 0 → InLine gs ws known count time seen first soonest spare smallest (count * waitingWide)
+  pub line-rest : {seen : List ℕ} {first soonest spare smallest from : ℕ} → InLine gs ws known count time latest seen first soonest spare smallest from
+      → Owned ws count known → known ≤ mostGuests → Rising ws count → unseen seen known ≡ 0 → InLine gs ws known count time latest seen first soonest spare smallest (count * waitingWide)
   line-rest {seen} {first} {soonest} {spare} {smallest} {from} l owned few rising none =
-      kept-to-end (InLine gs ws known count time seen first soonest spare smallest) count
+      kept-to-end (InLine gs ws known count time latest seen first soonest spare smallest) count
       (λ at more k. line-skip k more owned few rising (λ z. omega (arith, none, unseen-some seen known (getD ws (at + GUEST) 0) (known-here k more owned) z)))
       (count - l .row) from (omega (arith, l .begins, l .inside)) l
 
   -- behind the last row
-  module _ {seen : List ℕ} {first soonest spare smallest from : ℕ} (l : InLine gs ws known count time seen first soonest spare smallest from) (done : count * waitingWide ≤ from) where
+  module _ {seen : List ℕ} {first soonest spare smallest from : ℕ} (l : InLine gs ws known count time latest seen first soonest spare smallest from) (done : count * waitingWide ≤ from) where
     -- every row is passed
     all-rows : l .row ≡ count
     all-rows = omega (arith, l .begins, l .inside)
 
     -- the walk answers what the reservation phase picks
-    pub line-due : Owned ws count known → Picks (dueIn gs known time) Request.rtag (waitingOf ws count) (placeIn first (count * waitingWide))
-    line-due owned = told-picks (length-rows requestForm ws count) (rw all-rows at (l .byTag)) (λ j h. due-tag ws count j h gs known time owned)
+    pub line-due : Owned ws count known → Picks (dueIn gs known time latest) Request.rtag (waitingOf ws count) (placeIn first (count * waitingWide))
+    line-due owned = told-picks (length-rows requestForm ws count) (rw all-rows at (l .byTag)) (λ j h. due-tag ws count j h gs known time latest owned)
 
     -- and what the weight phase picks
     pub line-open : SharesFit ws count → Picks (openIn time) Request.stag (waitingOf ws count) (placeIn spare (count * waitingWide))

@@ -3,7 +3,7 @@ use Prim.Native.Nat.{ℕ, _≤_, _<_, _/_, min}
 use mathlib.Core.Path.{_≡_}
 use mathlib.Core.Bool.{Bool, true, false}
 use mathlib.Core.List.{List}
-use lib.Dec.{ltb}
+use lib.Dec.{ltb, eqb}
 use lib.ListN.{length}
 use Rattle.lists.specs.Words.{if_then_else_, without}
 use Rattle.lists.specs.Tab.{removeAt}
@@ -34,13 +34,17 @@ SharesFit ws count = (k : ℕ) → k < count → waitingAt ws k STAG ≤ ceiling
 abbrev pub LimitsFit : List ℕ → (count : ℕ) → Type 0
 LimitsFit ws count = (k : ℕ) → k < count → waitingAt ws k LTAG ≤ ceiling
 
--- the time from which a request could go, by its guest's reservation and its tags, where an unlimited guest's limit tags are 0
+-- the time from which a request could go under rule 1, by its guest's reservation and its tags, where an unlimited guest's limit tags are 0
 unfoldable pub readyBy : (reservation rtag ltag : ℕ) → ℕ
 readyBy r a l = if ltb 0 r then min l a else l
 
--- the same, with the settings of its guest among these
-abbrev pub readyByTag : List Guest → Request → ℕ
-readyByTag gs q = readyBy (settingsOf gs q .reservation) (q .rtag) (q .ltag)
+-- the same under either rule
+unfoldable pub readyUnder : (rule reservation rtag ltag : ℕ) → ℕ
+readyUnder rule r a l = if eqb rule 2 then l else readyBy r a l
+
+-- and with the settings of its guest among these
+abbrev pub readyByTag : (rule : ℕ) → List Guest → Request → ℕ
+readyByTag rule gs q = readyUnder rule (settingsOf gs q .reservation) (q .rtag) (q .ltag)
 
 -- the place of the row whose numbers begin at `at`, or none where the rows that are used end before it
 unfoldable pub placeIn : (at used : ℕ) → Found

@@ -19,9 +19,9 @@ use Rattle.table.specs.View.{guestForm, requestForm, flightForm, guestsOf, wait
 use Rattle.walks.specs.Walks.{Owned, Rising, Finds}
 use Rattle.walks.specs.declared.Found.the-variants.{At, Nothing}
 
--- the test of the reservation phase, with the guests' settings read from the lent guest table
-abbrev pub dueIn : List ℕ → (known time : ℕ) → Request → Bool
-dueIn gs known time q = dueAt (settingsOf (guestsOf gs known) q) time q
+-- the test of the reservation phase, with the guests' settings read from the lent guest table and the latest limit tag that passes
+abbrev pub dueIn : List ℕ → (known time latest : ℕ) → Request → Bool
+dueIn gs known time latest q = dueAt (settingsOf (guestsOf gs known) q) time q && leb (q .ltag) latest
 
 -- the test of the weight phase, where an unlimited guest's limit tags are 0
 abbrev pub openIn : (time : ℕ) → Request → Bool
@@ -50,33 +50,43 @@ module _ (ws : List ℕ) (count k : ℕ) (here : k < count) where
   pub open-is : (time : ℕ) → waitingAt ws k LTAG ≤ time → leb ((at (waitingOf ws count) k) .ltag) time ≡ true
   open-is time l = open-at time ∙ le-leb (waitingAt ws k LTAG) time l
 
-  module _ (gs : List ℕ) (known time : ℕ) (owned : Owned ws count known) where
-    -- the row's guest and tag, and the guest's reservation, say whether the request is due
-    pub due-at : dueIn gs known time (at (waitingOf ws count) k) ≡ (ltb 0 (guestAt gs (waitingAt ws k GUEST) RESERVATION) && leb (waitingAt ws k RTAG) time)
+  module _ (gs : List ℕ) (known time latest : ℕ) (owned : Owned ws count known) where
+    -- the row's guest and tags, and the guest's reservation, say whether the request is due
+    pub due-at : dueIn gs known time latest (at (waitingOf ws count) k) ≡ (ltb 0 (guestAt gs (waitingAt ws k GUEST) RESERVATION) && leb (waitingAt ws k RTAG) time && leb (waitingAt ws k LTAG) latest)
     unfolding dueAt
     due-at =
-        ap (dueIn gs known time) (row-at requestForm ws count k here)
-        ∙ ap (λ (h : Guest). ltb 0 (h .settings .reservation) && leb (waitingAt ws k RTAG) time) (row-at guestForm gs known (waitingAt ws k GUEST) (owned k here))
+        ap (dueIn gs known time latest) (row-at requestForm ws count k here)
+        ∙ ap (λ (h : Guest). ltb 0 (h .settings .reservation) && leb (waitingAt ws k RTAG) time && leb (waitingAt ws k LTAG) latest) (row-at guestForm gs known (waitingAt ws k GUEST) (owned k here))
+
+    -- what it says that a request is due
+    pub due-parts : dueIn gs known time latest (at (waitingOf ws count) k) ≡ true
+        → (ltb 0 (guestAt gs (waitingAt ws k GUEST) RESERVATION) ≡ true) × (waitingAt ws k RTAG ≤ time) × (waitingAt ws k LTAG ≤ latest)
+    due-parts e =
+        let c = both (ltb 0 (guestAt gs (waitingAt ws k GUEST) RESERVATION) && leb (waitingAt ws k RTAG) time) (leb (waitingAt ws k LTAG) latest) (sym due-at ∙ e) in
+        let d = both (ltb 0 (guestAt gs (waitingAt ws k GUEST) RESERVATION)) (leb (waitingAt ws k RTAG) time) (c .0) in
+        (d .0, leb-true (waitingAt ws k RTAG) time (d .1), leb-true (waitingAt ws k LTAG) latest (c .1))
+
+    -- and the way back
+    pub due-is : ltb 0 (guestAt gs (waitingAt ws k GUEST) RESERVATION) ≡ true → waitingAt ws k RTAG ≤ time → waitingAt ws k LTAG ≤ latest → dueIn gs known time latest (at (waitingOf ws count) k) ≡ true
+    due-is h r l = due-at ∙ join (join h (le-leb (waitingAt ws k RTAG) time r)) (le-leb (waitingAt ws k LTAG) latest l)
 
     -- what is due has a tag below the walk's first bound
-    pub due-tag : dueIn gs known time (at (waitingOf ws count) k) ≡ true → (at (waitingOf ws count) k) .rtag < time + 1
-    due-tag e =
-        let l = both (ltb 0 (guestAt gs (waitingAt ws k GUEST) RESERVATION)) (leb (waitingAt ws k RTAG) time) (sym due-at ∙ e) .1 in
-        omega (arith, rtag-at, leb-true (waitingAt ws k RTAG) time l)
+    pub due-tag : dueIn gs known time latest (at (waitingOf ws count) k) ≡ true → (at (waitingOf ws count) k) .rtag < time + 1
+    due-tag e = omega (arith, rtag-at, due-parts e .1)
 
 -- ROWS OF ONE GUEST
 
 module _ (ws : List ℕ) (count : ℕ) where
   -- a request is due only where an earlier one of its guest is, whose tag is no larger
-  pub due-behind : (gs : List ℕ) (known time : ℕ) → Owned ws count known → Rising ws count → (j k : ℕ) → j < k → k < count → waitingAt ws j GUEST ≡ waitingAt ws k GUEST
-      → dueIn gs known time (at (waitingOf ws count) k) ≡ true
-      → (dueIn gs known time (at (waitingOf ws count) j) ≡ true) × ((at (waitingOf ws count) j) .rtag ≤ (at (waitingOf ws count) k) .rtag)
-  due-behind gs known time owned rising j k l h e d =
-      let c = both (ltb 0 (guestAt gs (waitingAt ws k GUEST) RESERVATION)) (leb (waitingAt ws k RTAG) time) (sym (due-at ws count k h gs known time owned) ∙ d) in
-      let r = rising j k l h e .0 in
+  pub due-behind : (gs : List ℕ) (known time latest : ℕ) → Owned ws count known → Rising ws count → (j k : ℕ) → j < k → k < count → waitingAt ws j GUEST ≡ waitingAt ws k GUEST
+      → dueIn gs known time latest (at (waitingOf ws count) k) ≡ true
+      → (dueIn gs known time latest (at (waitingOf ws count) j) ≡ true) × ((at (waitingOf ws count) j) .rtag ≤ (at (waitingOf ws count) k) .rtag)
+  due-behind gs known time latest owned rising j k l h e d =
+      let c = due-parts ws count k h gs known time latest owned d in
+      let r = rising j k l h e in
       let i : j < count = omega arith in (
-        due-at ws count j i gs known time owned ∙ rw e (join (c .0) (le-leb (waitingAt ws j RTAG) time (omega (arith, r, leb-true (waitingAt ws k RTAG) time (c .1))))),
-        omega (arith, r, rtag-at ws count j i, rtag-at ws count k h),
+        due-is ws count j i gs known time latest owned (rw e (c .0)) (omega (arith, r .0, c .1)) (omega (arith, r .1, c .2)),
+        omega (arith, r .0, rtag-at ws count j i, rtag-at ws count k h),
       )
 
   -- a request is open only where an earlier one of its guest is, whose share tag is no larger

@@ -33,14 +33,25 @@ pub struct Firsts {
     pub open: Found,
 }
 
-// Whether the row at `at` is of a guest with a reservation, and its reservation tag below the bound. The tag is tested first: where it is not
-// below, no guest is read.
-fn due_before(waiting: &[u64], at: usize, guests: &[u64], guest: usize, bound: u64) -> bool
+// Whether the row at `at` is of a guest with a reservation, its reservation tag below the bound, and its limit tag at or before the latest that passes.
+// The reservation tag is tested first: where it is not below, nothing else is read; and no limit where the guest has no reservation.
+fn due_before(
+    waiting: &[u64],
+    at: usize,
+    guests: &[u64],
+    guest: usize,
+    bound: u64,
+    latest: u64,
+) -> bool
     requires { ⌜ (at + waitingWide ≤ length (now waiting)) × (guest * guestWide + guestWide ≤ length (now guests)) × (guest ≤ mostGuests) ⌝ }
-    ensures { λ b. ⌜ b ≡ (ltb (getD (now (waiting .entry)) (at + RTAG) 0) bound && ltb 0 (guestAt (now (guests .entry)) guest RESERVATION)) ⌝ }
+    ensures { λ b. ⌜ b ≡ (ltb (getD (now (waiting .entry)) (at + RTAG) 0) bound && (ltb 0 (guestAt (now (guests .entry)) guest RESERVATION) && leb (getD (now (waiting .entry)) (at + LTAG) 0) latest)) ⌝ }
 {
     if waiting[at + RTAG] < bound {
-        0 < guests[guest * GUEST_WIDE + RESERVATION]
+        if 0 < guests[guest * GUEST_WIDE + RESERVATION] {
+            waiting[at + LTAG] <= latest
+        } else {
+            false
+        }
     } else {
         false
     }
@@ -81,18 +92,20 @@ fn firsts_at(first: usize, spare: usize, used: usize) -> Firsts
 
 // One walk for both phases. Only the first row of each guest is looked at: within a guest no later tag is smaller. So it ends, and reads no
 // further, once no guest is left whose first row it has not seen. A bound falls with what is found; the first one begins one above the time, so
-// that one test says due and smaller. Rows are told by where their numbers begin.
+// that one test says due and smaller. `latest` is the latest limit tag that the reservation phase lets pass: rules 1 and 2 differ in nothing else. Rows
+// are told by where their numbers begin.
 pub fn first_in_line(
     waiting: &[u64],
     count: usize,
     guests: &[u64],
     known: usize,
     time: u64,
+    latest: u64,
 ) -> Firsts
     requires { ⌜ (count ≤ mostCapacity) × (count * waitingWide ≤ length (now waiting)) × (known ≤ mostGuests) × (known * guestWide ≤ length (now guests)) ⌝ }
     requires { ⌜ Owned (now waiting) count known × Rising (now waiting) count × SharesFit (now waiting) count ⌝ }
     requires { ⌜ time ≤ ceiling ⌝ }
-    ensures { λ r. ⌜ Picks (λ q. dueAt (settingsOf (guestsOf (now (guests .entry)) known) q) time q) Request.rtag (waitingOf (now (waiting .entry)) count) (r .due) ⌝ }
+    ensures { λ r. ⌜ Picks (λ q. dueAt (settingsOf (guestsOf (now (guests .entry)) known) q) time q && leb (q .ltag) latest) Request.rtag (waitingOf (now (waiting .entry)) count) (r .due) ⌝ }
     ensures { λ r. ⌜ Picks (λ q. leb (q .ltag) time) Request.stag (waitingOf (now (waiting .entry)) count) (r .open) ⌝ }
 {
     let used = count * WAITING_WIDE;
@@ -108,7 +121,7 @@ pub fn first_in_line(
         if seen[guest] == 0 {
             seen[guest] = 1;
             left -= 1;
-            if due_before(waiting, at, guests, guest, soonest) {
+            if due_before(waiting, at, guests, guest, soonest, latest) {
                 first = at;
                 soonest = waiting[at + RTAG];
             }

@@ -15,13 +15,13 @@ ghost use Rattle.lists.specs.Words.{lowest};
 ghost use Rattle.rules.specs.Numbers.{ceiling};
 ghost use Rattle.table.specs.Columns.{RESERVATION, guestWide, RTAG, LTAG, waitingWide, mostGuests, mostCapacity, guestAt};
 ghost use Rattle.table.specs.View.{guestsOf, waitingOf};
-ghost use Rattle.walks.specs.Walks.{Owned, Rising, LimitsFit, readyBy, readyByTag};
+ghost use Rattle.walks.specs.Walks.{Owned, Rising, LimitsFit, readyBy, readyUnder, readyByTag};
 
 // One past the ceiling: no limit tag is as large.
 const PAST: u64 = CEILING + 1;
 
-// The time from which the row at `at` could go: its limit tag, or its reservation tag where that is earlier and its guest has a reservation. An
-// unlimited guest's limit tags are 0.
+// The time from which the row at `at` could go under rule 1: its limit tag, or its reservation tag where that is earlier and its guest has a reservation.
+// An unlimited guest's limit tags are 0.
 fn ready_at(waiting: &[u64], at: usize, guests: &[u64], guest: usize) -> u64
     requires { ⌜ (at + waitingWide ≤ length (now waiting)) × (guest * guestWide + guestWide ≤ length (now guests)) × (guest ≤ mostGuests) ⌝ }
     ensures { λ r. ⌜ r ≡ readyBy (guestAt (now (guests .entry)) guest RESERVATION) (getD (now (waiting .entry)) (at + RTAG) 0) (getD (now (waiting .entry)) (at + LTAG) 0) ⌝ }
@@ -38,13 +38,32 @@ fn ready_at(waiting: &[u64], at: usize, guests: &[u64], guest: usize) -> u64
     }
 }
 
+// The same under either rule: under rule 2 neither phase sends a request before its limit tag.
+fn ready_under(rule: u64, waiting: &[u64], at: usize, guests: &[u64], guest: usize) -> u64
+    requires { ⌜ (at + waitingWide ≤ length (now waiting)) × (guest * guestWide + guestWide ≤ length (now guests)) × (guest ≤ mostGuests) ⌝ }
+    ensures { λ r. ⌜ r ≡ readyUnder rule (guestAt (now (guests .entry)) guest RESERVATION) (getD (now (waiting .entry)) (at + RTAG) 0) (getD (now (waiting .entry)) (at + LTAG) 0) ⌝ }
+{
+    if rule == 2 {
+        waiting[at + LTAG]
+    } else {
+        ready_at(waiting, at, guests, guest)
+    }
+}
+
 // The time, now or later, from which the first of the waiting requests could go. Only the first row of each guest is looked at: within a guest no
 // later tag is smaller. Where one could go now, no further row is, nor once no guest is left whose first row is unseen.
-pub fn soonest(waiting: &[u64], count: usize, guests: &[u64], known: usize, time: u64) -> u64
+pub fn soonest(
+    waiting: &[u64],
+    count: usize,
+    guests: &[u64],
+    known: usize,
+    time: u64,
+    rule: u64,
+) -> u64
     requires { ⌜ (0 < count) × (count ≤ mostCapacity) × (count * waitingWide ≤ length (now waiting)) × (known ≤ mostGuests) × (known * guestWide ≤ length (now guests)) ⌝ }
     requires { ⌜ Owned (now waiting) count known × Rising (now waiting) count × LimitsFit (now waiting) count ⌝ }
     requires { ⌜ time ≤ ceiling ⌝ }
-    ensures { λ r. ⌜ r ≡ max time (lowest (map (readyByTag (guestsOf (now (guests .entry)) known)) (waitingOf (now (waiting .entry)) count))) ⌝ }
+    ensures { λ r. ⌜ r ≡ max time (lowest (map (readyByTag rule (guestsOf (now (guests .entry)) known)) (waitingOf (now (waiting .entry)) count))) ⌝ }
 {
     let used = count * WAITING_WIDE;
     let mut seen = [0u8; MOST_GUESTS];
@@ -56,7 +75,7 @@ pub fn soonest(waiting: &[u64], count: usize, guests: &[u64], known: usize, time
         if seen[guest] == 0 {
             seen[guest] = 1;
             left -= 1;
-            let ready = ready_at(waiting, at, guests, guest);
+            let ready = ready_under(rule, waiting, at, guests, guest);
             if ready <= time {
                 return time;
             }

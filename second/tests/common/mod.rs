@@ -74,15 +74,20 @@ pub fn dusty(depth: usize, guests: usize, capacity: usize, beyond: usize) -> Own
     )
 }
 
-/// Tables of just the lengths needed, opened.
+/// Tables of just the lengths needed, opened with rule 1.
 pub fn opened(depth: u64, capacity: u64, settings: &[Settings]) -> Owned {
+    opened_under(1, depth, capacity, settings)
+}
+
+pub fn opened_under(rule: u64, depth: u64, capacity: u64, settings: &[Settings]) -> Owned {
     let guests = settings.len();
     let mut owned = dusty(depth as usize, guests, capacity as usize, 0);
     let list: Vec<u64> = settings
         .iter()
         .flat_map(|s| [s.reservation, s.limit, s.shares, s.credit])
         .collect();
-    let reply = open(depth, guests as u64, capacity, &list, &mut owned.lend());
+    let count = guests as u64;
+    let reply = open(depth, count, capacity, rule, &list, &mut owned.lend());
     assert_eq!(reply.answer, Answer::Nothing);
     owned
 }

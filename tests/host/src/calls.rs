@@ -19,6 +19,7 @@ pub struct Opening {
     pub depth: u64,
     pub guests: u64,
     pub capacity: u64,
+    pub rule: u64,
     pub settings: Vec<u64>,
 }
 
@@ -81,8 +82,8 @@ fn of_library(
                 let settings = fences.settings.put(&o.settings);
                 let s = o.settings.len();
                 raw::sgq_open(
-                    gate, o.depth, o.guests, o.capacity, settings, s, guests, g, waiting, w,
-                    flight, f,
+                    gate, o.depth, o.guests, o.capacity, o.rule, settings, s, guests, g, waiting,
+                    w, flight, f,
                 )
             }
             &Call::Arrive { guest, id, time } => {
@@ -120,7 +121,10 @@ fn taken_back(call: &Call, tables: &mut Owned, fences: &mut Fences) -> Result<()
 fn of_second(call: &Call, tables: &mut Owned) -> raw::Answer {
     let mut lent = tables.lend();
     in_numbers(match call {
-        Call::Open(o) => second::open(o.depth, o.guests, o.capacity, &o.settings, &mut lent),
+        Call::Open(o) => {
+            let (depth, guests, capacity) = (o.depth, o.guests, o.capacity);
+            second::open(depth, guests, capacity, o.rule, &o.settings, &mut lent)
+        }
         &Call::Arrive { guest, id, time } => second::arrive(&mut lent, guest, id, time),
         &Call::Complete { guest, id, time } => second::complete(&mut lent, guest, id, time),
         &Call::Tick { time } => second::tick(&mut lent, time),

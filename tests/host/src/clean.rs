@@ -1,5 +1,5 @@
 //! Sound tables through many calls: a gate is opened and the events of a random trace are played on it. A trace cannot
-//! say a credit, so each guest is given one here.
+//! say a rule nor a credit, so the rule is named by who plays and each guest is given a credit here.
 
 use crate::calls::{hold, Call, Fences, Opening};
 use crate::tally::Seen;
@@ -15,8 +15,9 @@ const REST: usize = 3;
 /// How many requests wait in a fixed trace, where places at the array are free too.
 const WAITING: usize = 1_000;
 
-/// Plays the opening and the first events of a trace; gives the tables then, or what differs first.
+/// Plays the opening under a rule and the first events of a trace; gives the tables then, or what differs first.
 pub fn play(
+    rule: u64,
     kind: &str,
     seed: u64,
     most: usize,
@@ -27,7 +28,7 @@ pub fn play(
         "fixed" => fixed(WAITING, most as u64),
         _ => trace(kind, seed).ok_or("there is no such kind of trace")?,
     };
-    let opening = opening(&bytes, &mut Prng::new(seed));
+    let opening = opening(rule, &bytes, &mut Prng::new(seed));
     let events = &bytes[START_BYTES + opening.guests as usize * GUEST_BYTES..];
     let mut tables = dusty(&opening);
     let mut make = |call: &Call, number: usize| {
@@ -43,8 +44,8 @@ pub fn play(
     Ok(tables)
 }
 
-/// What the header of a good trace asks for, with any credits.
-fn opening(bytes: &[u8], rng: &mut Prng) -> Opening {
+/// What the header of a good trace asks for, under this rule and with any credits.
+fn opening(rule: u64, bytes: &[u8], rng: &mut Prng) -> Opening {
     let guests = bytes[6] as usize;
     let records = &bytes[START_BYTES..START_BYTES + guests * GUEST_BYTES];
     let row = |record: &[u8]| {
@@ -56,6 +57,7 @@ fn opening(bytes: &[u8], rng: &mut Prng) -> Opening {
         depth: bytes[5] as u64,
         guests: guests as u64,
         capacity: u16::from_le_bytes([bytes[7], bytes[8]]) as u64,
+        rule,
         settings: records.chunks_exact(GUEST_BYTES).flat_map(row).collect(),
     }
 }

@@ -2,15 +2,27 @@
 
 use crate::calls::{Call, Opening};
 use second::numbers::{CEILING, MOST_CAPACITY, MOST_CREDIT, MOST_DEPTH, MOST_GUESTS, MOST_RATE};
+use second::numbers::{RULE_1, RULE_2};
 use second::sample::{sound_tables, spoil, Owned, Prng};
 use second::tables::Flight;
 use second::tables::{
-    CREDIT, FLIGHT_NUMBERS, GATE_NUMBERS, GUEST_NUMBERS, SETTINGS_CREDIT, SETTINGS_NUMBERS,
+    CREDIT, FLIGHT_NUMBERS, GATE_NUMBERS, GUEST_NUMBERS, RULE, SETTINGS_CREDIT, SETTINGS_NUMBERS,
     WAITING_NUMBERS,
 };
 
 /// Credits at the end of their range and out of it.
 const CREDITS: [u64; 5] = [0, MOST_CREDIT, MOST_CREDIT + 1, 1 << 32, u64::MAX];
+
+/// The rules, and numbers that are none.
+const RULES: [u64; 7] = [
+    RULE_1,
+    RULE_2,
+    0,
+    RULE_2 + 1,
+    1 << 32 | 1,
+    1 << 63,
+    u64::MAX,
+];
 
 /// Tables with no damage or up to three.
 pub fn tables(rng: &mut Prng) -> Owned {
@@ -24,11 +36,12 @@ pub fn tables(rng: &mut Prng) -> Owned {
 
 /// One damage, or none that can be seen.
 pub fn damage(rng: &mut Prng, tables: &mut Owned) {
-    match rng.below(11) {
+    match rng.below(12) {
         0 => rubbish(rng, tables),
         1 => cut(rng, tables),
         2..=3 => repeat_id(rng, tables),
         4 => another_credit(rng, tables),
+        5 => tables.gate[RULE] = rng.pick(&RULES),
         _ => spoil_lent(rng, tables),
     }
 }
@@ -194,6 +207,7 @@ fn opening(rng: &mut Prng, tables: &Owned) -> Opening {
         depth: fits(tables.flight.len(), FLIGHT_NUMBERS, MOST_DEPTH),
         guests,
         capacity: fits(tables.waiting.len(), WAITING_NUMBERS, MOST_CAPACITY),
+        rule: rng.pick(&[RULE_1, RULE_2]),
         settings: (0..guests).flat_map(|_| settings(rng)).collect(),
     };
     for _ in 0..rng.pick(&[0, 1, 1, 2]) {
@@ -216,7 +230,7 @@ fn spoil_opening(rng: &mut Prng, opening: &mut Opening) {
     // The most guests are as many as the most depth.
     let out = [0, MOST_DEPTH + 1, MOST_CAPACITY + 1, u64::MAX, 1 << 32 | 1];
     let listed = opening.settings.len();
-    match rng.below(11) {
+    match rng.below(13) {
         0 => opening.depth = rng.pick(&out),
         1 => opening.guests = rng.pick(&out),
         2 => opening.capacity = rng.pick(&out),
@@ -226,7 +240,8 @@ fn spoil_opening(rng: &mut Prng, opening: &mut Opening) {
         5 => opening.capacity += 1,
         6 => opening.settings.truncate(listed.saturating_sub(1)),
         7 => opening.settings.push(rng.sized(64)),
-        8 if listed >= SETTINGS_NUMBERS => {
+        8..=9 => opening.rule = rng.pick(&RULES),
+        10 if listed >= SETTINGS_NUMBERS => {
             let row = rng.below((listed / SETTINGS_NUMBERS) as u64) as usize;
             opening.settings[row * SETTINGS_NUMBERS + SETTINGS_CREDIT] = rng.pick(&CREDITS);
         }

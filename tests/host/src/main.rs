@@ -14,6 +14,7 @@ mod fence;
 mod tally;
 
 use calls::{broken_rule, hold, Fences};
+use second::numbers::{RULE_1, RULE_2};
 use second::sample::{Owned, Prng};
 use second::Rule;
 use sgq::Refusal;
@@ -33,7 +34,8 @@ const BATCHES: usize = 3;
 /// How many of the refusals single calls give: those behind them are a batch's.
 const SINGLE: usize = 10;
 
-/// Kinds of traces for clean runs, how many of each, and how many events at most. The large ones come last.
+/// Kinds of traces for clean runs, how many of each, and how many events at most. The large ones come last. Each is
+/// played under both rules for limits.
 const RUNS: [(&str, usize, usize); 5] = [
     ("small", 60, 400),
     ("ceiling", 60, 400),
@@ -98,22 +100,39 @@ fn four_calls(
 }
 
 fn clean(first: u64, fences: &mut Fences, tally: &mut Tally) {
-    let mut seen = Seen::default();
-    let mut last = Err(String::new());
-    for (kind, runs, most) in RUNS {
-        for seed in (first..).take(runs) {
-            fence::playing(seed);
-            last = clean::play(kind, seed, most, fences, &mut seen);
-            let result = last.as_ref().map(|_| ()).map_err(String::clone);
-            tally.add(&format!("{kind} trace of seed {seed}"), result);
-        }
-    }
-    println!("clean runs: {} calls", seen.calls);
-    seen.print();
-    if let Ok(large) = last {
+    let (mut seen_1, mut seen_2) = (Seen::default(), Seen::default());
+    let mut last = clean_under(RULE_1, first, fences, &mut seen_1, tally);
+    last = last.and(clean_under(RULE_2, first, fences, &mut seen_2, tally));
+    let same = || "both rules sent as many requests in each phase".to_string();
+    let differ = seen_1.sends() != seen_2.sends();
+    tally.add("the two rules", differ.then_some(()).ok_or_else(same));
+    if let Some(large) = last {
         damaged_large(first, &large, fences, tally);
         batched_large(first, &large, fences, tally);
     }
+}
+
+/// The clean runs under one rule; gives the tables at the end of the last.
+fn clean_under(
+    rule: u64,
+    first: u64,
+    fences: &mut Fences,
+    seen: &mut Seen,
+    tally: &mut Tally,
+) -> Option<Owned> {
+    let mut last = None;
+    for (kind, runs, most) in RUNS {
+        for seed in (first..).take(runs) {
+            fence::playing(seed);
+            let played = clean::play(rule, kind, seed, most, fences, seen);
+            let name = format!("{kind} trace of seed {seed}, rule {rule}");
+            tally.add(&name, played.as_ref().map(|_| ()).map_err(String::clone));
+            last = played.ok();
+        }
+    }
+    println!("clean runs under rule {rule}: {} calls", seen.calls);
+    seen.print();
+    last
 }
 
 /// The tables at the end of a large run, each time with one damage.

@@ -53,6 +53,12 @@ impl Seen {
         self.refusals.get(&refusal.number()).copied().unwrap_or(0)
     }
 
+    /// How many were sent by reservation, and how many by weight.
+    pub fn sends(&self) -> [u64; 2] {
+        let [_, reservation, weight] = self.kinds;
+        [reservation, weight]
+    }
+
     pub fn print(&self) {
         let [nothing, reservation, weight] = self.kinds;
         println!("  nothing {nothing}, sent by reservation {reservation}, by weight {weight}");

@@ -34,7 +34,7 @@ returns c =
     let a = c .before .before .before .before .before .before .before .before .before .before .before .before .before .before .before .before .before .before .before .before .before .args in
     let p = c .before .before .before .before .before .before .before .before .before .before .before .before .before .before .before .before .before .before .before .before .before .pre in
     let o = c .before .before .before .before .before .before .before .open in
-    let e = o .ensures ∙ ap (λ ss. seen (opened (a .depth) (a .known) (a .capacity) ss (a .guests .now) (a .waiting .now) (a .flight .now))) (c .before .before .before .before .before .before .before .before .before .before .before .before .before .before .read-settings .ensures) in (
+    let e = o .ensures ∙ ap (λ ss. seen (opened (a .depth) (a .known) (a .capacity) 1 ss (a .guests .now) (a .waiting .now) (a .flight .now))) (c .before .before .before .before .before .before .before .before .before .before .before .before .before .before .read-settings .ensures) in (
       opening-became (a .bytes .now) (a .settings .now) (a .guests .now) (a .waiting .now) (a .flight .now) (a .depth) (a .known) (a .capacity) (p .0) (p .1) (o .result) _ _ _ e,
       opening-shows (a .bytes .now) (a .settings .now) (a .guests .now) (a .waiting .now) (a .flight .now) (a .depth) (a .known) (a .capacity) (p .0) (p .1) (o .result) _ _ _ e,
     )

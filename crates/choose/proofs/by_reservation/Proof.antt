@@ -5,9 +5,12 @@ use borrow.Author.Needs.{needs}
 use Rattle.choose.proofs.by_reservation.Statement.{statement}
 use Rattle.choose.proofs.by_reservation.Tie as tie
 
+latest-limit-requires : tie.Need-latest-limit-requires
+latest-limit-requires c κs = search needs
+
 first-in-line-requires : tie.Need-first-in-line-requires
 first-in-line-requires c κs =
-    let s = c .before .before .before .before .before in
+    let s = c .before .before .before .before .before .before in
     line-asks (s .args .gate) (s .args .guests .now) (s .args .waiting .now) (s .args .flight .now) (s .pre .0)
 
 enum-known-found : tie.Need-enum-known-found
@@ -15,32 +18,35 @@ enum-known-found c = search needs
 
 send-requires : tie.Need-send-requires
 send-requires c κs =
-    let s = c .before .before .before .before .before .before .before .before .before .before .before in
+    let s = c .before .before .before .before .before .before .before .before .before .before .before .before in
     let w = c .before .before .before .before .before .first-in-line in
+    let l = c .before .before .before .before .before .before .before .before .latest-limit .ensures in
     let f = c .before .before .before .found .given in
-    send-asks (s .args .gate) (s .args .guests .now) (s .args .waiting .now) (s .args .flight .now) (s .pre .0) (s .pre .1) (f .0 .0) (due-here (s .args .gate) (s .args .guests .now) (s .args .waiting .now) (s .args .flight .now) (s .pre .0) (s .pre .1) (w .result .due) (f .0 .0) (w .ensures .0) (f .1))
+    send-asks (s .args .gate) (s .args .guests .now) (s .args .waiting .now) (s .args .flight .now) (s .pre .0) (s .pre .1) (f .0 .0) (due-here (s .args .gate) (s .args .guests .now) (s .args .waiting .now) (s .args .flight .now) (s .pre .0) (s .pre .1) _ l (w .result .due) (f .0 .0) (w .ensures .0) (f .1))
 
 cast-id : tie.Need-cast-id
 cast-id c =
-    let s = c .before .before .before .before .before .before .before .before .before .before .before .before .before .before .before .before .before in
+    let s = c .before .before .before .before .before .before .before .before .before .before .before .before .before .before .before .before .before .before in
     let w = c .before .before .before .before .before .before .before .before .before .before .before .first-in-line in
+    let l = c .before .before .before .before .before .before .before .before .before .before .before .before .before .before .latest-limit .ensures in
     let f = c .before .before .before .before .before .before .before .before .before .found .given in
     let n = c .before .before .before .before .before .send in
-    omega (arith, narrow-id (s .args .gate) (s .args .guests .now) (s .args .waiting .now) (s .args .flight .now) (s .pre .0) (f .0 .0) (due-here (s .args .gate) (s .args .guests .now) (s .args .waiting .now) (s .args .flight .now) (s .pre .0) (s .pre .1) (w .result .due) (f .0 .0) (w .ensures .0) (f .1)) (n .result) (n .ensures .1 .1))
+    omega (arith, narrow-id (s .args .gate) (s .args .guests .now) (s .args .waiting .now) (s .args .flight .now) (s .pre .0) (f .0 .0) (due-here (s .args .gate) (s .args .guests .now) (s .args .waiting .now) (s .args .flight .now) (s .pre .0) (s .pre .1) _ l (w .result .due) (f .0 .0) (w .ensures .0) (f .1)) (n .result) (n .ensures .1 .1))
 
 sent-requires : tie.Need-sent-requires
 sent-requires c κs =
-    let s = c .before .before .before .before .before .before .before .before .before .before .before .before .before .before .before .before .before in
+    let s = c .before .before .before .before .before .before .before .before .before .before .before .before .before .before .before .before .before .before in
     let w = c .before .before .before .before .before .before .before .before .before .before .before .first-in-line in
+    let l = c .before .before .before .before .before .before .before .before .before .before .before .before .before .before .latest-limit .ensures in
     let f = c .before .before .before .before .before .before .before .before .before .found .given in
-    sent-asks (s .args .gate) (s .args .guests .now) (s .args .waiting .now) (s .args .flight .now) (s .pre .0) (s .pre .1) (f .0 .0) (due-here (s .args .gate) (s .args .guests .now) (s .args .waiting .now) (s .args .flight .now) (s .pre .0) (s .pre .1) (w .result .due) (f .0 .0) (w .ensures .0) (f .1))
+    sent-asks (s .args .gate) (s .args .guests .now) (s .args .waiting .now) (s .args .flight .now) (s .pre .0) (s .pre .1) (f .0 .0) (due-here (s .args .gate) (s .args .guests .now) (s .args .waiting .now) (s .args .flight .now) (s .pre .0) (s .pre .1) _ l (w .result .due) (f .0 .0) (w .ensures .0) (f .1))
 
 enum-told : tie.Need-enum-told
 enum-told c = search needs
 
 by-weight-requires : tie.Need-by-weight-requires
 by-weight-requires c κs =
-    let s = c .before .before .before .before .before .before .before .before .before .before .before in
+    let s = c .before .before .before .before .before .before .before .before .before .before .before .before in
     (s .pre .0, (s .pre .1, c .before .before .before .before .before .first-in-line .ensures .1))
 
 same-length : tie.Need-same-length
@@ -54,11 +60,12 @@ same-length-3 c = search needs
 
 returns : tie.Need-returns
 returns c =
-    let s = c .before .before .before .before .before .before .before .before .before .before .before .before .before .before .before .before .before .before in
+    let s = c .before .before .before .before .before .before .before .before .before .before .before .before .before .before .before .before .before .before .before in
     let w = c .before .before .before .before .before .before .before .before .before .before .before .before .first-in-line in
+    let l = c .before .before .before .before .before .before .before .before .before .before .before .before .before .before .before .latest-limit .ensures in
     let f = c .before .before .before .before .before .before .before .before .before .before .found .given in
     let n = c .before .before .before .before .before .before .send in
-    reservation-returns (s .args .gate) (s .args .guests .now) (s .args .waiting .now) (s .args .flight .now) (s .pre .0) (s .pre .1) (w .result .due) (f .0 .0) (w .ensures .0) (f .1) (n .result) _ _ _ (n .ensures .0) (n .ensures .1 .0) (n .ensures .1 .1) (c .sent .ensures)
+    reservation-returns (s .args .gate) (s .args .guests .now) (s .args .waiting .now) (s .args .flight .now) (s .pre .0) (s .pre .1) _ l (w .result .due) (f .0 .0) (w .ensures .0) (f .1) (n .result) _ _ _ (n .ensures .0) (n .ensures .1 .0) (n .ensures .1 .1) (c .sent .ensures)
 
 same-length-4 : tie.Need-same-length-4
 same-length-4 c = search needs
@@ -71,15 +78,17 @@ same-length-6 c = search needs
 
 returns-2 : tie.Need-returns-2
 returns-2 c =
-    let s = c .before .before .before .before .before .before .before .before .before .before .before .before .before .before .before .before .before .before in
+    let s = c .before .before .before .before .before .before .before .before .before .before .before .before .before .before .before .before .before .before .before in
     let w = c .before .before .before .before .before .before .before .before .before .before .before .before .first-in-line in
+    let l = c .before .before .before .before .before .before .before .before .before .before .before .before .before .before .before .latest-limit .ensures in
     let b = c .before .before .before .before .before .before .by-weight in
-    none-due (s .args .gate) (s .args .guests .now) (s .args .waiting .now) (s .args .flight .now) (s .pre .0) (s .pre .1) (w .result .due) (w .ensures .0) (c .before .before .before .before .before .before .before .before .before .before .enum-told .given .1) (b .ensures)
+    none-due (s .args .gate) (s .args .guests .now) (s .args .waiting .now) (s .args .flight .now) (s .pre .0) (s .pre .1) _ l (w .result .due) (w .ensures .0) (c .before .before .before .before .before .before .before .before .before .before .enum-told .given .1) (b .ensures)
 
 pub by-reservation-spec : {M : Type 1} → statement M
 by-reservation-spec =
     tie.close
     (tie.spec
+    latest-limit-requires
     first-in-line-requires
     enum-known-found
     send-requires

@@ -35,12 +35,12 @@ returns c = search needs
 returns-2 : tie.Need-returns-2
 returns-2 c =
     let s = c .before .before .before .before .before .before in
-    (c .five-of2 .ensures, c .before .gate-over .ensures ∙ ap (λ (x : Answer). written x (s .args .outcome .gate) (s .args .six .now)) (sym (c .before .before .before .enum-told2 .given .1)))
+    (c .five-of2 .ensures, c .before .gate-over .ensures ∙ ap (λ (x : Answer). written x (s .args .outcome .gate) (s .args .seven .now)) (sym (c .before .before .before .enum-told2 .given .1)))
 
 returns-3 : tie.Need-returns-3
 returns-3 c =
     let s = c .before .before .before .before .before .before in
-    (c .five-of3 .ensures, c .before .gate-over2 .ensures ∙ ap (λ (x : Answer). written x (s .args .outcome .gate) (s .args .six .now)) (sym (c .before .before .before .enum-told3 .given .1)))
+    (c .five-of3 .ensures, c .before .gate-over2 .ensures ∙ ap (λ (x : Answer). written x (s .args .outcome .gate) (s .args .seven .now)) (sym (c .before .before .before .enum-told3 .given .1)))
 
 pub hand-back-spec : {M : Type 1} → statement M
 hand-back-spec =

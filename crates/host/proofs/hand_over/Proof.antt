@@ -1,4 +1,4 @@
--- A batch that is refused as a whole leaves the six numbers. Assumes nothing.
+-- A batch that is refused as a whole leaves the seven numbers. Assumes nothing.
 use mathlib.Core.Path.{sym, ap, _∙_}
 use Rattle.gate.specs.declared.numbers.Judged.{Judged}
 use Rattle.batch.specs.Promise.{foundOf}
@@ -24,7 +24,7 @@ returns c =
     let s = c .before .before .before .before .before in
     let p = c .before .before .found .given .1 in (
       c .number .ensures ∙ ap foundOf (sym p),
-      ap (λ (j : Judged). foundWritten j (s .args .done .gate) (s .args .six .now)) (sym p),
+      ap (λ (j : Judged). foundWritten j (s .args .done .gate) (s .args .seven .now)) (sym p),
     )
 
 returns-2 : tie.Need-returns-2
@@ -32,7 +32,7 @@ returns-2 c =
     let s = c .before .before .before .before .before in
     let p = c .before .before .enum-told .given .1 in (
       ap foundOf (sym p),
-      c .gate-over .ensures ∙ ap (λ (j : Judged). foundWritten j (s .args .done .gate) (s .args .six .now)) (sym p),
+      c .gate-over .ensures ∙ ap (λ (j : Judged). foundWritten j (s .args .done .gate) (s .args .seven .now)) (sym p),
     )
 
 pub hand-over-spec : {M : Type 1} → statement M

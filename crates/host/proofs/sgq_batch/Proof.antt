@@ -1,4 +1,4 @@
--- The batch over numbers at the gate that the six numbers are. Assumes nothing.
+-- The batch over numbers at the gate that the seven numbers are. Assumes nothing.
 use Rattle.host.proofs.Batches.{batch-returned}
 use borrow.Author.Needs.{needs}
 use Rattle.host.proofs.sgq_batch.Statement.{statement}
@@ -30,7 +30,7 @@ returns c =
     let s = c .before .before .before .before .before .before .before .before .before .before .before .before .before .before .before .before .before .before .before .before .before .before .args in
     let b = c .before .before .before .before .before .before .before .before .before .before .call in
     let o = c .hand-over in
-    batch-returned (s .events .now) (s .six .now) _ (c .before .before .before .before .before .before .before .before .before .before .before .before .before .before .before .gate-in .result) (c .before .before .before .before .before .before .before .before .before .before .before .before .before .before .before .gate-in .ensures) (s .guests .now) (s .waiting .now) (s .flight .now) (s .answers .now) (o .result) (b .result, _, _, _, _) (b .ensures) (o .ensures .0) (o .ensures .1)
+    batch-returned (s .events .now) (s .seven .now) _ (c .before .before .before .before .before .before .before .before .before .before .before .before .before .before .before .gate-in .result) (c .before .before .before .before .before .before .before .before .before .before .before .before .before .before .before .gate-in .ensures) (s .guests .now) (s .waiting .now) (s .flight .now) (s .answers .now) (o .result) (b .result, _, _, _, _) (b .ensures) (o .ensures .0) (o .ensures .1)
 
 pub sgq-batch-spec : {M : Type 1} → statement M
 sgq-batch-spec =

@@ -22,7 +22,7 @@ same-length-3 c = search needs
 returns : tie.Need-returns
 returns c =
     let s = c .before .before .before .before .before .before .before .before .before .before .before .before .before .before .before .before in
-    returned (s .args .six .now) _ (c .hand-back .result) (c .before .before .before .before .before .before .before .before .open .result, _, _, _) (opened (s .args .depth) (s .args .known) (s .args .capacity) (s .args .settings .now) (s .args .guests .now) (s .args .waiting .now) (s .args .flight .now)) (c .before .before .before .before .before .before .before .before .open .ensures) (c .hand-back .ensures .0) (c .hand-back .ensures .1)
+    returned (s .args .seven .now) _ (c .hand-back .result) (c .before .before .before .before .before .before .before .before .open .result, _, _, _) (opened (s .args .depth) (s .args .known) (s .args .capacity) (s .args .rule) (s .args .settings .now) (s .args .guests .now) (s .args .waiting .now) (s .args .flight .now)) (c .before .before .before .before .before .before .before .before .open .ensures) (c .hand-back .ensures .0) (c .hand-back .ensures .1)
 
 pub sgq-open-spec : {M : Type 1} → statement M
 sgq-open-spec =

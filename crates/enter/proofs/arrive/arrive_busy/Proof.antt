@@ -46,7 +46,7 @@ returns-2 c =
     let w = c .before .before .before .before .before .before .before .before .before .tags-of in
     let fits = sym (c .before .before .before .before .before .before .before .before .stamp-fits .ensures) ∙ not-false _ (c .before .before .before .before .before .before .before .if1 .left) in
     ready-enters (s .args .gate) (s .args .guests .now) (s .args .waiting .now) (s .args .flight .now) (s .pre .0) (s .args .what) (s .args .time) (s .pre .1 .0) false (s .pre .1 .1) (w .result) (w .ensures) fits refl (s .args .guests .now) (s .args .waiting .now)
-    (busy-guests (s .args .gate) (s .args .guests .now) (s .args .waiting .now) (s .args .flight .now) (s .pre .0) (s .args .time)) (busy-waiting (s .args .gate) (s .args .guests .now) (s .args .waiting .now) (s .args .flight .now) (s .pre .0) (s .args .time)) (omega arith) _ _ _ (c .before .before .before .before .place .ensures)
+    (busy-guests (s .args .gate) (s .args .guests .now) (s .args .waiting .now) (s .args .flight .now) (s .pre .0) (s .args .time)) (busy-waiting (s .args .gate) (s .args .guests .now) (s .args .waiting .now) (s .args .flight .now) (s .pre .0) (s .args .time)) (omega (arith, s .good .1 .1 .1 .1 .0)) _ _ _ (c .before .before .before .before .place .ensures)
 
 pub arrive-busy-spec : {M : Type 1} → statement M
 arrive-busy-spec =

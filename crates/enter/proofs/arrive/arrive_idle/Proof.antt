@@ -96,7 +96,7 @@ returns-3 c =
     let moves = move-within (s .args .gate) (s .args .guests .now) (s .args .waiting .now) (s .args .flight .now) (s .pre .0) (s .args .time) (s .pre .1 .0 .timely .late) _ _ (n .0) (n .1) (c .before .before .before .before .before .before .before .before .before .before .before .before .before .before .if2 .left) in
     ready-enters (s .args .gate) (s .args .guests .now) (s .args .waiting .now) (s .args .flight .now) (s .pre .0) (s .args .what) (s .args .time) (s .pre .1 .0) true (s .pre .1 .1) (w .result) (w .ensures) fits moves _ _
     (settled-guests (s .args .gate) (s .args .guests .now) (s .args .waiting .now) (s .args .flight .now) (s .pre .0) (s .args .time) (s .pre .1 .0 .timely .late) _ (n .0) _ (d .0))
-    (settled-waiting (s .args .gate) (s .args .guests .now) (s .args .waiting .now) (s .args .flight .now) (s .pre .0) (s .args .time) (s .pre .1 .0 .timely .late) _ (n .0) _ (d .1)) (omega arith) _ _ _ (c .before .before .before .before .place .ensures)
+    (settled-waiting (s .args .gate) (s .args .guests .now) (s .args .waiting .now) (s .args .flight .now) (s .pre .0) (s .args .time) (s .pre .1 .0 .timely .late) _ (n .0) _ (d .1)) (omega (arith, s .good .1 .1 .1 .1 .0)) _ _ _ (c .before .before .before .before .place .ensures)
 
 pub arrive-idle-spec : {M : Type 1} → statement M
 arrive-idle-spec =

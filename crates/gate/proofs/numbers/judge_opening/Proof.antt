@@ -1,5 +1,5 @@
 use native.Mathlib.Omega.{arith}
-use Rattle.gate.proofs.OpenReturns.{counts-bad, list-short, tables-short, settings-bad, opening-good, known-few}
+use Rattle.gate.proofs.OpenReturns.{counts-bad, rule-bad, list-short, tables-short, settings-bad, opening-good, known-few}
 use borrow.Author.Needs.{needs}
 use Rattle.gate.proofs.numbers.judge_opening.Statement.{statement}
 use Rattle.gate.proofs.numbers.judge_opening.Tie as tie
@@ -12,34 +12,42 @@ returns c =
     let s = c .before .before .before .before .before .before in
     counts-bad (s .args .gate) (s .args .settings .now) (s .args .guests .now) (s .args .waiting .now) (s .args .flight .now) _ (c .before .is-countable .ensures) (c .if1 .taken)
 
-mul-if2 : tie.Need-mul-if2
-mul-if2 c = omega (arith, known-few (c .before .before .before .before .before .before .args .gate) _ (c .before .is-countable .ensures) (c .if1 .left))
+is-ruled-requires : tie.Need-is-ruled-requires
+is-ruled-requires c κs = search needs
 
 returns-2 : tie.Need-returns-2
 returns-2 c =
-    let s = c .before .before .before .before .before .before .before in
-    list-short (s .args .gate) (s .args .settings .now) (s .args .guests .now) (s .args .waiting .now) (s .args .flight .now) _ (c .before .before .is-countable .ensures) (c .before .if1 .left) (c .if2 .taken)
+    let s = c .before .before .before .before .before .before .before .before in
+    rule-bad (s .args .gate) (s .args .settings .now) (s .args .guests .now) (s .args .waiting .now) (s .args .flight .now) _ (c .before .before .before .is-countable .ensures) (c .before .before .if1 .left) _ (c .before .is-ruled .ensures) (c .if2 .taken)
 
-is-short-requires : tie.Need-is-short-requires
-is-short-requires c κs = search needs
+mul-if3 : tie.Need-mul-if3
+mul-if3 c = omega (arith, known-few (c .before .before .before .before .before .before .before .before .args .gate) _ (c .before .before .before .is-countable .ensures) (c .before .before .if1 .left))
 
 returns-3 : tie.Need-returns-3
 returns-3 c =
     let s = c .before .before .before .before .before .before .before .before .before in
-    tables-short (s .args .gate) (s .args .settings .now) (s .args .guests .now) (s .args .waiting .now) (s .args .flight .now) _ (c .before .before .before .before .is-countable .ensures) (c .before .before .before .if1 .left) (c .before .before .if2 .left) _ (c .before .is-short .ensures) (c .if3 .taken)
+    list-short (s .args .gate) (s .args .settings .now) (s .args .guests .now) (s .args .waiting .now) (s .args .flight .now) _ (c .before .before .before .before .is-countable .ensures) (c .before .before .before .if1 .left) _ (c .before .before .is-ruled .ensures) (c .before .if2 .left) (c .if3 .taken)
 
-all-settled-list-requires : tie.Need-all-settled-list-requires
-all-settled-list-requires c κs = omega (arith, c .before .before .if2 .left)
+is-short-requires : tie.Need-is-short-requires
+is-short-requires c κs = search needs
 
 returns-4 : tie.Need-returns-4
 returns-4 c =
     let s = c .before .before .before .before .before .before .before .before .before .before .before in
-    settings-bad (s .args .gate) (s .args .settings .now) (s .args .guests .now) (s .args .waiting .now) (s .args .flight .now) _ (c .before .before .before .before .before .before .is-countable .ensures) (c .before .before .before .before .before .if1 .left) (c .before .before .before .before .if2 .left) _ (c .before .before .before .is-short .ensures) (c .before .before .if3 .left) _ (c .before .all-settled-list .ensures) (c .if4 .taken)
+    tables-short (s .args .gate) (s .args .settings .now) (s .args .guests .now) (s .args .waiting .now) (s .args .flight .now) _ (c .before .before .before .before .before .before .is-countable .ensures) (c .before .before .before .before .before .if1 .left) _ (c .before .before .before .before .is-ruled .ensures) (c .before .before .before .if2 .left) (c .before .before .if3 .left) _ (c .before .is-short .ensures) (c .if4 .taken)
+
+all-settled-list-requires : tie.Need-all-settled-list-requires
+all-settled-list-requires c κs = omega (arith, c .before .before .if3 .left)
 
 returns-5 : tie.Need-returns-5
 returns-5 c =
-    let s = c .before .before .before .before .before .before .before .before .before .before .before in
-    opening-good (s .args .gate) (s .args .settings .now) (s .args .guests .now) (s .args .waiting .now) (s .args .flight .now) _ (c .before .before .before .before .before .before .is-countable .ensures) (c .before .before .before .before .before .if1 .left) (c .before .before .before .before .if2 .left) _ (c .before .before .before .is-short .ensures) (c .before .before .if3 .left) _ (c .before .all-settled-list .ensures) (c .if4 .left)
+    let s = c .before .before .before .before .before .before .before .before .before .before .before .before .before in
+    settings-bad (s .args .gate) (s .args .settings .now) (s .args .guests .now) (s .args .waiting .now) (s .args .flight .now) _ (c .before .before .before .before .before .before .before .before .is-countable .ensures) (c .before .before .before .before .before .before .before .if1 .left) _ (c .before .before .before .before .before .before .is-ruled .ensures) (c .before .before .before .before .before .if2 .left) (c .before .before .before .before .if3 .left) _ (c .before .before .before .is-short .ensures) (c .before .before .if4 .left) _ (c .before .all-settled-list .ensures) (c .if5 .taken)
+
+returns-6 : tie.Need-returns-6
+returns-6 c =
+    let s = c .before .before .before .before .before .before .before .before .before .before .before .before .before in
+    opening-good (s .args .gate) (s .args .settings .now) (s .args .guests .now) (s .args .waiting .now) (s .args .flight .now) _ (c .before .before .before .before .before .before .before .before .is-countable .ensures) (c .before .before .before .before .before .before .before .if1 .left) _ (c .before .before .before .before .before .before .is-ruled .ensures) (c .before .before .before .before .before .if2 .left) (c .before .before .before .before .if3 .left) _ (c .before .before .before .is-short .ensures) (c .before .before .if4 .left) _ (c .before .all-settled-list .ensures) (c .if5 .left)
 
 pub judge-opening-spec : {M : Type 1} → statement M
 judge-opening-spec =
@@ -47,10 +55,12 @@ judge-opening-spec =
     (tie.spec
     is-countable-requires
     returns
-    mul-if2
+    is-ruled-requires
     returns-2
-    is-short-requires
+    mul-if3
     returns-3
-    all-settled-list-requires
+    is-short-requires
     returns-4
-    returns-5)
+    all-settled-list-requires
+    returns-5
+    returns-6)

@@ -12,23 +12,35 @@ mul-if1 c = search needs
 shared-slice-read-if1 : tie.Need-shared-slice-read-if1
 shared-slice-read-if1 c = search needs
 
-mul-result : tie.Need-mul-result
-mul-result c = search needs
+mul-if2 : tie.Need-mul-if2
+mul-if2 c = search needs
+
+add-if2 : tie.Need-add-if2
+add-if2 c = search needs
+
+mul-if2-2 : tie.Need-mul-if2-2
+mul-if2-2 c = search needs
+
+shared-slice-read-if2 : tie.Need-shared-slice-read-if2
+shared-slice-read-if2 c = search needs
 
 add-result : tie.Need-add-result
 add-result c = search needs
 
-mul-result-2 : tie.Need-mul-result-2
-mul-result-2 c = search needs
+mul-result : tie.Need-mul-result
+mul-result c = search needs
 
 shared-slice-read-result : tie.Need-shared-slice-read-result
 shared-slice-read-result c = search needs
 
 returns : tie.Need-returns
-returns c = rw (lt-ltb _ _ (c .before .if1 .taken))
+returns c = rw (lt-ltb _ _ (c .before .before .before .if1 .taken), lt-ltb _ _ (c .before .if2 .taken))
 
 returns-2 : tie.Need-returns-2
-returns-2 c = rw (le-ltb _ _ (c .if1 .left))
+returns-2 c = rw (lt-ltb _ _ (c .before .before .if1 .taken), le-ltb _ _ (c .if2 .left))
+
+returns-3 : tie.Need-returns-3
+returns-3 c = rw (le-ltb _ _ (c .if1 .left))
 
 pub due-before-spec : {M : Type 1} → statement M
 due-before-spec =
@@ -37,9 +49,13 @@ due-before-spec =
     add-if1
     mul-if1
     shared-slice-read-if1
-    mul-result
+    mul-if2
+    add-if2
+    mul-if2-2
+    shared-slice-read-if2
     add-result
-    mul-result-2
+    mul-result
     shared-slice-read-result
     returns
-    returns-2)
+    returns-2
+    returns-3)

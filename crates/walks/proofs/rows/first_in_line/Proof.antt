@@ -13,11 +13,11 @@ use Rattle.walks.proofs.rows.first_in_line.Statement.{statement}
 use Rattle.walks.proofs.rows.first_in_line.Tie as tie
 
 abbrev Inv-loop : tie.InvT-loop
-Inv-loop waiting count guests known time used seen₀ first₀ soonest₀ spare₀ smallest₀ left₀ at₀ seen first soonest spare smallest left at =
-    InLine guests waiting known count time seen first soonest spare smallest at × (unseen seen known ≤ left)
+Inv-loop waiting count guests known time latest used seen₀ first₀ soonest₀ spare₀ smallest₀ left₀ at₀ seen first soonest spare smallest left at =
+    InLine guests waiting known count time latest seen first soonest spare smallest at × (unseen seen known ≤ left)
 
 abbrev μ-loop : tie.MeasureT-loop
-μ-loop waiting count guests known time used seen₀ first₀ soonest₀ spare₀ smallest₀ left₀ at₀ seen first soonest spare smallest left at = used - at
+μ-loop waiting count guests known time latest used seen₀ first₀ soonest₀ spare₀ smallest₀ left₀ at₀ seen first soonest spare smallest left at = used - at
 
 mul-used : tie.Need-mul-used Inv-loop μ-loop
 mul-used c = omega arith
@@ -28,7 +28,7 @@ add-soonest c = omega arith
 loop-holds : tie.Need-loop-holds Inv-loop μ-loop
 loop-holds c =
     let a = c .before .before .args in
-    (line-start (a .guests .now) (a .waiting .now) (a .known) (a .count) (a .time), unseen-most _ (a .known))
+    (line-start (a .guests .now) (a .waiting .now) (a .known) (a .count) (a .time) (a .latest), unseen-most _ (a .known))
 
 add-guest : tie.Need-add-guest Inv-loop μ-loop
 add-guest c = omega arith
@@ -43,13 +43,13 @@ array-read-if1 : tie.Need-array-read-if1 Inv-loop μ-loop
 array-read-if1 c =
     let start = c .before .before .before .before .before in
     let a = start .args in
-    omega (arith, known-here (a .guests .now) (a .waiting .now) (a .known) (a .count) (a .time) (c .before .before .loop .inv .0) (c .before .loop-test .taken) (start .pre .1 .0 .0))
+    omega (arith, known-here (a .guests .now) (a .waiting .now) (a .known) (a .count) (a .time) (a .latest) (c .before .before .loop .inv .0) (c .before .loop-test .taken) (start .pre .1 .0 .0))
 
 array-write-seen : tie.Need-array-write-seen Inv-loop μ-loop
 array-write-seen c =
     let start = c .before .before .before .before .before .before in
     let a = start .args in
-    omega (arith, known-here (a .guests .now) (a .waiting .now) (a .known) (a .count) (a .time) (c .before .before .before .loop .inv .0) (c .before .before .loop-test .taken) (start .pre .1 .0 .0))
+    omega (arith, known-here (a .guests .now) (a .waiting .now) (a .known) (a .count) (a .time) (a .latest) (c .before .before .before .loop .inv .0) (c .before .before .loop-test .taken) (start .pre .1 .0 .0))
 
 sub-left : tie.Need-sub-left Inv-loop μ-loop
 sub-left c =
@@ -57,13 +57,13 @@ sub-left c =
     let s = turn .before .loop in
     let start = turn .before .before .before .before in
     let a = start .args in
-    omega (arith, s .inv .1, unseen-some (s .seen) (a .known) _ (known-here (a .guests .now) (a .waiting .now) (a .known) (a .count) (a .time) (s .inv .0) (turn .loop-test .taken) (start .pre .1 .0 .0)) (c .if1 .taken))
+    omega (arith, s .inv .1, unseen-some (s .seen) (a .known) _ (known-here (a .guests .now) (a .waiting .now) (a .known) (a .count) (a .time) (a .latest) (s .inv .0) (turn .loop-test .taken) (start .pre .1 .0 .0)) (c .if1 .taken))
 
 due-before-requires : tie.Need-due-before-requires Inv-loop μ-loop
 due-before-requires c κs =
     let start = c .before .before .before .before .before .before in
     let a = start .args in
-    let k = known-here (a .guests .now) (a .waiting .now) (a .known) (a .count) (a .time) (c .before .before .before .loop .inv .0) (c .before .before .loop-test .taken) (start .pre .1 .0 .0) in
+    let k = known-here (a .guests .now) (a .waiting .now) (a .known) (a .count) (a .time) (a .latest) (c .before .before .before .loop .inv .0) (c .before .before .loop-test .taken) (start .pre .1 .0 .0) in
     (omega (arith, c .before .before .before .loop .inv .0 .begins), omega (arith, k), omega (arith, k))
 
 add-soonest-2 : tie.Need-add-soonest-2 Inv-loop μ-loop
@@ -93,7 +93,7 @@ First c =
     let s = c .before .before .before .before .before .before .before .loop in
     let a = c .before .before .before .before .before .before .before .before .before .before .args in
     let seen = set (s .seen) (getD (a .waiting .now) (s .at + GUEST) 0) 1 in
-    InLine (a .guests .now) (a .waiting .now) (a .known) (a .count) (a .time) seen (c .before .before .if2 .first) (c .before .before .if2 .soonest) (c .if3 .spare) (c .if3 .smallest) (s .at + waitingWide)
+    InLine (a .guests .now) (a .waiting .now) (a .known) (a .count) (a .time) (a .latest) seen (c .before .before .if2 .first) (c .before .before .if2 .soonest) (c .if3 .spare) (c .if3 .smallest) (s .at + waitingWide)
     × (unseen seen (a .known) ≤ s .left - 1)
 
 first-row : (c : tie.Joined3 Inv-loop μ-loop) → First c
@@ -106,16 +106,16 @@ first-row c =
     let g = a .guests .now in
     let more = turn .loop-test .taken in
     let owned = start .pre .1 .0 .0 in
-    let k = known-here g w (a .known) (a .count) (a .time) (s .inv .0) more owned in
+    let k = known-here g w (a .known) (a .count) (a .time) (a .latest) (s .inv .0) more owned in
     let marked = unseen-mark (s .seen) (a .known) (getD w (s .at + GUEST) 0) k (omega (arith, k, s .inv .0 .marks .long)) (c .before .before .before .before .if1 .taken) in (
-      line-next g w (a .known) (a .count) (a .time) (s .inv .0) more
+      line-next g w (a .known) (a .count) (a .time) (a .latest) (s .inv .0) more
           (⊎-elim
-          (λ u. rw (u .2, u .3) (due-take g w (a .known) (a .count) (a .time) (s .inv .0) more owned (sym (c .before .before .before .due-before .ensures) ∙ u .0 .taken)))
-          (λ u. rw (u .1, u .2) (due-pass g w (a .known) (a .count) (a .time) (s .inv .0) more owned (sym (c .before .before .before .due-before .ensures) ∙ u .0 .left)))
+          (λ u. rw (u .2, u .3) (due-take g w (a .known) (a .count) (a .time) (a .latest) (s .inv .0) more owned (sym (c .before .before .before .due-before .ensures) ∙ u .0 .taken)))
+          (λ u. rw (u .1, u .2) (due-pass g w (a .known) (a .count) (a .time) (a .latest) (s .inv .0) more owned (sym (c .before .before .before .due-before .ensures) ∙ u .0 .left)))
           (c .before .before .if2 .came))
           (⊎-elim
-          (λ u. rw (u .2, u .3) (open-take g w (a .known) (a .count) (a .time) (s .inv .0) more (sym (c .before .open-before .ensures) ∙ u .0 .taken)))
-          (λ u. rw (u .1, u .2) (open-pass g w (a .known) (a .count) (a .time) (s .inv .0) more (sym (c .before .open-before .ensures) ∙ u .0 .left)))
+          (λ u. rw (u .2, u .3) (open-take g w (a .known) (a .count) (a .time) (a .latest) (s .inv .0) more (sym (c .before .open-before .ensures) ∙ u .0 .taken)))
+          (λ u. rw (u .1, u .2) (open-pass g w (a .known) (a .count) (a .time) (a .latest) (s .inv .0) more (sym (c .before .open-before .ensures) ∙ u .0 .left)))
           (c .if3 .came)),
       omega (arith, marked, s .inv .1),
     )
@@ -130,9 +130,9 @@ returns c =
     let a = start .args in
     let pre = start .pre .1 .0 in
     let one = first-row row in
-    let last = line-rest (a .guests .now) (a .waiting .now) (a .known) (a .count) (a .time) (one .0) (pre .0) (start .pre .0 .2) (pre .1) (omega (arith, one .1, c .before .if4 .taken)) in (
-      rw (c .firsts-at .ensures .0) (line-due (a .guests .now) (a .waiting .now) (a .known) (a .count) (a .time) last (omega arith) (pre .0)),
-      rw (c .firsts-at .ensures .1) (line-open (a .guests .now) (a .waiting .now) (a .known) (a .count) (a .time) last (omega arith) (pre .2)),
+    let last = line-rest (a .guests .now) (a .waiting .now) (a .known) (a .count) (a .time) (a .latest) (one .0) (pre .0) (start .pre .0 .2) (pre .1) (omega (arith, one .1, c .before .if4 .taken)) in (
+      rw (c .firsts-at .ensures .0) (line-due (a .guests .now) (a .waiting .now) (a .known) (a .count) (a .time) (a .latest) last (omega arith) (pre .0)),
+      rw (c .firsts-at .ensures .1) (line-open (a .guests .now) (a .waiting .now) (a .known) (a .count) (a .time) (a .latest) last (omega arith) (pre .2)),
     )
 
 add-at : tie.Need-add-at Inv-loop μ-loop
@@ -150,7 +150,7 @@ loop-again c =
     ⊎-elim
     (λ v. rw (v .6, v .7, v .8, v .9, v .10, v .11) (first-row (record { before = record { before = record { before = record { before = record { before = c .before; if1 = v .0 }; «due-before» = v .1 }; if2 = v .2 }; «open-before» = v .3 }; if3 = v .4 })))
     (λ v. rw (v .1, v .2, v .3, v .4, v .5, v .6)
-    (line-skip (a .guests .now) (a .waiting .now) (a .known) (a .count) (a .time) (s .inv .0) (turn .loop-test .taken) (start .pre .1 .0 .0) (start .pre .0 .2) (start .pre .1 .0 .1) (v .0 .left), s .inv .1))
+    (line-skip (a .guests .now) (a .waiting .now) (a .known) (a .count) (a .time) (a .latest) (s .inv .0) (turn .loop-test .taken) (start .pre .1 .0 .0) (start .pre .0 .2) (start .pre .1 .0 .1) (v .0 .left), s .inv .1))
     (c .if1 .came)
 
 firsts-at-requires-2 : tie.Need-firsts-at-requires-2 Inv-loop μ-loop
@@ -162,8 +162,8 @@ returns-2 c =
     let start = c .before .before .before .before .before in
     let a = start .args in
     let done = c .before .loop-test .left in (
-      rw (c .firsts-at2 .ensures .0) (line-due (a .guests .now) (a .waiting .now) (a .known) (a .count) (a .time) (s .inv .0) done (start .pre .1 .0 .0)),
-      rw (c .firsts-at2 .ensures .1) (line-open (a .guests .now) (a .waiting .now) (a .known) (a .count) (a .time) (s .inv .0) done (start .pre .1 .0 .2)),
+      rw (c .firsts-at2 .ensures .0) (line-due (a .guests .now) (a .waiting .now) (a .known) (a .count) (a .time) (a .latest) (s .inv .0) done (start .pre .1 .0 .0)),
+      rw (c .firsts-at2 .ensures .1) (line-open (a .guests .now) (a .waiting .now) (a .known) (a .count) (a .time) (a .latest) (s .inv .0) done (start .pre .1 .0 .2)),
     )
 
 pub first-in-line-spec : {M : Type 1} → statement M

@@ -11,10 +11,10 @@ use Rattle.walks.proofs.wake.soonest.Statement.{statement}
 use Rattle.walks.proofs.wake.soonest.Tie as tie
 
 abbrev Inv-loop : tie.InvT-loop
-Inv-loop waiting count guests known time used seen₀ first₀ left₀ at₀ seen first left at = InReady guests waiting known count time seen first at × (unseen seen known ≤ left)
+Inv-loop waiting count guests known time rule used seen₀ first₀ left₀ at₀ seen first left at = InReady guests waiting known count time rule seen first at × (unseen seen known ≤ left)
 
 abbrev μ-loop : tie.MeasureT-loop
-μ-loop waiting count guests known time used seen₀ first₀ left₀ at₀ seen first left at = used - at
+μ-loop waiting count guests known time rule used seen₀ first₀ left₀ at₀ seen first left at = used - at
 
 mul-used : tie.Need-mul-used Inv-loop μ-loop
 mul-used c = omega arith
@@ -23,7 +23,7 @@ loop-holds : tie.Need-loop-holds Inv-loop μ-loop
 loop-holds c =
     let start = c .before .before in
     let a = start .args in
-    (ready-start (a .guests .now) (a .waiting .now) (a .known) (a .count) (a .time) (start .pre .1 .1), unseen-most _ (a .known))
+    (ready-start (a .guests .now) (a .waiting .now) (a .known) (a .count) (a .time) (a .rule) (start .pre .1 .1), unseen-most _ (a .known))
 
 add-guest : tie.Need-add-guest Inv-loop μ-loop
 add-guest c = omega arith
@@ -38,13 +38,13 @@ array-read-if1 : tie.Need-array-read-if1 Inv-loop μ-loop
 array-read-if1 c =
     let start = c .before .before .before .before .before in
     let a = start .args in
-    omega (arith, ready-known (a .guests .now) (a .waiting .now) (a .known) (a .count) (a .time) (c .before .before .loop .inv .0) (c .before .loop-test .taken) (start .pre .1 .0 .0))
+    omega (arith, ready-known (a .guests .now) (a .waiting .now) (a .known) (a .count) (a .time) (a .rule) (c .before .before .loop .inv .0) (c .before .loop-test .taken) (start .pre .1 .0 .0))
 
 array-write-seen : tie.Need-array-write-seen Inv-loop μ-loop
 array-write-seen c =
     let start = c .before .before .before .before .before .before in
     let a = start .args in
-    omega (arith, ready-known (a .guests .now) (a .waiting .now) (a .known) (a .count) (a .time) (c .before .before .before .loop .inv .0) (c .before .before .loop-test .taken) (start .pre .1 .0 .0))
+    omega (arith, ready-known (a .guests .now) (a .waiting .now) (a .known) (a .count) (a .time) (a .rule) (c .before .before .before .loop .inv .0) (c .before .before .loop-test .taken) (start .pre .1 .0 .0))
 
 sub-left : tie.Need-sub-left Inv-loop μ-loop
 sub-left c =
@@ -52,13 +52,13 @@ sub-left c =
     let s = turn .before .loop in
     let start = turn .before .before .before .before in
     let a = start .args in
-    omega (arith, s .inv .1, unseen-some (s .seen) (a .known) _ (ready-known (a .guests .now) (a .waiting .now) (a .known) (a .count) (a .time) (s .inv .0) (turn .loop-test .taken) (start .pre .1 .0 .0)) (c .if1 .taken))
+    omega (arith, s .inv .1, unseen-some (s .seen) (a .known) _ (ready-known (a .guests .now) (a .waiting .now) (a .known) (a .count) (a .time) (a .rule) (s .inv .0) (turn .loop-test .taken) (start .pre .1 .0 .0)) (c .if1 .taken))
 
-ready-at-requires : tie.Need-ready-at-requires Inv-loop μ-loop
-ready-at-requires c κs =
+ready-under-requires : tie.Need-ready-under-requires Inv-loop μ-loop
+ready-under-requires c κs =
     let start = c .before .before .before .before .before .before in
     let a = start .args in
-    let k = ready-known (a .guests .now) (a .waiting .now) (a .known) (a .count) (a .time) (c .before .before .before .loop .inv .0) (c .before .before .loop-test .taken) (start .pre .1 .0 .0) in
+    let k = ready-known (a .guests .now) (a .waiting .now) (a .known) (a .count) (a .time) (a .rule) (c .before .before .before .loop .inv .0) (c .before .before .loop-test .taken) (start .pre .1 .0 .0) in
     (omega (arith, c .before .before .before .loop .inv .0 .begins), omega (arith, k), omega (arith, k))
 
 returns : tie.Need-returns Inv-loop μ-loop
@@ -66,7 +66,7 @@ returns c =
     let start = c .before .before .before .before .before .before .before .before in
     let turn = c .before .before .before .before in
     let a = start .args in
-    ready-now (a .guests .now) (a .waiting .now) (a .known) (a .count) (a .time) (turn .before .loop .inv .0) (turn .loop-test .taken) (start .pre .1 .0 .0) _ (c .before .ready-at .ensures) (c .if2 .taken)
+    ready-now (a .guests .now) (a .waiting .now) (a .known) (a .count) (a .time) (a .rule) (turn .before .loop .inv .0) (turn .loop-test .taken) (start .pre .1 .0 .0) _ (c .before .ready-under .ensures) (c .if2 .taken)
 
 -- a row that is the first of its guest: the walk stands one row on, with one guest less to see
 abbrev First : tie.Joined3 Inv-loop μ-loop → Type 0
@@ -74,7 +74,7 @@ First c =
     let s = c .before .before .before .before .before .before .loop in
     let a = c .before .before .before .before .before .before .before .before .before .args in
     let seen = set (s .seen) (getD (a .waiting .now) (s .at + GUEST) 0) 1 in
-    InReady (a .guests .now) (a .waiting .now) (a .known) (a .count) (a .time) seen (c .if3 .first) (s .at + waitingWide) × (unseen seen (a .known) ≤ s .left - 1)
+    InReady (a .guests .now) (a .waiting .now) (a .known) (a .count) (a .time) (a .rule) seen (c .if3 .first) (s .at + waitingWide) × (unseen seen (a .known) ≤ s .left - 1)
 
 first-row : (c : tie.Joined3 Inv-loop μ-loop) → First c
 first-row c =
@@ -86,11 +86,11 @@ first-row c =
     let g = a .guests .now in
     let more = turn .loop-test .taken in
     let owned = start .pre .1 .0 .0 in
-    let k = ready-known g w (a .known) (a .count) (a .time) (s .inv .0) more owned in
+    let k = ready-known g w (a .known) (a .count) (a .time) (a .rule) (s .inv .0) more owned in
     let marked = unseen-mark (s .seen) (a .known) (getD w (s .at + GUEST) 0) k (omega (arith, k, s .inv .0 .marks .long)) (c .before .before .before .if1 .taken) in (
       ⊎-elim
-          (λ u. rw (u .1) (ready-take g w (a .known) (a .count) (a .time) (s .inv .0) more owned _ (c .before .before .ready-at .ensures) (c .before .if2 .left) (u .0 .taken)))
-          (λ u. rw (u .1) (ready-pass g w (a .known) (a .count) (a .time) (s .inv .0) more owned _ (c .before .before .ready-at .ensures) (u .0 .left)))
+          (λ u. rw (u .1) (ready-take g w (a .known) (a .count) (a .time) (a .rule) (s .inv .0) more owned _ (c .before .before .ready-under .ensures) (c .before .if2 .left) (u .0 .taken)))
+          (λ u. rw (u .1) (ready-pass g w (a .known) (a .count) (a .time) (a .rule) (s .inv .0) more owned _ (c .before .before .ready-under .ensures) (u .0 .left)))
           (c .if3 .came),
       omega (arith, marked, s .inv .1),
     )
@@ -102,8 +102,8 @@ returns-2 c =
     let a = start .args in
     let pre = start .pre .1 .0 in
     let one = first-row row in
-    ready-end (a .guests .now) (a .waiting .now) (a .known) (a .count) (a .time)
-    (ready-rest (a .guests .now) (a .waiting .now) (a .known) (a .count) (a .time) (one .0) (pre .0) (start .pre .0 .3) (pre .1) (omega (arith, one .1, c .if4 .taken)))
+    ready-end (a .guests .now) (a .waiting .now) (a .known) (a .count) (a .time) (a .rule)
+    (ready-rest (a .guests .now) (a .waiting .now) (a .known) (a .count) (a .time) (a .rule) (one .0) (pre .0) (start .pre .0 .3) (pre .1) (omega (arith, one .1, c .if4 .taken)))
     (omega arith) (start .pre .0 .0) (pre .0) (pre .2)
 
 add-at : tie.Need-add-at Inv-loop μ-loop
@@ -119,16 +119,16 @@ loop-again c =
     let start = turn .before .before .before .before in
     let a = start .args in
     ⊎-elim
-    (λ v. rw (v .5, v .6, v .7) (first-row (record { before = record { before = record { before = record { before = c .before; if1 = v .0 }; «ready-at» = v .1 }; if2 = v .2 }; if3 = v .3 })))
+    (λ v. rw (v .5, v .6, v .7) (first-row (record { before = record { before = record { before = record { before = c .before; if1 = v .0 }; «ready-under» = v .1 }; if2 = v .2 }; if3 = v .3 })))
     (λ v. rw (v .1, v .2, v .3)
-    (ready-skip (a .guests .now) (a .waiting .now) (a .known) (a .count) (a .time) (s .inv .0) (turn .loop-test .taken) (start .pre .1 .0 .0) (start .pre .0 .3) (start .pre .1 .0 .1) (v .0 .left), s .inv .1))
+    (ready-skip (a .guests .now) (a .waiting .now) (a .known) (a .count) (a .time) (a .rule) (s .inv .0) (turn .loop-test .taken) (start .pre .1 .0 .0) (start .pre .0 .3) (start .pre .1 .0 .1) (v .0 .left), s .inv .1))
     (c .if1 .came)
 
 returns-3 : tie.Need-returns-3 Inv-loop μ-loop
 returns-3 c =
     let start = c .before .before .before .before in
     let a = start .args in
-    ready-end (a .guests .now) (a .waiting .now) (a .known) (a .count) (a .time) (c .before .loop .inv .0) (c .loop-test .left) (start .pre .0 .0) (start .pre .1 .0 .0) (start .pre .1 .0 .2)
+    ready-end (a .guests .now) (a .waiting .now) (a .known) (a .count) (a .time) (a .rule) (c .before .loop .inv .0) (c .loop-test .left) (start .pre .0 .0) (start .pre .1 .0 .0) (start .pre .1 .0 .2)
 
 pub soonest-spec : {M : Type 1} → statement M
 soonest-spec =
@@ -144,7 +144,7 @@ soonest-spec =
     array-read-if1
     array-write-seen
     sub-left
-    ready-at-requires
+    ready-under-requires
     returns
     returns-2
     add-at
