@@ -2,8 +2,8 @@
  *
  * The gate holds the requests of 1 to 64 guests for one disc array and decides, after each event, whether one goes to
  * the array: at most one. Events are an arrival (guest, id, time), a completion (guest, id, time) and a tick (time),
- * one in a call or up to 256. Each answer also says when to tick. The rules are document 01's; words in quotes are that
- * document's own, where no other is named.
+ * one in a call or up to 256. Each answer also says when to tick. The rules are document 01's, as document 02 has
+ * changed them; words in quotes are document 01's own, where no other is named.
  *
  * The library keeps nothing between calls. The host lends it the gate and three tables at each call, and must not
  * change them in between: every call tests that they are sound and refuses with a number where they are not. "Every

@@ -40,7 +40,7 @@ pub enum Answer {
     Nothing,
     /// This request goes to the array now. It need not be the one that arrived.
     Sent {
-        /// By which rule it was chosen.
+        /// In which phase it was chosen.
         phase: Phase,
         /// The guest's number, from 0.
         guest: u64,
@@ -53,7 +53,7 @@ pub enum Answer {
 #[derive(Clone, Copy, Debug, PartialEq, Eq, Hash)]
 pub enum Phase {
     /// "of the waiting requests with a reservation tag at or before t, the one with the smallest, ties to the earlier
-    /// accepted. The limit is not looked at."
+    /// accepted"; under [`crate::Rule::Two`] of those of them that are unlimited or have a limit tag at or before t.
     Reservation,
     /// "of those that are unlimited or have a limit tag at or before t, the one with the smallest share tag, same tie
     /// rule."

@@ -2,8 +2,8 @@
 //!
 //! The gate holds the requests of 1 to 64 guests for one disc array and decides, after each event, whether one goes to
 //! the array: at most one. Up to 256 events go in one call. Each answer also says when to tick. [`Gate`] owns the tables
-//! that the library is lent; its methods are the library's calls. The rules are document 01's; words in quotes are that
-//! document's own, where no other is named.
+//! that the library is lent; its methods are the library's calls. The rules are document 01's, as
+//! document 02 has changed them; words in quotes are document 01's own, where no other is named.
 //!
 //! ```
 //! use sgq::{Answer, Gate, Outcome, Phase, Refusal, Rule, Settings};
