@@ -1,6 +1,7 @@
 -- The promises are kept: the one inhabitant of Promises.antt. Assumes nothing.
 use mathlib.Core.Path.{sym, _∙_}
 use Rattle.rules.proofs.Arrived.{step-described, step-once}
+use Rattle.rules.proofs.Chosen.{due-means, open-means}
 use Rattle.rules.proofs.StepSound.{step-sound}
 use Rattle.rules.proofs.TurnAt.{demand-3-places, no-place-no-send}
 use Rattle.rules.proofs.Readings.{readings}
@@ -46,6 +47,8 @@ rules-kept =
     record {
       described = step-described;
       once = step-once;
+      due-means = due-means;
+      open-means = open-means;
       sound-kept = step-sound;
       demand-3 = demand-3-places;
       no-place-no-send = no-place-no-send;

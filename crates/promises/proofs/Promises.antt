@@ -8,12 +8,12 @@ use mathlib.Core.Logic.{_↔_, _⊎_}
 use lib.ListN.{length, take, drop}
 use Rattle.lists.specs.Words.{if_then_else_, all}
 use Rattle.rules.specs.Numbers.{tagAt}
-use Rattle.rules.specs.Tables.{Table, owner}
+use Rattle.rules.specs.Tables.{Request, Table, owner}
 use Rattle.rules.specs.Sound.{sound}
 use Rattle.rules.specs.Answers.{shown, taken}
-use Rattle.rules.specs.Choice.{Result}
+use Rattle.rules.specs.Choice.{Result, due, open?}
 use Rattle.rules.specs.Events.{moment, shareTag, enter}
-use Rattle.rules.specs.Chosen.{Chosen}
+use Rattle.rules.specs.Chosen.{Chosen, Due, Open}
 use Rattle.rules.specs.Arrived.{Entered}
 use Rattle.rules.specs.Refusals.{accept, judged, accepted}
 use Rattle.rules.specs.Refused.{RefusedExactly, NoneHolds, callCases, openCases}
@@ -77,6 +77,8 @@ use Rattle.book.proofs.Sums.{WaitsAre}
 pub record OnTheRules : Type 0 where
   pub described : (t : Table) (e : Event) → accepted t e ≡ true → (u : Table) × Entered t e u × Chosen u (step t e)
   pub once : (t : Table) (e : Event) (u : Table) (r : Result) → accepted t e ≡ true → Entered t e u → Chosen u r → r ≡ step t e
+  pub due-means : (t : Table) (q : Request) → (due t q ≡ true) ↔ Due t q
+  pub open-means : (t : Table) (q : Request) → (open? t q ≡ true) ↔ Open t q
   pub sound-kept : (t : Table) (e : Event) → sound t ≡ true → sound (step t e .table) ≡ true
   pub demand-3 : (t : Table) (i : ℕ) (es : List Event) → sound t ≡ true → TurnKept t i (atFree t es)
   pub no-place-no-send : (t : Table) (e : Event) → accepted t e ≡ true → findsRoom t e ≡ false → step t e .answer ≡ Nothing
