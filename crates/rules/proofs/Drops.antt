@@ -11,7 +11,7 @@ use borrow.Author.Tests.{eqb-true, eqb-false}
 use Rattle.lists.specs.Words.{if_then_else_, all}
 use Rattle.lists.specs.WordsLaws.{all-map, map-same, map-on, map-id, filter-map, filter-passes}
 use Rattle.rules.specs.Tables.{Request, Flight, Table, nobodys, owner, of, mine, name, names}
-use Rattle.rules.specs.Sound.{lawful}
+use Rattle.rules.specs.Sound.{lawful, priced}
 use Rattle.rules.specs.Choice.{earlier, sooner, dropOf, dropped}
 use Rattle.rules.proofs.Facts.{lawful-is, is-lawful}
 
@@ -42,6 +42,12 @@ module _ (p : Request) (u : Table) where
         | false ↦ h
       ]
 
+  -- and its cost
+  lower-priced : (q : Request) → priced q ≡ true → priced (lower q) ≡ true
+  unfolding earlier
+  lower-priced q h =
+      elim (of (p .guest) q) as (λ b. priced (if b then earlier (dropOf u p) q else q) ≡ true) [ true ↦ h | false ↦ h ]
+
   -- the requests of guest g
   mine-lower : (g : ℕ) → mine g ((dropped p u) .waiting) ≡ map lower (mine g (u .waiting))
   unfolding dropped
@@ -71,6 +77,11 @@ module _ (p : Request) (u : Table) where
   pub dropped-lawful : all lawful (u .waiting) ≡ true → all lawful ((dropped p u) .waiting) ≡ true
   unfolding dropped
   dropped-lawful h = all-map lawful lawful lower lower-lawful (u .waiting) h
+
+  -- no cost changes
+  pub dropped-priced : all priced (u .waiting) ≡ true → all priced ((dropped p u) .waiting) ≡ true
+  unfolding dropped
+  dropped-priced h = all-map priced priced lower lower-priced (u .waiting) h
 
   -- the ids of a guest, in order of acceptance
   pub dropped-ids : (g : ℕ) → map Request.id (mine g ((dropped p u) .waiting)) ≡ map Request.id (mine g (u .waiting))

@@ -35,6 +35,7 @@ pub mod Trials
 pub mod Answered
 pub mod Guards
 pub mod Bursts
+pub mod Costs
 pub mod InFlight
 pub mod Credit
 pub mod Arrived
