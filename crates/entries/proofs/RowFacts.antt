@@ -8,13 +8,14 @@ use lib.ListN.{getD}
 use borrow.Author.Tests.{ltb-true}
 use Rattle.lists.specs.WordsLaws.{both, all-at}
 use Rattle.lists.specs.RowsLaws.{row-at, length-rows}
-use Rattle.rules.specs.Numbers.{ceiling}
+use Rattle.rules.specs.Numbers.{ceiling, mostCost}
 use Rattle.rules.specs.Tables.{Request, name}
-use Rattle.rules.specs.Sound.{lawful}
+use Rattle.rules.specs.Sound.{lawful, priced}
 use Rattle.rules.specs.Refused.{Good}
 use Rattle.rules.proofs.Facts.{Lawful, lawful-is}
+use Rattle.rules.proofs.Spacings.{fair-is}
 use Rattle.rules.proofs.Conditions.{settled-good}
-use Rattle.table.specs.Columns.{RESERVATION, LIMIT, SHARES, CREDIT, GUEST, ID, RTAG, guestAt, waitingAt}
+use Rattle.table.specs.Columns.{RESERVATION, LIMIT, SHARES, CREDIT, GUEST, ID, COST, RTAG, guestAt, waitingAt}
 use Rattle.table.specs.View.{guestForm, requestForm, guestsOf, waitingOf}
 use Rattle.entries.specs.Tests.{settingsAre, settledGuest, named}
 use Rattle.entries.specs.Kinds.{Tested}
@@ -40,6 +41,10 @@ tag-is ws count (suc (suc (suc n))) i k h = absurd (omega arith)
 -- and so is its guest
 pub owner-is : (ws : List ℕ) (count i : ℕ) → i < count → (getD (waitingOf ws count) i (requestForm .read [])) .guest ≡ waitingAt ws i GUEST
 owner-is ws count i h = ap Request.guest (row-at requestForm ws count i h)
+
+-- and its cost
+pub cost-is : (ws : List ℕ) (count i : ℕ) → i < count → (getD (waitingOf ws count) i (requestForm .read [])) .cost ≡ waitingAt ws i COST
+cost-is ws count i h = ap Request.cost (row-at requestForm ws count i h)
 
 module _ (gs : List ℕ) (known : ℕ) (ws : List ℕ) (count : ℕ) (t : Tested gs known ws count) where
   -- a guest's settings lie in their ranges
@@ -69,3 +74,9 @@ module _ (gs : List ℕ) (known : ℕ) (ws : List ℕ) (count : ℕ) (t : Tested
       let q = getD (waitingOf ws count) i (requestForm .read []) in
       let s = lawful-is q (all-at lawful (waitingOf ws count) (requestForm .read []) (t .isLawful) i (omega (arith, length-rows requestForm ws count))) in
       rw (tag-is ws count kind i k h) at (lawful-tag kind q s k)
+
+  -- and its cost at most 64
+  pub cost-low : (i : ℕ) → i < count → waitingAt ws i COST ≤ mostCost
+  cost-low i h =
+      let q = getD (waitingOf ws count) i (requestForm .read []) in
+      rw (cost-is ws count i h) at (fair-is (q .cost) (all-at priced (waitingOf ws count) (requestForm .read []) (t .isPriced) i (omega (arith, length-rows requestForm ws count))) .1)
