@@ -8,13 +8,13 @@ use lib.Dec.{ltb}
 use lib.ListN.{length, getD, set, replicate}
 use borrow.Author.Tests.{ltb-true}
 use Rattle.lists.specs.Words.{all, below}
-use Rattle.lists.specs.WordsLaws.{all-filter}
+use Rattle.lists.specs.WordsLaws.{both-all, all-filter}
 use Rattle.lists.specs.Walks.{below-ext, below-fails, below-three}
 use Rattle.lists.specs.RowsLaws.{row-at, length-rows}
 use Rattle.rules.specs.Numbers.{second, mostCost, down, up}
 use Rattle.rules.specs.Tables.{Request, owner, of, mine}
 use Rattle.rules.specs.declared.Guest.{Guest}
-use Rattle.rules.specs.Sound.{priced, kept, orderly}
+use Rattle.rules.specs.Sound.{lawful, priced, kept, orderly}
 use Rattle.rules.proofs.Spacings.{no-down, no-up, cost-le}
 use Rattle.table.specs.Columns.{RESERVATION, LIMIT, SHARES, GUEST, COST, RTAG, mostGuests, guestAt, waitingAt}
 use Rattle.table.specs.View.{guestForm, requestForm, guestsOf, waitingOf}
@@ -68,7 +68,7 @@ module _ (gs : List ℕ) (known : ℕ) (ws : List ℕ) (count : ℕ) (t : Tested
     whole-is : (g : ℕ) → g < known → whole (tagOf kind) (waitingOf ws count) gaps (nextAt gs kind) known g ≡ keptAll gs known ws count kind g
     whole-is g h =
         ap (λ (d : ℕ). run (tagOf kind) d 0 (mine g (waitingOf ws count)) (nextAt gs kind g)) (spaced .gap g h)
-        ∙ kept-is kind g three h (mine g (waitingOf ws count)) (all-filter priced (of g) (waitingOf ws count) (t .isPriced))
+        ∙ kept-is kind g three h (mine g (waitingOf ws count)) (all-filter priced (of g) (waitingOf ws count) (both-all lawful priced (waitingOf ws count) (t .isFit) .1))
 
     -- a gap of a guest that exists is no large number
     gap-small : (g : ℕ) → g < known → getD gaps g 0 ≤ second

@@ -9,10 +9,10 @@ use Rattle.lists.specs.Words.{if_then_else_, all}
 use Rattle.rules.specs.Numbers.{down, up, idleBound}
 use Rattle.rules.specs.Tables.{Request, reserved, limited, rspacing, lspacing, sspacing, owner, mine, name}
 use Rattle.rules.specs.declared.Guest.{Guest}
-use Rattle.rules.specs.Sound.{lawful, priced, kept}
+use Rattle.rules.specs.Sound.{kept}
 use Rattle.table.specs.Columns.{LIMIT, SHARES, RNEXT, guestWide, waitingWide, mostGuests, guestAt}
 use Rattle.table.specs.View.{guestsOf, waitingOf}
-use Rattle.entries.specs.Tests.{settledGuest, named}
+use Rattle.entries.specs.Tests.{settledGuest, named, fits}
 
 -- the tag x may stand where the gap is d, which is 0 where the guest lacks the kind, and the tag before it asks for at least f
 abbrev pub passes : (d f x : ℕ) → Bool
@@ -59,8 +59,7 @@ pub record Tested (gs : List ℕ) (known : ℕ) (ws : List ℕ) (count : ℕ) : 
   pub waitingRoom : count * waitingWide ≤ length ws
   pub isSettled : all settledGuest (guestsOf gs known) ≡ true
   pub isNamed : all (λ q. named known (name q)) (waitingOf ws count) ≡ true
-  pub isLawful : all lawful (waitingOf ws count) ≡ true
-  pub isPriced : all priced (waitingOf ws count) ≡ true
+  pub isFit : all fits (waitingOf ws count) ≡ true
 
 -- one kind of guest g is in order, by the numbers of both tables
 abbrev pub keptAll : (gs : List ℕ) (known : ℕ) (ws : List ℕ) (count kind : ℕ) → ℕ → Bool
