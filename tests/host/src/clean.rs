@@ -1,10 +1,12 @@
 //! Sound tables through many calls: a gate is opened and the events of a random trace are played on it. A trace cannot
-//! say a rule nor a credit, so the rule is named by who plays and each guest is given a credit here.
+//! say a rule, a credit or a cost, so the rule is named by who plays, and each guest is given a credit here and each
+//! arrival a cost.
 
 use crate::calls::{hold, Call, Fences, Opening};
+use crate::damage::cost;
 use crate::tally::Seen;
 use second::kinds::{fixed, trace};
-use second::numbers::MOST_CREDIT;
+use second::numbers::{MOST_COST, MOST_CREDIT};
 use second::sample::{Owned, Prng};
 use second::tables::{FLIGHT_NUMBERS, GATE_NUMBERS, GUEST_NUMBERS, WAITING_NUMBERS};
 use second::trace::{settings_of, Event, EVENT_BYTES, GUEST_BYTES, START_BYTES};
@@ -28,7 +30,8 @@ pub fn play(
         "fixed" => fixed(WAITING, most as u64),
         _ => trace(kind, seed).ok_or("there is no such kind of trace")?,
     };
-    let opening = opening(rule, &bytes, &mut Prng::new(seed));
+    let (mut rng, dearest) = (Prng::new(seed), dearest(kind, seed));
+    let opening = opening(rule, &bytes, &mut rng);
     let events = &bytes[START_BYTES + opening.guests as usize * GUEST_BYTES..];
     let mut tables = dusty(&opening);
     let mut make = |call: &Call, number: usize| {
@@ -39,7 +42,7 @@ pub fn play(
     };
     make(&Call::Open(opening), 0)?;
     for (number, event) in events.chunks_exact(EVENT_BYTES).take(most).enumerate() {
-        make(&call(event), number + 1)?;
+        make(&call(event, dearest, &mut rng), number + 1)?;
     }
     Ok(tables)
 }
@@ -71,11 +74,27 @@ fn dusty(opening: &Opening) -> Owned {
     )
 }
 
-fn call(bytes: &[u8]) -> Call {
+/// The most that a request costs in a run. Where many cost much, limits let few of them go, so in some runs all cost
+/// little or 1; in the large ones they cost anything.
+fn dearest(kind: &str, seed: u64) -> u64 {
+    match (kind, seed % 3) {
+        ("large", _) | (_, 0) => MOST_COST,
+        (_, 1) => 4,
+        _ => 1,
+    }
+}
+
+/// The call that an event of a trace is; an arrival costs up to so much, a few of them what none may.
+fn call(bytes: &[u8], dearest: u64, rng: &mut Prng) -> Call {
     let event = Event::from_bytes(bytes.try_into().expect("a whole event"));
     let (guest, id, time) = (event.guest as u64, event.id, event.time);
     match event.kind {
-        0 => Call::Arrive { guest, id, time },
+        0 => Call::Arrive {
+            guest,
+            id,
+            time,
+            cost: cost(rng, 4, dearest),
+        },
         1 => Call::Complete { guest, id, time },
         _ => Call::Tick { time },
     }
