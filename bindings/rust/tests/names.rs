@@ -258,6 +258,9 @@ fn rules_at_opening() {
     }
 }
 
+/// The share spacing of one share.
+const SECOND: u64 = 1_000_000_000;
+
 /// A kept cost is a part of what makes a table sound, and the next number follows it.
 #[test]
 fn costs_in_an_open_table() {
@@ -274,7 +277,6 @@ fn costs_in_an_open_table() {
         let (g, w, f) = (GUEST_NUMBERS, REQUEST_NUMBERS, FLIGHT_NUMBERS);
         tick_of(gate, guest, request, g, w, f)
     };
-    const SECOND: u64 = 1_000_000_000;
     for cost in [1, 2, MOST_COST] {
         assert_eq!(waits(cost, cost * SECOND).kind, raw::SENT_BY_WEIGHT);
         for snext in [cost * SECOND - 1, cost * SECOND + 1, 0] {
