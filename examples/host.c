@@ -1,7 +1,8 @@
 /* host.c: a small host around the gate. It plays the day of lot 214 (samples/lot214.txt) against an array that is only
  * simulated, and prints what the requests of each guest waited, from arrival to send, and how many calls and ticks the
  * day took. Then it plays thirty bids of the telephone desk after a quiet time, once without credit and once with, and
- * prints what each of them waited.
+ * prints what each of them waited. Last it plays an afternoon of large plates, once with every request at cost 1 and
+ * once at costs that the driver works out from the sizes, and prints what the room and the pictures waited.
  *
  *     cc -std=c99 -Iinclude examples/host.c target/staticlib/libhost.a -o host && ./host
  *
@@ -14,6 +15,7 @@
 #include <inttypes.h>
 #include <stdio.h>
 #include <stdlib.h>
+#include <string.h>
 
 #define MS UINT64_C(1000000) /* nanoseconds */
 #define DEPTH 4
@@ -21,13 +23,15 @@
 #define PHASES 2
 
 #define BIDS 30
+#define ROOM_SHARES 100
 
 enum { ROOM, DESK, PICTURES, ARCHIVE, TELEPHONE, GUESTS };
 
 static const char *const guest_name[GUESTS] = {"room tablet", "online desk", "pictures", "archive", "telephone"};
 static const char *const phase_name[PHASES] = {"reservation", "weight"};
 
-/* Reservation, limit, shares and credit of each guest; the credit of the telephone desk is the host's to choose. */
+/* Reservation, limit, shares and credit of each guest; below, the credit of the telephone desk is changed, and then the
+ * shares of the room. */
 static const sgq_settings settings[GUESTS] = {
     {50, 0, 1, 0},
     {100, 200, 20, 0},
@@ -36,49 +40,70 @@ static const sgq_settings settings[GUESTS] = {
     {0, 0, 200, 0},
 };
 
-/* The array takes for a request of each guest the least and, by its id, up to `more` ms on top: bids are small writes,
- * plates and the archive's reads are large. */
-static const struct service {
-    uint64_t least, more;
-} service[GUESTS] = {{3, 1}, {3, 1}, {8, 3}, {12, 2}, {3, 1}};
+/* The sizes of requests, in KiB: bids are small writes, plates and the archive's reads are large. */
+enum { BID = 4, PLATE = 256, READ = 1024, LARGE = 8192 };
 
-/* What arrives in the day: the time in ms from noon, the guest, the first id, and how many ids in a row. */
+/* The array takes for a request of up to so many KiB the least and, by its id, up to `more` ms on top. */
+static const struct service {
+    uint64_t kib, least, more;
+} service[] = {{BID, 3, 1}, {PLATE, 8, 3}, {READ, 12, 2}, {LARGE, 44, 8}};
+
+/* The driver's table: what a request of up to so many KiB costs, which is how many bids the array does in its time. Who
+ * has an array measures that once, as the vFair paper does by kind of request. */
+static const struct price {
+    uint64_t kib, cost;
+} prices[] = {{BID, 1}, {PLATE, 3}, {READ, 4}, {LARGE, 14}};
+
+/* What arrives in the day: the time in ms from noon, the guest, the first id, how many ids in a row, and their size. */
 static const struct arrivals {
     uint64_t ms, guest;
     uint32_t first, count;
+    uint64_t kib;
 } day[] = {
-    {0, ARCHIVE, 1, 5},
-    {7050000, PICTURES, 1, 1},
-    {7050020, ROOM, 21301, 1},
-    {7050045, DESK, 21301, 1},
-    {7199520, ROOM, 21401, 1},
-    {7199800, DESK, 21401, 1},
-    {7199999, ARCHIVE, 6, 1},
-    {7200000, PICTURES, 2, 28}, /* 14:00: all plates of lot 214 at once */
-    {7200004, ROOM, 21402, 1},  /* the bid that must not wait behind them */
-    {7200006, ROOM, 21402, 1},  /* and a second copy of it */
-    {7200016, ROOM, 21403, 1},
-    {7200022, DESK, 21402, 1},
-    {7200023, DESK, 21403, 1},
-    {7200024, DESK, 21404, 1},
-    {7200030, ARCHIVE, 7, 1},
-    {7201500, ROOM, 21404, 1},
-    {7260000, PICTURES, 30, 2},
-    {7260002, DESK, 21501, 1},
-    {7260750, ROOM, 21501, 1},
-    {21600000, ARCHIVE, 8, 4},
+    {0, ARCHIVE, 1, 5, READ},
+    {7050000, PICTURES, 1, 1, PLATE},
+    {7050020, ROOM, 21301, 1, BID},
+    {7050045, DESK, 21301, 1, BID},
+    {7199520, ROOM, 21401, 1, BID},
+    {7199800, DESK, 21401, 1, BID},
+    {7199999, ARCHIVE, 6, 1, READ},
+    {7200000, PICTURES, 2, 28, PLATE}, /* 14:00: all plates of lot 214 at once */
+    {7200004, ROOM, 21402, 1, BID},    /* the bid that must not wait behind them */
+    {7200006, ROOM, 21402, 1, BID},    /* and a second copy of it */
+    {7200016, ROOM, 21403, 1, BID},
+    {7200022, DESK, 21402, 1, BID},
+    {7200023, DESK, 21403, 1, BID},
+    {7200024, DESK, 21404, 1, BID},
+    {7200030, ARCHIVE, 7, 1, READ},
+    {7201500, ROOM, 21404, 1, BID},
+    {7260000, PICTURES, 30, 2, PLATE},
+    {7260002, DESK, 21501, 1, BID},
+    {7260750, ROOM, 21501, 1, BID},
+    {21600000, ARCHIVE, 8, 4, READ},
 };
 
 /* The telephone desk has been quiet for three minutes. A lot comes up, its plates fill the array, and all telephones
  * ring. */
 static const struct arrivals burst[] = {
-    {180000, PICTURES, 1, 32},
-    {180005, TELEPHONE, 1, BIDS},
+    {180000, PICTURES, 1, 32, PLATE},
+    {180005, TELEPHONE, 1, BIDS, BID},
 };
 
-/* A request that the host has under way, and when it arrived or, at the array, when it will be done. */
+/* An afternoon of large plates: those of each lot fill the array, and while it reads them the room bids. */
+static const struct arrivals afternoon[] = {
+    {10800000, PICTURES, 1, 40, LARGE},
+    {10800005, ROOM, 1, 20, BID},
+    {11400000, PICTURES, 41, 24, LARGE},
+    {11400005, ROOM, 21, 12, BID},
+    {11400100, ROOM, 33, 8, BID},
+    {12000000, PICTURES, 65, 40, LARGE},
+    {12000030, ROOM, 41, 1, BID},
+    {12000120, ROOM, 42, 16, BID},
+};
+
+/* A request that the host has under way, its size, and when it arrived or, at the array, when it will be done. */
 struct job {
-    uint64_t guest, id, time;
+    uint64_t guest, id, kib, time;
 };
 
 struct waits {
@@ -100,9 +125,11 @@ struct host {
     const struct arrivals *rows; /* what arrives: the row that comes next, and how many of its ids have come */
     size_t row_count, row;
     uint32_t within;
+    int by_size;   /* whether requests cost what the driver's table says, or 1 each */
     uint64_t wake; /* when to tick, as the gate said last */
-    /* The events of one interrupt, and room for their answers. */
+    /* The events of one interrupt, the sizes of those that arrive, and room for their answers. */
     sgq_event events[SGQ_MOST_EVENTS];
+    uint64_t sizes[SGQ_MOST_EVENTS];
     sgq_answer answers[SGQ_MOST_EVENTS];
     /* What the day took. */
     uint64_t calls, told, ticks;
@@ -117,12 +144,8 @@ static void stop(const char *what, uint64_t refusal)
     exit(1);
 }
 
-static void open_gate(struct host *host, uint64_t credit)
+static void open_gate(struct host *host, const sgq_settings *chosen)
 {
-    sgq_settings chosen[GUESTS];
-    for (size_t guest = 0; guest < GUESTS; guest++)
-        chosen[guest] = settings[guest];
-    chosen[TELEPHONE].credit = credit;
     host->lent = (sgq_tables)SGQ_TABLES(host->gate, host->guests, host->waiting, host->flight);
     sgq_answer answer = sgq_tables_open_all(&host->lent, SGQ_RULE_1, chosen, GUESTS);
     if (answer.kind == SGQ_REFUSED)
@@ -156,6 +179,14 @@ static void note_wait(struct waits *waits, uint64_t waited)
         waits->longest = waited;
 }
 
+static uint64_t service_time(uint64_t kib, uint64_t id)
+{
+    const struct service *row = service;
+    while (row->kib < kib)
+        row++;
+    return (row->least + id % (row->more + 1)) * MS;
+}
+
 /* Sends the request that the answer names to the array. */
 static void send_one(struct host *host, sgq_answer answer, uint64_t now)
 {
@@ -165,8 +196,7 @@ static void send_one(struct host *host, sgq_answer answer, uint64_t now)
     note_wait(&host->waits[job.guest][phase], now - job.time);
     if (job.guest == TELEPHONE)
         host->bid_waits[host->bids_sent++] = now - job.time;
-    const struct service *takes = &service[job.guest];
-    job.time = now + (takes->least + job.id % (takes->more + 1)) * MS;
+    job.time = now + service_time(job.kib, job.id);
     host->busy[host->busy_count++] = job;
 }
 
@@ -195,16 +225,26 @@ static uint64_t next_arrival(const struct host *host)
     return host->row < host->row_count ? host->rows[host->row].ms * MS : SGQ_NEVER;
 }
 
-static sgq_event arrive(struct host *host, uint64_t now)
+/* What the driver says that a request costs: more than the table has is the most. */
+static uint64_t cost_of(uint64_t kib)
+{
+    for (size_t row = 0; row < SGQ_COUNT(prices); row++)
+        if (kib <= prices[row].kib)
+            return prices[row].cost;
+    return SGQ_MOST_COST;
+}
+
+static void arrive(struct host *host, size_t place, uint64_t now)
 {
     const struct arrivals *row = &host->rows[host->row];
-    sgq_event event = sgq_arrival(row->guest, row->first + host->within, now);
+    uint64_t cost = host->by_size ? cost_of(row->kib) : 1;
+    host->events[place] = sgq_arrival(row->guest, row->first + host->within, now, cost);
+    host->sizes[place] = row->kib;
     host->within += 1;
     if (host->within == row->count) {
         host->row += 1;
         host->within = 0;
     }
-    return event;
 }
 
 /* The place at the array of the request that is done first. */
@@ -235,19 +275,21 @@ static size_t gather(struct host *host, uint64_t now)
     while (count < SGQ_MOST_EVENTS && next_done(host) == now)
         host->events[count++] = complete(host, now);
     while (count < SGQ_MOST_EVENTS && next_arrival(host) == now)
-        host->events[count++] = arrive(host, now);
+        arrive(host, count++, now);
     return count;
 }
 
-static void note_answer(struct host *host, sgq_event event, sgq_answer answer)
+static void note_answer(struct host *host, size_t place)
 {
+    const sgq_event event = host->events[place];
+    const sgq_answer answer = host->answers[place];
     if (answer.kind == SGQ_REFUSED) { /* nothing has changed, nor when to wake, so the host goes on */
         printf("refused: %s, id %" PRIu64 " at %" PRIu64 " ms: %" PRIu64 ", %s\n\n", guest_name[event.guest], event.id,
                event.time / MS, answer.refusal, sgq_refusal_text(answer.refusal));
         return;
     }
     if (event.kind == SGQ_ARRIVAL)
-        host->asked[host->asked_count++] = (struct job){event.guest, event.id, event.time};
+        host->asked[host->asked_count++] = (struct job){event.guest, event.id, host->sizes[place], event.time};
     follow(host, answer, event.time);
 }
 
@@ -261,7 +303,7 @@ static void interrupt(struct host *host, uint64_t now)
     if (refusal != 0)
         stop("an interrupt", refusal);
     for (size_t place = 0; place < count; place++)
-        note_answer(host, host->events[place], host->answers[place]);
+        note_answer(host, place);
     host->calls += 1;
     host->told += count;
 }
@@ -317,17 +359,34 @@ static void print_ticks(const struct host *host)
 /* The bids of the burst, the desk having this credit: they go in order of acceptance, so their waits stand in it. */
 static void show_burst(struct host *host, uint64_t credit)
 {
-    open_gate(host, credit);
+    sgq_settings chosen[GUESTS];
+    memcpy(chosen, settings, sizeof chosen);
+    chosen[TELEPHONE].credit = credit;
+    open_gate(host, chosen);
     play(host, burst, SGQ_COUNT(burst));
     printf("credit %" PRIu64 ":\n", credit);
     for (size_t bid = 0; bid < BIDS; bid++)
         printf("%4" PRIu64 "%s", host->bid_waits[bid] / MS, bid % 10 == 9 ? "\n" : "");
 }
 
+/* The afternoon. The room has an eighth of the pictures' shares; both together, with what is reserved, are less than
+ * the bids that the array does in a second. */
+static void show_afternoon(struct host *host, const char *how, int by_size)
+{
+    sgq_settings chosen[GUESTS];
+    memcpy(chosen, settings, sizeof chosen);
+    chosen[ROOM].shares = ROOM_SHARES;
+    open_gate(host, chosen);
+    host->by_size = by_size;
+    play(host, afternoon, SGQ_COUNT(afternoon));
+    printf("\n%s:\n", how);
+    print_waits(host);
+}
+
 int main(void)
 {
-    static struct host lot, without, with; /* zeros */
-    open_gate(&lot, 0);
+    static struct host lot, without, with, plain, sized; /* zeros */
+    open_gate(&lot, settings);
     play(&lot, day, SGQ_COUNT(day));
     print_waits(&lot);
     print_ticks(&lot);
@@ -335,5 +394,9 @@ int main(void)
     printf("\n%d bids of the telephone desk after a quiet time: what each waited, in ms\n", BIDS);
     show_burst(&without, 0);
     show_burst(&with, BIDS);
+
+    printf("\nan afternoon of large plates, and what was waited\n");
+    show_afternoon(&plain, "every request at cost 1", 0);
+    show_afternoon(&sized, "costs by size, from the driver's table", 1);
     return 0;
 }

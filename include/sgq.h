@@ -1,9 +1,9 @@
 /* sgq.h: the proved disc gate, for a host in C99 or C++11.
  *
  * The gate holds the requests of 1 to 64 guests for one disc array and decides, after each event, whether one goes to
- * the array: at most one. Events are an arrival (guest, id, time), a completion (guest, id, time) and a tick (time),
- * one in a call or up to 256. Each answer also says when to tick. The rules are document 01's, as document 02 has
- * changed them; words in quotes are document 01's own, where no other is named.
+ * the array: at most one. Events are an arrival (guest, id, time, cost), a completion (guest, id, time) and a tick
+ * (time), one in a call or up to 256. Each answer also says when to tick. The rules are document 01's, as document 02
+ * has changed them; words in quotes are document 01's own, where no other is named.
  *
  * The library keeps nothing between calls. The host lends it the gate and three tables at each call, and must not
  * change them in between: every call tests that they are sound and refuses with a number where they are not. "Every
@@ -28,7 +28,7 @@
 /* The version of this header and of the library that it belongs to. While the major number is 0, another minor number
  * means other calls or other rows. SGQ_VERSION is the text "MAJOR.MINOR.PATCH". */
 #define SGQ_VERSION_MAJOR 0
-#define SGQ_VERSION_MINOR 5
+#define SGQ_VERSION_MINOR 6
 #define SGQ_VERSION_PATCH 0
 #define SGQ_VERSION \
     SGQ_TEXT_OF(SGQ_VERSION_MAJOR) "." SGQ_TEXT_OF(SGQ_VERSION_MINOR) "." SGQ_TEXT_OF(SGQ_VERSION_PATCH)
@@ -67,6 +67,11 @@ extern "C" {
 /* The most credit of a guest. Document 02, K6: "Each guest record gains a credit c from 0 to 256." */
 #define SGQ_MOST_CREDIT 256
 
+/* The most that a request costs. Document 02, K8: "An arrival now carries a cost from 1 to 64, worked out by the
+ * driver." A request of cost c counts as c requests of cost 1 against its guest's reservation, limit and shares. K8:
+ * "Cost 1 is the old gate." */
+#define SGQ_MOST_COST 64
+
 /* The rule for limits, chosen at opening and kept by the gate. Under rule 1, document 01's, a request that is due by
  * reservation goes though its limit lies ahead: "The limit is not looked at." Rule 2 is for houses that bill by limit.
  * Document 02, K7: "Under rule 2 the reservation phase also wants the request unlimited or its limit tag at or before
@@ -80,9 +85,9 @@ enum sgq_rule {
 #define SGQ_GATE_NUMBERS 7
 #define SGQ_SETTINGS_NUMBERS 4
 #define SGQ_GUEST_NUMBERS 7
-#define SGQ_REQUEST_NUMBERS 5
+#define SGQ_REQUEST_NUMBERS 6
 #define SGQ_FLIGHT_NUMBERS 2
-#define SGQ_EVENT_NUMBERS 4
+#define SGQ_EVENT_NUMBERS 5
 #define SGQ_ANSWER_NUMBERS 5
 
 /* The gate: what it was opened with, the time and the counts. "A fresh table has time 0, nothing waiting or in
@@ -98,35 +103,37 @@ typedef struct sgq_gate {
 } sgq_gate;
 
 /* A guest's settings, as opening takes them. "A reservation above a non-zero limit is bad; equal is good." Credit 0 is
- * none; with c a guest that was quiet may send up to c requests by weight ahead of those that were busy meanwhile.
- * Document 02, K6: "Reservations and limits do not read the credit." */
+ * none; with c a guest that was quiet may send by weight ahead of those that were busy meanwhile, until the costs of
+ * what it sent add up to c. Document 02, K6: "Reservations and limits do not read the credit." */
 typedef struct sgq_settings {
-    uint64_t reservation; /* requests per second, 0: none */
-    uint64_t limit;       /* requests per second, 0: unlimited */
+    uint64_t reservation; /* requests of cost 1 per second, 0: none */
+    uint64_t limit;       /* requests of cost 1 per second, 0: unlimited */
     uint64_t shares;      /* of what is left when the reservations are served */
-    uint64_t credit;      /* requests, 0: none */
+    uint64_t credit;      /* requests of cost 1, 0: none */
 } sgq_settings;
 
 /* "A guest record holds its settings and three next numbers: the tag its next request would get were time not looked
  * at." Without a reservation rnext is 0 and means nothing; so lnext of an unlimited guest. The credit stands last. */
 typedef struct sgq_guest {
-    uint64_t reservation; /* requests per second, 0: none */
-    uint64_t limit;       /* requests per second, 0: unlimited */
+    uint64_t reservation; /* requests of cost 1 per second, 0: none */
+    uint64_t limit;       /* requests of cost 1 per second, 0: unlimited */
     uint64_t shares;      /* of what is left when the reservations are served */
     uint64_t rnext;       /* the next reservation number */
     uint64_t lnext;       /* the next limit number */
     uint64_t snext;       /* the next share number */
-    uint64_t credit;      /* requests, 0: none */
+    uint64_t credit;      /* requests of cost 1, 0: none */
 } sgq_guest;
 
 /* A waiting request. "Waiting requests stand in order of acceptance; when one is sent, the requests behind it move down
- * one place." The tags are times in nanoseconds; those that the guest does not have are 0 and mean nothing. */
+ * one place." The tags are times in nanoseconds; those that the guest does not have are 0 and mean nothing. Document
+ * 02, K8: "Waiting requests keep their cost". */
 typedef struct sgq_request {
     uint64_t guest; /* its number, from 0 */
     uint64_t id;    /* 32 bits, the guest's own */
     uint64_t rtag;  /* reservation tag: at or before the time the request is due by reservation */
     uint64_t ltag;  /* limit tag: at or before the time it may go by weight, under rule 2 also by reservation */
     uint64_t stag;  /* share tag: by weight the smallest goes first */
+    uint64_t cost;  /* 1 to 64: how many spacings further on its guest's next tags lie */
 } sgq_request;
 
 /* A request in flight. "Requests in flight stand in order of sending and close up in the same way." */
@@ -135,12 +142,13 @@ typedef struct sgq_flight {
     uint64_t id;
 } sgq_flight;
 
-/* An event of a batch. A tick has guest 0 and id 0. */
+/* An event of a batch. A tick has guest 0 and id 0; only an arrival has a cost, in the others it is 0. */
 typedef struct sgq_event {
     uint64_t kind; /* enum sgq_event_kind */
     uint64_t guest;
     uint64_t id;   /* 32 bits */
     uint64_t time; /* in nanoseconds */
+    uint64_t cost; /* 1 to 64 in an arrival, else 0 */
 } sgq_event;
 
 /* The kinds of event, as a trace has them. */
@@ -179,7 +187,7 @@ enum sgq_kind {
 /* The refusal numbers, each with the condition of document 01's table. Where several hold, the first in the call's
  * order is given:
  *   opening     depth, guests, capacity and the rule (1), lengths (2), guest settings (1)
- *   arrival     2, 3, 4, 5, 6, 7, 8, 9
+ *   arrival     2, 3, 4, 5, 6, 18, 7, 8, 9
  *   completion  2, 3, 4, 5, 6, 10
  *   tick        2, 3, 5, 6
  *   batch       16, 17; then each event by itself: 14, and then as the call of its kind
@@ -203,12 +211,15 @@ enum sgq_refusal {
     SGQ_REFUSED_TRACE_VERSION = 12,    /* "trace version" */
     SGQ_REFUSED_TRACE_HEADER_CUT = 13, /* "trace header cut short" */
     SGQ_REFUSED_EVENT_KIND = 14,       /* "event kind above 2, or a tick with non-zero guest or id"; in a batch also an
-                                        * id of more than 32 bits */
+                                        * id of more than 32 bits, or a completion or tick with a cost */
     SGQ_REFUSED_TRACE_EVENT_CUT = 15,  /* "last event cut short" */
 
     /* Of a whole batch; document 02, K5. */
-    SGQ_REFUSED_SHORT_ANSWERS = 16,  /* "answer buffer short" */
-    SGQ_REFUSED_TOO_MANY_EVENTS = 17 /* "more than 256 events" */
+    SGQ_REFUSED_SHORT_ANSWERS = 16,   /* "answer buffer short" */
+    SGQ_REFUSED_TOO_MANY_EVENTS = 17, /* "more than 256 events" */
+
+    /* Of an arrival; document 02, K8: "after 6 and before 7". */
+    SGQ_REFUSED_COST = 18 /* "a cost outside 1 to 64"; "one kept in a table is 3" */
 };
 
 /* The calls. A table is a pointer to numbers and how many there are; it may be longer than the settings need: "Places
@@ -227,12 +238,15 @@ SGQ_MUST_USE sgq_answer sgq_open(uint64_t *gate, uint64_t depth, uint64_t guests
                                  uint64_t *flight, size_t flight_length);
 
 /* A request arrives: it gets its tags, "is placed last among the waiting, then the choice is made". What is sent need
- * not be what arrived. "An id may be used again after its completion." */
+ * not be what arrived. "An id may be used again after its completion." The cost may be any number; one outside 1 to 64
+ * is refused, 18. Document 02, K8: "A next number becomes tag plus cost times spacing, and after a weight send the
+ * guest's reservation tags drop by the sent request's cost times the spacing." So a request's own tags do not read its
+ * cost; those of the guest's next requests do. */
 SGQ_MUST_USE sgq_answer sgq_arrive(uint64_t *gate,
                                    uint64_t *guest_table, size_t guest_table_length,
                                    uint64_t *waiting, size_t waiting_length,
                                    uint64_t *flight, size_t flight_length,
-                                   uint64_t guest, uint32_t id, uint64_t time);
+                                   uint64_t guest, uint32_t id, uint64_t time, uint64_t cost);
 
 /* "A completion takes the named request out of flight, then the choice is made." */
 SGQ_MUST_USE sgq_answer sgq_complete(uint64_t *gate,
@@ -331,14 +345,14 @@ SGQ_MUST_USE static inline sgq_answer sgq_tables_open_all(const sgq_tables *lent
 
 /* sgq_arrive over records. */
 SGQ_MUST_USE static inline sgq_answer sgq_tables_arrive(const sgq_tables *lent, uint64_t guest, uint32_t id,
-                                                        uint64_t time)
+                                                        uint64_t time, uint64_t cost)
 {
     uint64_t spare = 0;
     return sgq_arrive(&lent->gate->depth,
                       sgq_guest_numbers(lent, &spare), lent->guest_count * SGQ_GUEST_NUMBERS,
                       sgq_waiting_numbers(lent, &spare), lent->waiting_count * SGQ_REQUEST_NUMBERS,
                       sgq_flight_numbers(lent, &spare), lent->flight_count * SGQ_FLIGHT_NUMBERS,
-                      guest, id, time);
+                      guest, id, time, cost);
 }
 
 /* sgq_complete over records. */
@@ -378,21 +392,21 @@ SGQ_MUST_USE static inline uint64_t sgq_tables_batch(const sgq_tables *lent, con
 }
 
 /* Events for a batch. */
-static inline sgq_event sgq_arrival(uint64_t guest, uint32_t id, uint64_t time)
+static inline sgq_event sgq_arrival(uint64_t guest, uint32_t id, uint64_t time, uint64_t cost)
 {
-    const sgq_event event = {SGQ_ARRIVAL, guest, id, time};
+    const sgq_event event = {SGQ_ARRIVAL, guest, id, time, cost};
     return event;
 }
 
 static inline sgq_event sgq_completion(uint64_t guest, uint32_t id, uint64_t time)
 {
-    const sgq_event event = {SGQ_COMPLETION, guest, id, time};
+    const sgq_event event = {SGQ_COMPLETION, guest, id, time, 0};
     return event;
 }
 
 static inline sgq_event sgq_tick_at(uint64_t time)
 {
-    const sgq_event event = {SGQ_TICK, 0, 0, time};
+    const sgq_event event = {SGQ_TICK, 0, 0, time, 0};
     return event;
 }
 
@@ -455,6 +469,7 @@ static inline const char *sgq_refusal_text(uint64_t refusal)
     case SGQ_REFUSED_TRACE_EVENT_CUT: return "last event cut short";
     case SGQ_REFUSED_SHORT_ANSWERS: return "answer buffer short";
     case SGQ_REFUSED_TOO_MANY_EVENTS: return "more than 256 events";
+    case SGQ_REFUSED_COST: return "a cost outside 1 to 64";
     default: return "no refusal";
     }
 }

@@ -1,5 +1,5 @@
 #!/usr/bin/env python3
-"""Holds docs/HOSTS.md to examples/: its figures to what examples/figures prints, its C to the sources there.
+"""Holds docs/HOSTS.md to examples/: its figures to what examples/figures prints, its C and its table of costs to the sources there.
 
     python3 tests/figures.py [--mend]     --mend writes the figures that are printed into the page
 
@@ -60,6 +60,23 @@ def test_code(tally):
         tally.add(f"'{code.splitlines()[0]}'", None if there else "it does not stand so in examples/")
 
 
+def rows_of(name, source):
+    """The rows of a table of numbers in C; its sizes have names."""
+    sizes = dict(re.findall(r"\b([A-Z]+) = (\d+)", re.search(r"enum \{ (BID = .*) \};", source).group(1)))
+    rows = re.search(rf" {name}\[\] = \{{(.*)\}};", source).group(1)
+    return [[int(sizes.get(word, word)) for word in row.split(", ")] for row in re.findall(r"\{(.*?)\}", rows)]
+
+
+def test_costs(tally):
+    """The page's table of costs is the one of examples/host.c, with what its array takes."""
+    source = (EXAMPLES / "host.c").read_text()
+    expected = []
+    for (kib, cost), (size, least, more) in zip(rows_of("prices", source), rows_of("service", source)):
+        expected.append((f"{kib:,}", f"{least} to {least + more}", str(cost)) if kib == size else "rows of two sizes")
+    found = re.findall(r"^\| ([\d,]+) \| [a-z ]+ \| (\d+ to \d+) \| (\d+) \|$", PAGE.read_text(), re.MULTILINE)
+    tally.add("the table of costs", None if found == expected and found else f"docs/HOSTS.md has {found}, the example {expected}")
+
+
 def tests(tally):
     words = sys.argv[1:]
     if words not in ([], ["--mend"]):
@@ -77,6 +94,7 @@ def tests(tally):
         tally.add(f"figures, {name}", None if other == figures else "they are not the same")
     test_figures(tally, figures)
     test_code(tally)
+    test_costs(tally)
 
 
 sys.exit(run_tests(tests))

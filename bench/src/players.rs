@@ -3,7 +3,7 @@
 use crate::trace::Trace;
 use second::sample::Owned;
 use second::tables::{Gate as Row, FLIGHT_NUMBERS, WAITING_NUMBERS};
-use second::trace::Event;
+use second::trace::{Event, ARRIVAL};
 use second::State;
 use sgq::raw;
 
@@ -26,6 +26,11 @@ fn join(so_far: u64, answer: u64) -> u64 {
 /// A number for each answer: kind, guest and id, or the refusal; and the time to wake.
 fn folded(kind: u64, guest: u64, id: u64, wake: u64) -> u64 {
     (kind << 60 | guest << 32 | id) ^ wake.rotate_left(17)
+}
+
+/// What an event costs: a trace of version 1 says none, and each arrival costs 1.
+fn cost_of(event: &Event) -> u64 {
+    u64::from(event.kind == ARRIVAL)
 }
 
 /// The tables as they stand after these events. The second program plays them without the test of soundness, which is
@@ -79,7 +84,12 @@ impl Player for Library {
         // SAFETY: all numbers of the gate, and the tables as long as they are, each in memory of its own.
         let answer = unsafe {
             match event.kind {
-                0 => raw::sgq_arrive(gate, guests, g, waiting, w, flight, f, guest, id, time),
+                0 => {
+                    let cost = cost_of(event);
+                    raw::sgq_arrive(
+                        gate, guests, g, waiting, w, flight, f, guest, id, time, cost,
+                    )
+                }
                 1 => raw::sgq_complete(gate, guests, g, waiting, w, flight, f, guest, id, time),
                 _ => raw::sgq_tick(gate, guests, g, waiting, w, flight, f, time),
             }
@@ -115,6 +125,7 @@ impl Batches {
             guest: event.guest as u64,
             id: event.id as u64,
             time: event.time,
+            cost: cost_of(event),
         }));
         let Owned {
             gate,
@@ -180,7 +191,7 @@ impl Player for Second {
         let guest = event.guest as u64;
         let mut lent = self.0.lend();
         let reply = match event.kind {
-            0 => second::arrive(&mut lent, guest, event.id, event.time),
+            0 => second::arrive(&mut lent, guest, event.id, event.time, cost_of(event)),
             1 => second::complete(&mut lent, guest, event.id, event.time),
             _ => second::tick(&mut lent, event.time),
         };

@@ -11,9 +11,9 @@ void clock_figures(void)
 {
     const sgq_settings settings[2] = {{0, 0, 1, 0}, {0, 0, 1, 0}};
     house_open(&house, 4, 8, settings, 2, 4, MS);
-    print_answer("the thread that read 101 ns", sgq_tables_arrive(&house.lent, 1, 1, 101));
-    print_answer("the thread that read 100 ns", sgq_tables_arrive(&house.lent, 0, 1, 100));
-    print_answer("the same, read again at 102 ns", sgq_tables_arrive(&house.lent, 0, 1, 102));
+    print_answer("the thread that read 101 ns", sgq_tables_arrive(&house.lent, 1, 1, 101, 1));
+    print_answer("the thread that read 100 ns", sgq_tables_arrive(&house.lent, 0, 1, 100, 1));
+    print_answer("the same, read again at 102 ns", sgq_tables_arrive(&house.lent, 0, 1, 102, 1));
 }
 
 /* Ticks. */
@@ -24,9 +24,9 @@ static void one_by_one(void)
     const sgq_settings settings[4] = {{0, 10, 1, 0}, {0, 10, 1, 0}, {0, 10, 1, 0}, {0, 10, 1, 0}};
     house_open(&house, 4, 8, settings, 4, 4, MS);
     for (uint64_t guest = 0; guest < 4; guest++) {
-        if (!sgq_sent(sgq_tables_arrive(&house.lent, guest, 1, 0)))
+        if (!sgq_sent(sgq_tables_arrive(&house.lent, guest, 1, 0, 1)))
             return;
-        if (sgq_sent(sgq_tables_arrive(&house.lent, guest, 2, 0)))
+        if (sgq_sent(sgq_tables_arrive(&house.lent, guest, 2, 0, 1)))
             return;
     }
     for (uint64_t guest = 0; guest < 4; guest++)
@@ -80,9 +80,9 @@ void batch_figures(void)
     static sgq_event events[SGQ_MOST_EVENTS + 1];
     static sgq_answer answers[SGQ_MOST_EVENTS + 1];
     house_open(&house, 1, 8, settings, 1, 1, MS);
-    events[0] = events[1] = sgq_arrival(0, 1, 5);
+    events[0] = events[1] = sgq_arrival(0, 1, 5, 1);
     events[2].kind = 3;
-    events[3] = sgq_arrival(0, 2, 6);
+    events[3] = sgq_arrival(0, 2, 6, 1);
     events[4] = sgq_completion(0, 1, 7);
     print_whole("five events, room for five answers", sgq_tables_batch(&house.lent, events, 5, answers, 5));
     for (size_t place = 0; place < SGQ_COUNT(what); place++)
@@ -162,18 +162,20 @@ void refusals_figures(void)
     print_answer("opening with depth 2, a table of 1", sgq_tables_open(&lent, 2, 1, 1, SGQ_RULE_1, settings, 1));
     print_answer("a tick before any opening", sgq_tables_tick(&lent, 0));
     print_answer("opening", sgq_tables_open_all(&lent, SGQ_RULE_1, settings, 1));
-    print_answer("guest 1 of one", sgq_tables_arrive(&lent, 1, 1, 0));
+    print_answer("guest 1 of one", sgq_tables_arrive(&lent, 1, 1, 0, 1));
     print_answer("time 2^62", sgq_tables_tick(&lent, end + 1));
-    print_answer("guest 0, id 1 at 5 ns", sgq_tables_arrive(&lent, 0, 1, 5));
-    print_answer("the same again", sgq_tables_arrive(&lent, 0, 1, 5));
+    print_answer("guest 0, id 1 at 5 ns", sgq_tables_arrive(&lent, 0, 1, 5, 1));
+    print_answer("the same again", sgq_tables_arrive(&lent, 0, 1, 5, 1));
     print_answer("a tick at 4 ns", sgq_tables_tick(&lent, 4));
-    print_answer("guest 0, id 2", sgq_tables_arrive(&lent, 0, 2, 5));
-    print_answer("guest 0, id 3", sgq_tables_arrive(&lent, 0, 3, 5));
+    print_answer("guest 0, id 2 at cost 0", sgq_tables_arrive(&lent, 0, 2, 5, 0));
+    print_answer("guest 0, id 2 at cost 65", sgq_tables_arrive(&lent, 0, 2, 5, 65));
+    print_answer("guest 0, id 2", sgq_tables_arrive(&lent, 0, 2, 5, 1));
+    print_answer("guest 0, id 3", sgq_tables_arrive(&lent, 0, 3, 5, 1));
     print_answer("the end of id 2, which waits", sgq_tables_complete(&lent, 0, 2, 5));
     print_answer("the end of id 1", sgq_tables_complete(&lent, 0, 1, end));
-    print_answer("guest 0, id 4 at the ceiling", sgq_tables_arrive(&lent, 0, 4, end));
+    print_answer("guest 0, id 4 at the ceiling", sgq_tables_arrive(&lent, 0, 4, end, 1));
     print_answer("the end of id 2", sgq_tables_complete(&lent, 0, 2, end));
-    print_answer("guest 0, id 5 at the ceiling", sgq_tables_arrive(&lent, 0, 5, end));
+    print_answer("guest 0, id 5 at the ceiling", sgq_tables_arrive(&lent, 0, 5, end, 1));
 }
 
 /* Opening again. */
@@ -191,7 +193,7 @@ static uint64_t open_again(const sgq_tables *lent, const sgq_settings *settings,
     sgq_answer answer = sgq_tables_open_all(lent, SGQ_RULE_1, settings, guests);
     for (size_t place = 0; place < waited->count && answer.kind != SGQ_REFUSED; place++) {
         const struct job *job = &waited->job[place];
-        answer = sgq_tables_arrive(lent, job->guest, (uint32_t)job->id, now);
+        answer = sgq_tables_arrive(lent, job->guest, (uint32_t)job->id, now, job->cost);
         if (sgq_sent(answer))
             send_to_array(answer);
     }
@@ -211,13 +213,13 @@ void reopen_figures(void)
     const sgq_tables lent = SGQ_TABLES(gate, guests, waiting, flight);
     print_answer("opening", sgq_tables_open_all(&lent, SGQ_RULE_1, settings, SGQ_COUNT(settings)));
     for (uint32_t id = 0; id < 10; id++)
-        if (!sgq_sent(sgq_tables_arrive(&lent, 1, id, SECOND)))
-            waited.job[waited.count++] = (struct job){1, id, SECOND, 0};
+        if (!sgq_sent(sgq_tables_arrive(&lent, 1, id, SECOND, 1)))
+            waited.job[waited.count++] = (struct job){1, id, 1, SECOND, 0};
     printf("%" PRIu64 " in flight, %" PRIu64 " wait\n", gate.flight, gate.waiting);
     printf("a bit of the waiting table turns over\n");
     waiting[2].stag ^= UINT64_C(1) << 40;
     print_answer("a tick", sgq_tables_tick(&lent, 2 * SECOND));
-    print_answer("an arrival", sgq_tables_arrive(&lent, 0, 1, 2 * SECOND));
+    print_answer("an arrival", sgq_tables_arrive(&lent, 0, 1, 2 * SECOND, 1));
     printf("the array is done with those in flight; the gate is opened again\n");
     uint64_t wake = open_again(&lent, settings, SGQ_COUNT(settings), &waited, 3 * SECOND);
     printf("%" PRIu64 " in flight, %" PRIu64 " wait\n", gate.flight, gate.waiting);

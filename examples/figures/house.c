@@ -19,8 +19,10 @@ void house_open(struct house *house, uint64_t depth, uint64_t capacity, const sg
     memset(house, 0, sizeof *house);
     house->servers = servers;
     house->service = service;
-    for (size_t guest = 0; guest < GUESTS; guest++)
+    for (size_t guest = 0; guest < GUESTS; guest++) {
         house->next_ask[guest] = SGQ_NEVER;
+        house_weigh(house, guest, 1, 1);
+    }
     house->lent = (sgq_tables)SGQ_TABLES(house->gate, house->guests, house->waiting, house->flight);
     sgq_answer answer = sgq_tables_open(&house->lent, depth, guests, capacity, SGQ_RULE_1, settings, guests);
     if (answer.kind == SGQ_REFUSED)
@@ -32,6 +34,12 @@ void house_load(struct house *house, uint64_t guest, struct load load)
 {
     house->load[guest] = load;
     house->next_ask[guest] = load.from;
+}
+
+void house_weigh(struct house *house, uint64_t guest, uint64_t times, uint64_t cost)
+{
+    house->times[guest] = times;
+    house->cost[guest] = cost;
 }
 
 void house_count_anew(struct house *house)
@@ -85,7 +93,7 @@ static void send_one(struct house *house, sgq_answer answer)
     struct tally *tally = &house->tally[job.guest];
     uint64_t waited = house->now - job.asked;
     uint64_t *server = first_free(house);
-    *server = (*server > house->now ? *server : house->now) + house->service;
+    *server = (*server > house->now ? *server : house->now) + house->service * house->times[job.guest];
     job.done = *server;
     put(&house->busy, job);
     tally->sent += 1;
@@ -134,7 +142,7 @@ static void let_in(struct house *house)
             place++;
             continue;
         }
-        sgq_answer answer = sgq_tables_arrive(&house->lent, job.guest, (uint32_t)job.id, house->now);
+        sgq_answer answer = sgq_tables_arrive(&house->lent, job.guest, (uint32_t)job.id, house->now, job.cost);
         if (answer.kind == SGQ_REFUSED && answer.refusal == SGQ_REFUSED_WAITING_FULL) {
             house->tally[job.guest].refused += 1;
             return;
@@ -147,7 +155,7 @@ static void let_in(struct house *house)
 
 static void ask(struct house *house, uint64_t guest)
 {
-    struct job job = {guest, house->next_id[guest]++, house->now, 0};
+    struct job job = {guest, house->next_id[guest]++, house->cost[guest], house->now, 0};
     put(&house->door, job);
 }
 

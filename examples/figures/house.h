@@ -22,9 +22,9 @@ struct tally {
     uint64_t refused, sent, by_reservation, longest, longest_whole;
 };
 
-/* A request: when it was asked for and, at the array, when it will be done. */
+/* A request: its cost, when it was asked for and, at the array, when it will be done. */
 struct job {
-    uint64_t guest, id, asked, done;
+    uint64_t guest, id, cost, asked, done;
 };
 
 struct jobs {
@@ -41,6 +41,7 @@ struct house {
 
     uint64_t servers, service; /* the array works on so many requests at once, each so long, in order of sending */
     uint64_t server_free[SGQ_MOST_DEPTH];
+    uint64_t times[GUESTS], cost[GUESTS]; /* a guest's requests take so many times as long, and arrive at this cost */
     struct load load[GUESTS];
     struct tally tally[GUESTS];
     uint64_t next_ask[GUESTS];
@@ -56,6 +57,9 @@ void house_open(struct house *house, uint64_t depth, uint64_t capacity, const sg
 
 /* Lets a guest ask from now on. */
 void house_load(struct house *house, uint64_t guest, struct load load);
+
+/* The requests of a guest take so many times as long as others, and are handed over at this cost; else both are 1. */
+void house_weigh(struct house *house, uint64_t guest, uint64_t times, uint64_t cost);
 
 /* Plays until a time; what happens at that time is left for the next call. */
 void house_play(struct house *house, uint64_t until);

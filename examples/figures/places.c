@@ -46,12 +46,12 @@ void capacity_figures(void)
 {
     house_open(&house, 4, 64, settings, PARTIES, 4, 8 * MS);
     uint32_t plates = 0;
-    sgq_answer answer = sgq_tables_arrive(&house.lent, PICTURES, plates, 0);
+    sgq_answer answer = sgq_tables_arrive(&house.lent, PICTURES, plates, 0, 1);
     while (answer.kind != SGQ_REFUSED)
-        answer = sgq_tables_arrive(&house.lent, PICTURES, ++plates, 0);
+        answer = sgq_tables_arrive(&house.lent, PICTURES, ++plates, 0, 1);
     printf("depth 4, capacity 64: %" PRIu32 " plates are accepted and %" PRIu64 " wait\n", plates, house.gate.waiting);
     print_answer("one plate more", answer);
-    print_answer("a bid", sgq_tables_arrive(&house.lent, ROOM, 0, 0));
+    print_answer("a bid", sgq_tables_arrive(&house.lent, ROOM, 0, 0, 1));
 }
 
 void quota_figures(void)

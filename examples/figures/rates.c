@@ -1,5 +1,5 @@
-/* rates.c: shares, credit, reservations, limits and their rules over time, at an array that does 1,000 requests a
- * second. */
+/* rates.c: shares, credit, reservations, limits and their rules, and costs over time, at an array that does 1,000
+ * requests a second. */
 #include "figures.h"
 
 #include <inttypes.h>
@@ -104,9 +104,9 @@ static void at_the_ceiling(void)
     const sgq_settings settings[1] = {{0, 0, 1, 0}};
     open_array(settings, 1, 1);
     uint32_t id = 0;
-    sgq_answer answer = sgq_tables_arrive(&house.lent, 0, id, SGQ_CEILING - 3 * SECOND);
+    sgq_answer answer = sgq_tables_arrive(&house.lent, 0, id, SGQ_CEILING - 3 * SECOND, 1);
     while (answer.kind != SGQ_REFUSED)
-        answer = sgq_tables_arrive(&house.lent, 0, ++id, SGQ_CEILING - 3 * SECOND);
+        answer = sgq_tables_arrive(&house.lent, 0, ++id, SGQ_CEILING - 3 * SECOND, 1);
     printf("shares 1, 3 s before the ceiling: %" PRIu32 " arrivals are accepted\n", id);
     print_answer("the next", answer);
 }
@@ -211,10 +211,10 @@ static void held_back(void)
 {
     const sgq_settings settings[2] = {{0, 10, 100, 0}, {0, 0, 100, 0}};
     open_array(settings, 2, 1);
-    if (!sgq_sent(sgq_tables_arrive(&house.lent, 1, 0, 0)))
+    if (!sgq_sent(sgq_tables_arrive(&house.lent, 1, 0, 0, 1)))
         return;
     for (uint32_t id = 0; id < 30; id++)
-        if (sgq_sent(sgq_tables_arrive(&house.lent, 0, id, 0)))
+        if (sgq_sent(sgq_tables_arrive(&house.lent, 0, id, 0, 1)))
             return;
     const uint64_t free = 2 * SECOND;
     uint64_t sent = 0;
@@ -260,7 +260,7 @@ static void bill(uint64_t rule)
     const sgq_tables lent = SGQ_TABLES(gate, guests, waiting, flight);
     sgq_answer answer = sgq_tables_open_all(&lent, rule, settings, 1);
     for (uint32_t id = 0; id < SGQ_COUNT(waiting) && answer.kind != SGQ_REFUSED; id++)
-        answer = sgq_tables_arrive(&lent, 0, id, 0);
+        answer = sgq_tables_arrive(&lent, 0, id, 0, 1);
     if (answer.kind == SGQ_REFUSED)
         stop_at("the bill", answer);
     uint64_t sent = 1, early = 0, most = 0; /* id 0 went at 0 */
@@ -282,4 +282,43 @@ void rules_figures(void)
     printf("rule  sent in a second  before their limit tag  by at most, ms\n");
     bill(SGQ_RULE_1);
     bill(SGQ_RULE_2);
+}
+
+/* Costs. */
+
+/* Two busy guests of the same shares; the requests of the second take the array eight times as long, and cost so much.
+ * Its time is that of 1,000 short requests a second. */
+static void weigh(uint64_t shares, uint64_t cost)
+{
+    const sgq_settings settings[] = {{0, 0, shares, 0}, {0, 0, shares, 0}};
+    open_array(settings, SGQ_COUNT(settings), 4);
+    house_weigh(&house, 1, 8, cost);
+    keep_busy(0, 16, 0);
+    keep_busy(1, 16, 0);
+    measure();
+    const uint64_t first = house.tally[0].sent / 10, second = house.tally[1].sent / 10;
+    printf("%12" PRIu64 "  %4" PRIu64 "  %19" PRIu64 "  %18" PRIu64, shares, cost, first, second);
+    printf("  %20" PRIu64 "  %4" PRIu64 "\n", first / 10, second * 8 / 10);
+}
+
+/* A guest with a limit asks for more, each request at this cost, alone at the array. */
+static void limit_by_cost(uint64_t cost)
+{
+    static const sgq_settings settings[] = {{0, 100, 100, 0}};
+    open_array(settings, SGQ_COUNT(settings), 4);
+    house_weigh(&house, 0, 1, cost);
+    keep_busy(0, 16, 0);
+    measure();
+    printf("limit 100 a second, each at cost %" PRIu64 ": %" PRIu64 " in ten seconds\n", cost, house.tally[0].sent);
+}
+
+void costs_figures(void)
+{
+    static const uint64_t rows[][2] = {{100, 1}, {100, 2}, {100, 4}, {100, 8}, {100, 16}, {450, 1}, {450, 4}, {450, 8}};
+    printf("two guests of the same shares, one with short requests, one with long ones that take eight times as long\n");
+    printf("shares, each  cost  short ones a second  long ones a second  %% of the time: short  long\n");
+    for (size_t row = 0; row < SGQ_COUNT(rows); row++)
+        weigh(rows[row][0], rows[row][1]);
+    limit_by_cost(1);
+    limit_by_cost(8);
 }

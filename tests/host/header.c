@@ -36,12 +36,14 @@ AT(sgq_request, id, 1);
 AT(sgq_request, rtag, 2);
 AT(sgq_request, ltag, 3);
 AT(sgq_request, stag, 4);
+AT(sgq_request, cost, 5);
 AT(sgq_flight, guest, 0);
 AT(sgq_flight, id, 1);
 AT(sgq_event, kind, 0);
 AT(sgq_event, guest, 1);
 AT(sgq_event, id, 2);
 AT(sgq_event, time, 3);
+AT(sgq_event, cost, 4);
 AT(sgq_answer, kind, 0);
 AT(sgq_answer, guest, 1);
 AT(sgq_answer, id, 2);
@@ -64,7 +66,7 @@ static void play(const sgq_tables *lent)
     static const uint64_t ticks[] = {4, 8, 10, 9};
     unsigned event = 0;
     for (uint32_t id = 1; id <= 4; id++)
-        print_answer(++event, sgq_tables_arrive(lent, 0, id, 0));
+        print_answer(++event, sgq_tables_arrive(lent, 0, id, 0, 1));
     for (size_t tick = 0; tick < 4; tick++)
         print_answer(++event, sgq_tables_tick(lent, ticks[tick] * MS));
     for (unsigned twice = 0; twice < 2; twice++)

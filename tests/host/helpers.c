@@ -1,6 +1,6 @@
 /* What header.c does not try of sgq.h: tables of no records, counts taken from arrays, free places and waiting counts,
- * when to wake, the rules for limits, and many events in one call. C99 and C++ alike; prints a line for each thing that
- * is not as it should be. */
+ * when to wake, the rules for limits, costs, and many events in one call. C99 and C++ alike; prints a line for each
+ * thing that is not as it should be. */
 #include "sgq.h"
 
 #include <inttypes.h>
@@ -40,7 +40,7 @@ static void no_records(void)
     refused("no tables", sgq_tables_open(&lent, DEPTH, GUESTS, CAPACITY, SGQ_RULE_2, settings, GUESTS),
             SGQ_REFUSED_SHORT_TABLE);
     refused("no rule", sgq_tables_open(&lent, DEPTH, GUESTS, CAPACITY, 0, settings, GUESTS), SGQ_REFUSED_SETTING);
-    refused("arrival", sgq_tables_arrive(&lent, 0, 1, 0), SGQ_REFUSED_SHORT_TABLE);
+    refused("arrival", sgq_tables_arrive(&lent, 0, 1, 0, 1), SGQ_REFUSED_SHORT_TABLE);
     refused("completion", sgq_tables_complete(&lent, 0, 1, 0), SGQ_REFUSED_SHORT_TABLE);
     refused("tick", sgq_tables_tick(&lent, 0), SGQ_REFUSED_SHORT_TABLE);
     same("no events", sgq_tables_batch(&lent, NULL, 0, NULL, 0), 0);
@@ -72,7 +72,7 @@ static void counts(void)
     same("free places", sgq_free_places(&gate), DEPTH);
     same("free waiting places", sgq_free_waiting(&gate), CAPACITY);
     for (uint32_t id = 0; id < SGQ_COUNT(from); id++)
-        same("sent", (uint64_t)sgq_sent(sgq_tables_arrive(&lent, from[id], id, 0)), id < DEPTH);
+        same("sent", (uint64_t)sgq_sent(sgq_tables_arrive(&lent, from[id], id, 0, 1)), id < DEPTH);
     same("no free place", sgq_free_places(&gate), 0);
     same("no free waiting place", sgq_free_waiting(&gate), 0);
     same("waiting of 0", sgq_waiting_of(&lent, 0), 1);
@@ -80,7 +80,7 @@ static void counts(void)
     same("waiting of nobody", sgq_waiting_of(&lent, 2), 0);
     same("flight of 0", sgq_flight_of(&lent, 0), 1);
     same("flight of 1", sgq_flight_of(&lent, 1), 1);
-    refused("a sixth", sgq_tables_arrive(&lent, 0, 6, 0), SGQ_REFUSED_WAITING_FULL);
+    refused("a sixth", sgq_tables_arrive(&lent, 0, 6, 0, 1), SGQ_REFUSED_WAITING_FULL);
 }
 
 /* Two requests of a limited guest wait at an array with a place free: a tick before the time to wake sends nothing and
@@ -96,9 +96,9 @@ static void wakes(void)
     static const sgq_tables lent = SGQ_TABLES(gate, guests, waiting, flight);
 
     same("open", sgq_tables_open_all(&lent, SGQ_RULE_1, settings, SGQ_COUNT(settings)).kind, SGQ_NOTHING);
-    same("nothing waits", sgq_tables_arrive(&lent, 0, 1, 0).wake, SGQ_NEVER);
-    same("the second waits", sgq_tables_arrive(&lent, 0, 2, 0).wake, spacing);
-    same("the third too", sgq_tables_arrive(&lent, 0, 3, 0).wake, spacing);
+    same("nothing waits", sgq_tables_arrive(&lent, 0, 1, 0, 1).wake, SGQ_NEVER);
+    same("the second waits", sgq_tables_arrive(&lent, 0, 2, 0, 1).wake, spacing);
+    same("the third too", sgq_tables_arrive(&lent, 0, 3, 0, 1).wake, spacing);
     const sgq_answer early = sgq_tables_tick(&lent, spacing - 1);
     same("a tick before", early.kind, SGQ_NOTHING);
     same("what it says", early.wake, spacing);
@@ -127,7 +127,8 @@ static void rules(void)
         const uint64_t wake = due[rule - SGQ_RULE_1] * ms;
         same("open", sgq_tables_open_all(&lent, rule, settings, SGQ_COUNT(settings)).kind, SGQ_NOTHING);
         for (uint32_t id = 1; id <= 4; id++)
-            same("arrival", sgq_tables_arrive(&lent, 0, id, 0).kind, id == 1 ? SGQ_SENT_BY_RESERVATION : SGQ_NOTHING);
+            same("arrival", sgq_tables_arrive(&lent, 0, id, 0, 1).kind,
+                 id == 1 ? SGQ_SENT_BY_RESERVATION : SGQ_NOTHING);
         same("at 4 ms", sgq_tables_tick(&lent, 4 * ms).kind, SGQ_SENT_BY_WEIGHT);
         const sgq_answer sent = sgq_tables_tick(&lent, 8 * ms);
         same("at 8 ms", sent.kind, SGQ_SENT_BY_WEIGHT);
@@ -143,7 +144,42 @@ static void rules(void)
     refused("opening under it", sgq_tables_open_all(&lent, 3, settings, SGQ_COUNT(settings)), SGQ_REFUSED_SETTING);
 }
 
-/* Four events in one call, one of them refused and one that is none; the place past their answers stays as it is. Then
+/* One in 100 ms is reserved. Behind a request of cost 3 the next is due 300 ms later, and when that, of cost 2, goes by
+ * weight, what is behind it is due 200 ms earlier. A cost outside 1 to 64 is refused, and one kept is not sound. */
+static void costs(void)
+{
+    static const sgq_settings settings[] = {{10, 0, 1, 0}};
+    static const uint64_t spacing = UINT64_C(100000000);
+    static const uint64_t bad[] = {0, SGQ_MOST_COST + 1, (UINT64_C(1) << 32) + 1, UINT64_MAX};
+    static sgq_gate gate;
+    static sgq_guest guests[1];
+    static sgq_request waiting[CAPACITY];
+    static sgq_flight flight[1];
+    static const sgq_tables lent = SGQ_TABLES(gate, guests, waiting, flight);
+
+    same("open", sgq_tables_open_all(&lent, SGQ_RULE_1, settings, SGQ_COUNT(settings)).kind, SGQ_NOTHING);
+    same("cost 3", sgq_tables_arrive(&lent, 0, 1, 0, 3).kind, SGQ_SENT_BY_RESERVATION);
+    same("next reservation number", guests[0].rnext, 3 * spacing);
+    same("next share number", guests[0].snext, 30 * spacing);
+    same("cost 2", sgq_tables_arrive(&lent, 0, 2, 0, 2).kind, SGQ_NOTHING);
+    same("cost 64", sgq_tables_arrive(&lent, 0, 3, 0, SGQ_MOST_COST).kind, SGQ_NOTHING);
+    same("its reservation tag", waiting[1].rtag, 5 * spacing);
+    same("it is kept", waiting[1].cost, SGQ_MOST_COST);
+    for (size_t place = 0; place < SGQ_COUNT(bad); place++) {
+        refused("a bad cost", sgq_tables_arrive(&lent, 0, 4, 0, bad[place]), SGQ_REFUSED_COST);
+        refused("before an id in use", sgq_tables_arrive(&lent, 0, 3, 0, bad[place]), SGQ_REFUSED_COST);
+        refused("after the guest", sgq_tables_arrive(&lent, 1, 4, 0, bad[place]), SGQ_REFUSED_UNKNOWN_GUEST);
+    }
+    same("id 2 by weight", sgq_tables_complete(&lent, 0, 1, 0).kind, SGQ_SENT_BY_WEIGHT);
+    same("the drop", waiting[0].rtag, 3 * spacing);
+    same("the drop of the next number", guests[0].rnext, (3 + SGQ_MOST_COST) * spacing);
+    for (size_t place = 0; place < SGQ_COUNT(bad); place++) {
+        waiting[0].cost = bad[place];
+        refused("a bad cost that is kept", sgq_tables_tick(&lent, 0), SGQ_REFUSED_NOT_SOUND);
+    }
+}
+
+/* Five events in one call, one of them refused and two that are none; the place past their answers stays as it is. Then
  * one event more than a call takes. */
 static void batches(void)
 {
@@ -157,18 +193,21 @@ static void batches(void)
     static sgq_answer answers[SGQ_MOST_EVENTS + 1];
 
     same("open", sgq_tables_open_all(&lent, SGQ_RULE_1, settings, SGQ_COUNT(settings)).kind, SGQ_NOTHING);
-    many[0] = sgq_arrival(0, 1, 5);
-    many[1] = sgq_arrival(0, 1, 5);
+    many[0] = sgq_arrival(0, 1, 5, 1);
+    many[1] = sgq_arrival(0, 1, 5, 1);
     many[2] = sgq_tick_at(6);
     many[2].guest = 1;
     many[3] = sgq_completion(0, 1, 7);
-    answers[4].kind = 77;
-    same("four events", sgq_tables_batch(&lent, many, 4, answers, SGQ_COUNT(answers)), 0);
+    many[3].cost = 1;
+    many[4] = sgq_completion(0, 1, 7);
+    answers[5].kind = 77;
+    same("five events", sgq_tables_batch(&lent, many, 5, answers, SGQ_COUNT(answers)), 0);
     same("the first is sent", (uint64_t)sgq_sent(answers[0]), 1);
     refused("the second is there", answers[1], SGQ_REFUSED_ID_IN_USE);
     refused("the third is none", answers[2], SGQ_REFUSED_EVENT_KIND);
-    same("the fourth", answers[3].kind, SGQ_NOTHING);
-    same("a spare place", answers[4].kind, 77);
+    refused("nor is the fourth", answers[3], SGQ_REFUSED_EVENT_KIND);
+    same("the fifth", answers[4].kind, SGQ_NOTHING);
+    same("a spare place", answers[5].kind, 77);
     same("time", gate.time, 7);
     same("one too many", sgq_tables_batch(&lent, many, SGQ_COUNT(many), answers, SGQ_COUNT(answers)),
          SGQ_REFUSED_TOO_MANY_EVENTS);
@@ -186,6 +225,7 @@ int main(void)
     counts();
     wakes();
     rules();
+    costs();
     batches();
     return wrong;
 }

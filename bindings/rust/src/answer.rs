@@ -88,13 +88,15 @@ pub enum Refusal {
     TagAboveCeiling = 9,
     /// "completion: guest has no such id in flight".
     NotInFlight = 10,
-    /// "event kind above 2, or a tick with non-zero guest or id", or an id of more than 32 bits: an event of a batch
-    /// that is none. The makers of [`crate::Event`] make no such one.
+    /// "event kind above 2, or a tick with non-zero guest or id", or an id of more than 32 bits, or a completion or tick
+    /// with a cost: an event of a batch that is none. The makers of [`crate::Event`] make no such one.
     EventKind = 14,
     /// Of a whole batch; document 02, K5: "answer buffer short".
     ShortAnswers = 16,
     /// Of a whole batch; document 02, K5: "more than 256 events".
     TooManyEvents = 17,
+    /// Of an arrival; document 02, K8: "a cost outside 1 to 64".
+    Cost = 18,
 }
 
 impl Refusal {
@@ -113,6 +115,7 @@ impl Refusal {
         Refusal::EventKind,
         Refusal::ShortAnswers,
         Refusal::TooManyEvents,
+        Refusal::Cost,
     ];
 
     /// The refusal of this number, if the calls give it.
@@ -145,6 +148,7 @@ impl Refusal {
             Refusal::EventKind => "event kind above 2, or a tick with non-zero guest or id",
             Refusal::ShortAnswers => "answer buffer short",
             Refusal::TooManyEvents => "more than 256 events",
+            Refusal::Cost => "a cost outside 1 to 64",
         }
     }
 }

@@ -88,14 +88,23 @@ impl Gate {
         })
     }
 
-    /// A request of a guest arrives: it gets its tags, waits, and then the choice is made.
+    /// A request of a guest arrives, at a cost from 1 to [`crate::MOST_COST`]: it gets its tags, waits, and then the
+    /// choice is made. Document 02, K8: "A next number becomes tag plus cost times spacing, and after a weight send the
+    /// guest's reservation tags drop by the sent request's cost times the spacing." So a request's own tags do not read
+    /// its cost; those of the guest's next requests do.
     ///
     /// # Errors
     ///
-    /// Refusals 4 to 9 of document 01, the first that holds in this order: [`Refusal::UnknownGuest`],
-    /// [`Refusal::TimeAboveCeiling`], [`Refusal::TimeBeforeLast`], [`Refusal::IdInUse`], [`Refusal::WaitingFull`],
-    /// [`Refusal::TagAboveCeiling`]. The gate is then as it was.
-    pub fn arrive(&mut self, guest: u64, id: u32, time: u64) -> Result<Outcome, Refusal> {
+    /// The first that holds of [`Refusal::UnknownGuest`], [`Refusal::TimeAboveCeiling`], [`Refusal::TimeBeforeLast`],
+    /// [`Refusal::Cost`], [`Refusal::IdInUse`], [`Refusal::WaitingFull`], [`Refusal::TagAboveCeiling`]. The gate is then
+    /// as it was.
+    pub fn arrive(
+        &mut self,
+        guest: u64,
+        id: u32,
+        time: u64,
+        cost: u64,
+    ) -> Result<Outcome, Refusal> {
         let lent = self.lend();
         // SAFETY: see `lend`.
         named(unsafe {
@@ -110,6 +119,7 @@ impl Gate {
                 guest,
                 id,
                 time,
+                cost,
             )
         })
     }

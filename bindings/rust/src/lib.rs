@@ -16,8 +16,9 @@
 //!
 //! let guests = [Settings { reservation: 100, limit: 250, shares: 1, credit: 0 }];
 //! let mut gate = Gate::open(4, 8, Rule::One, &guests)?;
-//! assert_eq!(gate.arrive(0, 1, 0)?, by(Phase::Reservation, 1, None));
-//! assert_eq!(gate.arrive(0, 2, 0)?, nothing(Some(4 * MS)));
+//! // Guest, id, time and cost.
+//! assert_eq!(gate.arrive(0, 1, 0, 1)?, by(Phase::Reservation, 1, None));
+//! assert_eq!(gate.arrive(0, 2, 0, 1)?, nothing(Some(4 * MS)));
 //! assert_eq!(gate.tick(4 * MS)?, by(Phase::Weight, 2, None));
 //! assert_eq!(gate.complete(0, 1, 10 * MS)?, nothing(None));
 //! assert_eq!(gate.complete(0, 1, 10 * MS), Err(Refusal::NotInFlight));
@@ -59,7 +60,7 @@
 //! let guests = [Settings { reservation: 0, limit: 0, shares: 1, credit: 0 }];
 //! let mut gate = Gate::open(1, 8, Rule::One, &guests)?;
 //! let mut room = [raw::Answer::default(); 3];
-//! let events = [Event::arrival(0, 1, 5), Event::arrival(0, 2, 5), Event::completion(0, 1, 9)];
+//! let events = [Event::arrival(0, 1, 5, 1), Event::arrival(0, 2, 5, 1), Event::completion(0, 1, 9)];
 //! for outcome in gate.batch(&events, &mut room)? {
 //!     println!("{}", outcome?); // id 1 goes, nothing goes, id 2 goes
 //! }
@@ -108,3 +109,7 @@ pub const MOST_RATE: u64 = 1_000_000;
 
 /// The most credit of a guest. Document 02, K6: "Each guest record gains a credit c from 0 to 256."
 pub const MOST_CREDIT: u64 = 256;
+
+/// The most that a request costs. Document 02, K8: "An arrival now carries a cost from 1 to 64, worked out by the
+/// driver." A request of cost c counts as c requests of cost 1 against its guest's reservation, limit and shares.
+pub const MOST_COST: u64 = 64;

@@ -11,11 +11,11 @@ pub const SETTINGS_NUMBERS: usize = 4;
 /// How many numbers a guest is.
 pub const GUEST_NUMBERS: usize = 7;
 /// How many numbers a waiting request is.
-pub const REQUEST_NUMBERS: usize = 5;
+pub const REQUEST_NUMBERS: usize = 6;
 /// How many numbers a request in flight is.
 pub const FLIGHT_NUMBERS: usize = 2;
 /// How many numbers an event of a batch is.
-pub const EVENT_NUMBERS: usize = 4;
+pub const EVENT_NUMBERS: usize = 5;
 /// How many numbers an answer is.
 pub const ANSWER_NUMBERS: usize = 5;
 
@@ -61,14 +61,14 @@ pub struct Numbers {
 #[repr(C)]
 #[derive(Clone, Copy, Debug, Default, PartialEq, Eq)]
 pub struct Settings {
-    /// Requests per second, "0 meaning none".
+    /// Requests of cost 1 per second, "0 meaning none".
     pub reservation: u64,
-    /// Requests per second, "0 meaning unlimited".
+    /// Requests of cost 1 per second, "0 meaning unlimited".
     pub limit: u64,
     /// Of what is left when the reservations are served, 1 to 1,000,000.
     pub shares: u64,
-    /// How many requests the guest may send by weight, after a quiet time, ahead of those that were busy meanwhile: 0 to
-    /// 256. Document 02, K6: "Reservations and limits do not read the credit."
+    /// How many requests of cost 1 the guest may send by weight, after a quiet time, ahead of those that were busy
+    /// meanwhile: 0 to 256. Document 02, K6: "Reservations and limits do not read the credit."
     pub credit: u64,
 }
 
@@ -77,9 +77,9 @@ pub struct Settings {
 #[repr(C)]
 #[derive(Clone, Copy, Debug, Default, PartialEq, Eq)]
 pub struct Guest {
-    /// Requests per second, "0 meaning none".
+    /// Requests of cost 1 per second, "0 meaning none".
     pub reservation: u64,
-    /// Requests per second, "0 meaning unlimited".
+    /// Requests of cost 1 per second, "0 meaning unlimited".
     pub limit: u64,
     /// Of what is left when the reservations are served.
     pub shares: u64,
@@ -93,7 +93,7 @@ pub struct Guest {
     pub credit: u64,
 }
 
-/// A waiting request with its tags, which are times in nanoseconds.
+/// A waiting request with its tags, which are times in nanoseconds, and its cost.
 #[repr(C)]
 #[derive(Clone, Copy, Debug, Default, PartialEq, Eq)]
 pub struct Request {
@@ -103,10 +103,13 @@ pub struct Request {
     pub id: u64,
     /// Reservation tag: at or before the time the request is due. 0 and without meaning where there is no reservation.
     pub rtag: u64,
-    /// Limit tag: at or before the time it may go by weight, under rule 2 also by reservation. 0 and without meaning where there is no limit.
+    /// Limit tag: at or before the time it may go by weight, under rule 2 also by reservation. 0 and without meaning where
+    /// there is no limit.
     pub ltag: u64,
     /// Share tag: by weight the smallest goes first.
     pub stag: u64,
+    /// The cost, 1 to 64: how many spacings further on its guest's next tags lie.
+    pub cost: u64,
 }
 
 /// A request in flight, that is at the array.
@@ -138,17 +141,20 @@ pub struct Event {
     pub id: u64,
     /// In nanoseconds.
     pub time: u64,
+    /// 1 to 64 in an arrival, else 0.
+    pub cost: u64,
 }
 
 impl Event {
-    /// A request of a guest arrives.
+    /// A request of a guest arrives, at this cost.
     #[must_use]
-    pub fn arrival(guest: u64, id: u32, time: u64) -> Event {
+    pub fn arrival(guest: u64, id: u32, time: u64, cost: u64) -> Event {
         Event {
             kind: ARRIVAL,
             guest,
             id: id.into(),
             time,
+            cost,
         }
     }
 
@@ -160,6 +166,7 @@ impl Event {
             guest,
             id: id.into(),
             time,
+            cost: 0,
         }
     }
 
@@ -221,7 +228,7 @@ extern "C" {
         flight_length: usize,
     ) -> Answer;
 
-    /// A request arrives.
+    /// A request arrives, at a cost from 1 to [`crate::MOST_COST`]; any other is refused.
     pub fn sgq_arrive(
         gate: *mut u64,
         guest_table: *mut u64,
@@ -233,6 +240,7 @@ extern "C" {
         guest: u64,
         id: u32,
         time: u64,
+        cost: u64,
     ) -> Answer;
 
     /// A request in flight is done.

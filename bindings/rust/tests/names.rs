@@ -2,7 +2,7 @@
 
 use sgq::raw::{self, FLIGHT_NUMBERS, GUEST_NUMBERS, REQUEST_NUMBERS};
 use sgq::{Answer, Flight, Gate, Guest, Outcome, Phase, Refusal, Request, Rule};
-use sgq::{CEILING, MOST_CREDIT};
+use sgq::{CEILING, MOST_COST, MOST_CREDIT};
 
 #[test]
 fn refusals_by_number() {
@@ -58,20 +58,21 @@ fn guest(credit: u64) -> Guest {
 
 /// What a tick answers on this gate, with the tables of one guest, depth 1 and capacity 1 lent to these lengths.
 fn tick(gate: raw::Numbers, guests: usize, waiting: usize, flight: usize) -> raw::Answer {
-    tick_of(gate, guest(0), guests, waiting, flight)
+    tick_of(gate, guest(0), Request::default(), guests, waiting, flight)
 }
 
-/// The same of any guest.
+/// The same of any guest and any row of the waiting table.
 fn tick_of(
     gate: raw::Numbers,
     guest: Guest,
+    request: Request,
     guests: usize,
     waiting: usize,
     flight: usize,
 ) -> raw::Answer {
     let mut gate = gate;
     let mut guest_table = [guest];
-    let mut waiting_table = [Request::default()];
+    let mut waiting_table = [request];
     let mut flight_table = [Flight::default()];
     assert!(guests <= GUEST_NUMBERS && waiting <= REQUEST_NUMBERS && flight <= FLIGHT_NUMBERS);
     // SAFETY: four tables of their own, of which at most as much is lent as there is.
@@ -150,23 +151,30 @@ fn batch(gate: raw::Numbers, events: &[u64], room: &mut [u64]) -> u64 {
 /// Numbers behind the last whole row are no event, and take no room.
 #[test]
 fn rows_of_a_batch() {
-    let tick = [raw::TICK, 0, 0, 7];
-    let events: Vec<u64> = tick.into_iter().chain([raw::TICK, 0, 0]).collect();
+    let tick = [raw::TICK, 0, 0, 7, 0];
+    let more = [raw::TICK, 0, 0, 7];
+    let events: Vec<u64> = tick.into_iter().chain(more).collect();
     let mut room = [77; 9];
     assert_eq!(batch(SOUND, &events, &mut room[..4]), 16);
     assert_eq!(room, [77; 9]);
     assert_eq!(batch(SOUND, &events, &mut room), 0);
     assert_eq!(room, [0, 0, 0, 0, raw::NEVER, 77, 77, 77, 77]);
-    assert_eq!(batch(SOUND, &events[4..], &mut []), 0);
+    assert_eq!(batch(SOUND, &events[raw::EVENT_NUMBERS..], &mut []), 0);
 }
 
 /// What is no event is 14 before the tables are looked at; what is one is refused for them.
 #[test]
 fn a_batch_on_unsound_tables() {
     let unsound = raw::Numbers { depth: 0, ..SOUND };
-    let mut room = [77; 10];
-    assert_eq!(batch(unsound, &[3, 0, 0, 0, 2, 0, 0, 0], &mut room), 0);
-    assert_eq!(room, [3, 0, 0, 14, 0, 3, 0, 0, 3, 0]);
+    let mut room = [77; 20];
+    let kind_3 = [3, 0, 0, 0, 0];
+    let costly = [raw::TICK, 0, 0, 0, 1];
+    let tick = [raw::TICK, 0, 0, 0, 0];
+    let free = [raw::ARRIVAL, 0, 1, 0, 0];
+    let events = [kind_3, costly, tick, free].concat();
+    assert_eq!(batch(unsound, &events, &mut room), 0);
+    let told = [14, 14, 3, 3].map(|refusal| [raw::REFUSED, 0, 0, refusal, 0]);
+    assert_eq!(room, *told.concat());
     assert_eq!(batch(unsound, &[], &mut room), 0);
 }
 
@@ -250,11 +258,60 @@ fn rules_at_opening() {
     }
 }
 
+/// The share spacing of one share.
+const SECOND: u64 = 1_000_000_000;
+
+/// A kept cost is a part of what makes a table sound, and the next number follows it.
+#[test]
+fn costs_in_an_open_table() {
+    let waits = |cost, snext| {
+        let gate = raw::Numbers {
+            waiting: 1,
+            ..SOUND
+        };
+        let guest = Guest { snext, ..guest(0) };
+        let request = Request {
+            cost,
+            ..Request::default()
+        };
+        let (g, w, f) = (GUEST_NUMBERS, REQUEST_NUMBERS, FLIGHT_NUMBERS);
+        tick_of(gate, guest, request, g, w, f)
+    };
+    for cost in [1, 2, MOST_COST] {
+        assert_eq!(waits(cost, cost * SECOND).kind, raw::SENT_BY_WEIGHT);
+        for snext in [cost * SECOND - 1, cost * SECOND + 1, 0] {
+            assert_eq!(waits(cost, snext), refused(Refusal::NotSound));
+        }
+    }
+    for cost in [0, MOST_COST + 1, 1 << 32 | 1, u64::MAX] {
+        let snext = cost.wrapping_mul(SECOND);
+        assert_eq!(waits(cost, snext), refused(Refusal::NotSound));
+    }
+}
+
+/// Where nothing waits, a row with a cost is no unused place, and a next number is at most what cost 64 leaves.
+#[test]
+fn costs_where_nothing_waits() {
+    let idle = |snext, cost| {
+        let guest = Guest { snext, ..guest(0) };
+        let request = Request {
+            cost,
+            ..Request::default()
+        };
+        let (g, w, f) = (GUEST_NUMBERS, REQUEST_NUMBERS, FLIGHT_NUMBERS);
+        tick_of(SOUND, guest, request, g, w, f)
+    };
+    let most = CEILING + 64_000_000_000;
+    assert_eq!(idle(most, 0).kind, raw::NOTHING);
+    assert_eq!(idle(most + 1, 0), refused(Refusal::NotSound));
+    assert_eq!(idle(0, 1), refused(Refusal::NotSound));
+}
+
 #[test]
 fn credit_in_an_open_table() {
     let tick = |credit| {
         let (g, w, f) = (GUEST_NUMBERS, REQUEST_NUMBERS, FLIGHT_NUMBERS);
-        tick_of(SOUND, guest(credit), g, w, f)
+        tick_of(SOUND, guest(credit), Request::default(), g, w, f)
     };
     assert_eq!(tick(MOST_CREDIT).kind, raw::NOTHING);
     assert_eq!(tick(MOST_CREDIT + 1), refused(Refusal::NotSound));

@@ -1,8 +1,9 @@
-//! Document 01's example and edge readings, each refusal, when to tick, credit for bursts, the two rules for limits, and
-//! many events in one call, through the wrapper.
+//! Document 01's example and edge readings, each refusal, when to tick, credit for bursts, the two rules for limits,
+//! costs, and many events in one call, through the wrapper.
 
 #![allow(clippy::unnecessary_wraps)] // what a call must give is compared as it is given
 
+use sgq::MOST_COST;
 use sgq::{raw, Answer, Event, Flight, Gate, Guest, Outcome, Phase, Refusal, Rule, Settings};
 use sgq::{CEILING, MOST_CAPACITY, MOST_CREDIT, MOST_DEPTH, MOST_EVENTS, MOST_GUESTS, MOST_RATE};
 
@@ -68,10 +69,10 @@ fn refused(
 #[test]
 fn example() {
     let mut gate = open(4, 8, &[settings(100, 250, 1)]);
-    assert_eq!(gate.arrive(0, 1, 0), by_reservation(0, 1));
-    assert_eq!(gate.arrive(0, 2, 0), until(4 * MS, NOTHING));
-    assert_eq!(gate.arrive(0, 3, 0), until(4 * MS, NOTHING));
-    assert_eq!(gate.arrive(0, 4, 0), until(4 * MS, NOTHING));
+    assert_eq!(gate.arrive(0, 1, 0, 1), by_reservation(0, 1));
+    assert_eq!(gate.arrive(0, 2, 0, 1), until(4 * MS, NOTHING));
+    assert_eq!(gate.arrive(0, 3, 0, 1), until(4 * MS, NOTHING));
+    assert_eq!(gate.arrive(0, 4, 0, 1), until(4 * MS, NOTHING));
     assert_eq!(gate.tick(4 * MS), until(8 * MS, by_weight(0, 2)));
     assert_eq!(gate.tick(8 * MS), until(10 * MS, by_weight(0, 3)));
     assert_eq!(gate.tick(10 * MS), by_reservation(0, 4));
@@ -88,9 +89,9 @@ fn example_under_rule_2() {
     let guests = [settings(100, 250, 1)];
     let mut gate = Gate::open(4, 8, Rule::Two, &guests).expect("good settings");
     assert_eq!(gate.rule(), Rule::Two);
-    assert_eq!(gate.arrive(0, 1, 0), by_reservation(0, 1));
+    assert_eq!(gate.arrive(0, 1, 0, 1), by_reservation(0, 1));
     for id in [2, 3, 4] {
-        assert_eq!(gate.arrive(0, id, 0), until(4 * MS, NOTHING));
+        assert_eq!(gate.arrive(0, id, 0, 1), until(4 * MS, NOTHING));
     }
     assert_eq!(gate.tick(4 * MS), until(8 * MS, by_weight(0, 2)));
     assert_eq!(gate.tick(8 * MS), until(12 * MS, by_weight(0, 3)));
@@ -110,14 +111,14 @@ fn another_goes_under_rule_2() {
     for (rule, sent) in [(Rule::One, (0, 4)), (Rule::Two, (1, 2))] {
         let mut gate = Gate::open(4, 8, rule, &guests).expect("good settings");
         assert_eq!(gate.rule(), rule);
-        assert_eq!(gate.arrive(0, 1, 0), by_reservation(0, 1));
+        assert_eq!(gate.arrive(0, 1, 0, 1), by_reservation(0, 1));
         for id in [2, 3, 4] {
-            assert_eq!(gate.arrive(0, id, 0), until(4 * MS, NOTHING));
+            assert_eq!(gate.arrive(0, id, 0, 1), until(4 * MS, NOTHING));
         }
-        assert_eq!(gate.arrive(1, 1, 0), until(4 * MS, by_reservation(1, 1)));
+        assert_eq!(gate.arrive(1, 1, 0, 1), until(4 * MS, by_reservation(1, 1)));
         assert_eq!(gate.tick(4 * MS), until(8 * MS, by_weight(0, 2)));
         assert_eq!(gate.tick(8 * MS), by_weight(0, 3));
-        assert_eq!(gate.arrive(1, 2, 9 * MS), NOTHING);
+        assert_eq!(gate.arrive(1, 2, 9 * MS, 1), NOTHING);
         let (guest, id) = sent;
         let answer = gate.complete(0, 1, 10 * MS);
         assert_eq!(answer, by_reservation(guest, id));
@@ -127,9 +128,9 @@ fn another_goes_under_rule_2() {
 /// A with shares 1 and B with shares 2 at depth 1; A's ids 1, 2, 3 at 0.
 fn two_guests() -> Gate {
     let mut gate = open(1, 8, &[settings(0, 0, 1), settings(0, 0, 2)]);
-    assert_eq!(gate.arrive(0, 1, 0), by_weight(0, 1));
-    assert_eq!(gate.arrive(0, 2, 0), NOTHING);
-    assert_eq!(gate.arrive(0, 3, 0), NOTHING);
+    assert_eq!(gate.arrive(0, 1, 0, 1), by_weight(0, 1));
+    assert_eq!(gate.arrive(0, 2, 0, 1), NOTHING);
+    assert_eq!(gate.arrive(0, 3, 0, 1), NOTHING);
     assert_eq!(share_tags(&gate), [0, 1_000 * MS]);
     gate
 }
@@ -141,7 +142,7 @@ fn share_tags(gate: &Gate) -> Vec<u64> {
 #[test]
 fn shares_at_100_ms() {
     let mut gate = two_guests();
-    assert_eq!(gate.arrive(1, 1, 100 * MS), NOTHING);
+    assert_eq!(gate.arrive(1, 1, 100 * MS, 1), NOTHING);
     assert_eq!(share_tags(&gate), [100 * MS, 1_100 * MS, 100 * MS]);
     assert_eq!(gate.complete(0, 1, 100 * MS), by_weight(0, 2));
     assert_eq!(gate.complete(0, 2, 100 * MS), by_weight(1, 1));
@@ -150,14 +151,14 @@ fn shares_at_100_ms() {
 #[test]
 fn shares_at_1500_ms() {
     let mut gate = two_guests();
-    assert_eq!(gate.arrive(1, 1, 1_500 * MS), NOTHING);
+    assert_eq!(gate.arrive(1, 1, 1_500 * MS, 1), NOTHING);
     assert_eq!(share_tags(&gate), [1_500 * MS, 2_500 * MS, 1_500 * MS]);
 }
 
 #[test]
 fn spacings() {
     let mut gate = open(1, 8, &[settings(3, 3, 300)]);
-    assert_eq!(gate.arrive(0, 1, 0), by_reservation(0, 1));
+    assert_eq!(gate.arrive(0, 1, 0, 1), by_reservation(0, 1));
     let guest = gate.guests()[0];
     let expected = Guest {
         reservation: 3,
@@ -177,10 +178,10 @@ fn ceiling() {
     refused(&mut gate, Refusal::TimeAboveCeiling, |gate| {
         gate.tick(CEILING + 1)
     });
-    assert_eq!(gate.arrive(0, 1, CEILING), by_weight(0, 1));
-    assert_eq!(gate.arrive(0, 2, CEILING), NOTHING);
+    assert_eq!(gate.arrive(0, 1, CEILING, 1), by_weight(0, 1));
+    assert_eq!(gate.arrive(0, 2, CEILING, 1), NOTHING);
     refused(&mut gate, Refusal::TagAboveCeiling, |gate| {
-        gate.arrive(0, 3, CEILING)
+        gate.arrive(0, 3, CEILING, 1)
     });
     assert_eq!(gate.time(), CEILING);
 }
@@ -192,9 +193,9 @@ fn ceiling_with_a_reservation_or_a_limit() {
         (settings(0, 1, 1), by_weight(0, 1)),
     ] {
         let mut gate = open(2, 8, &[guest]);
-        assert_eq!(gate.arrive(0, 1, CEILING), first);
+        assert_eq!(gate.arrive(0, 1, CEILING, 1), first);
         refused(&mut gate, Refusal::TagAboveCeiling, |gate| {
-            gate.arrive(0, 2, CEILING)
+            gate.arrive(0, 2, CEILING, 1)
         });
     }
 }
@@ -202,19 +203,21 @@ fn ceiling_with_a_reservation_or_a_limit() {
 #[test]
 fn capacity_1_depth_1() {
     let mut gate = open(1, 1, &[settings(0, 0, 1)]);
-    assert_eq!(gate.arrive(0, 1, 0), by_weight(0, 1));
-    assert_eq!(gate.arrive(0, 2, 0), NOTHING);
-    refused(&mut gate, Refusal::WaitingFull, |gate| gate.arrive(0, 3, 0));
+    assert_eq!(gate.arrive(0, 1, 0, 1), by_weight(0, 1));
+    assert_eq!(gate.arrive(0, 2, 0, 1), NOTHING);
+    refused(&mut gate, Refusal::WaitingFull, |gate| {
+        gate.arrive(0, 3, 0, 1)
+    });
     assert_eq!(gate.complete(0, 1, 0), by_weight(0, 2));
-    assert_eq!(gate.arrive(0, 3, 0), NOTHING);
+    assert_eq!(gate.arrive(0, 3, 0, 1), NOTHING);
 }
 
 #[test]
 fn guest_64_of_64() {
     let mut gate = open(2, 2, &[settings(0, 0, 1); 64]);
-    assert_eq!(gate.arrive(63, 1, 0), by_weight(63, 1));
+    assert_eq!(gate.arrive(63, 1, 0, 1), by_weight(63, 1));
     refused(&mut gate, Refusal::UnknownGuest, |gate| {
-        gate.arrive(64, 1, 0)
+        gate.arrive(64, 1, 0, 1)
     });
     refused(&mut gate, Refusal::UnknownGuest, |gate| {
         gate.complete(u64::MAX, 1, 0)
@@ -224,13 +227,13 @@ fn guest_64_of_64() {
 #[test]
 fn an_id_in_use() {
     let mut gate = open(1, 4, &[settings(0, 0, 1)]);
-    assert_eq!(gate.arrive(0, u32::MAX, 0), by_weight(0, u32::MAX));
-    assert_eq!(gate.arrive(0, 2, 0), NOTHING);
+    assert_eq!(gate.arrive(0, u32::MAX, 0, 1), by_weight(0, u32::MAX));
+    assert_eq!(gate.arrive(0, 2, 0, 1), NOTHING);
     for id in [u32::MAX, 2] {
-        refused(&mut gate, Refusal::IdInUse, |gate| gate.arrive(0, id, 0));
+        refused(&mut gate, Refusal::IdInUse, |gate| gate.arrive(0, id, 0, 1));
     }
     assert_eq!(gate.complete(0, u32::MAX, 0), by_weight(0, 2));
-    assert_eq!(gate.arrive(0, u32::MAX, 0), NOTHING);
+    assert_eq!(gate.arrive(0, u32::MAX, 0, 1), NOTHING);
 }
 
 #[test]
@@ -265,12 +268,12 @@ fn bad_settings() {
 #[test]
 fn a_burst() {
     let mut gate = open(1, 8, &[settings(0, 0, 1), credited(10, 3)]);
-    assert_eq!(gate.arrive(0, 1, 0), by_weight(0, 1));
+    assert_eq!(gate.arrive(0, 1, 0, 1), by_weight(0, 1));
     for (guest, id, time) in [(0, 2, 0), (0, 3, 0)] {
-        assert_eq!(gate.arrive(guest, id, time), NOTHING);
+        assert_eq!(gate.arrive(guest, id, time, 1), NOTHING);
     }
     for id in 1..=5 {
-        assert_eq!(gate.arrive(1, id, 1_000 * MS), NOTHING);
+        assert_eq!(gate.arrive(1, id, 1_000 * MS, 1), NOTHING);
     }
     let tags = [1_000, 2_000, 700, 800, 900, 1_000, 1_100];
     assert_eq!(share_tags(&gate), tags.map(|tag| tag * MS));
@@ -288,7 +291,7 @@ fn credit_of_an_idle_guest() {
     let mut gate = open(8, 8, &[credited(1, 2)]);
     let mut nexts = Vec::new();
     for id in 1..=4 {
-        assert_eq!(gate.arrive(0, id, 5_000 * MS), by_weight(0, id));
+        assert_eq!(gate.arrive(0, id, 5_000 * MS, 1), by_weight(0, id));
         nexts.push(gate.guests()[0].snext / MS);
     }
     assert_eq!(nexts, [4_000, 5_000, 6_000, 6_000]);
@@ -299,9 +302,9 @@ fn credit_of_an_idle_guest() {
 #[test]
 fn where_credit_ends() {
     let mut gate = open(1, 8, &[settings(0, 0, 1), credited(10, 3)]);
-    assert_eq!(gate.arrive(0, 1, 0), by_weight(0, 1));
-    assert_eq!(gate.arrive(1, 1, 200 * MS), NOTHING);
-    assert_eq!(gate.arrive(1, 2, 9_000 * MS), NOTHING);
+    assert_eq!(gate.arrive(0, 1, 0, 1), by_weight(0, 1));
+    assert_eq!(gate.arrive(1, 1, 200 * MS, 1), NOTHING);
+    assert_eq!(gate.arrive(1, 2, 9_000 * MS, 1), NOTHING);
     assert_eq!(share_tags(&gate), [0, 8_700 * MS]);
 }
 
@@ -310,14 +313,116 @@ fn where_credit_ends() {
 fn ceiling_with_credit() {
     for (credit, last) in [(0, 3), (1, 3), (2, 4)] {
         let mut gate = open(1, 8, &[credited(1, credit)]);
-        assert_eq!(gate.arrive(0, 1, CEILING), by_weight(0, 1));
+        assert_eq!(gate.arrive(0, 1, CEILING, 1), by_weight(0, 1));
         for id in 2..last {
-            assert_eq!(gate.arrive(0, id, CEILING), NOTHING);
+            assert_eq!(gate.arrive(0, id, CEILING, 1), NOTHING);
         }
         refused(&mut gate, Refusal::TagAboveCeiling, |gate| {
-            gate.arrive(0, last, CEILING)
+            gate.arrive(0, last, CEILING, 1)
         });
     }
+}
+
+/// A next number lies as many spacings behind the tag as the request costs; the tags do not read it.
+#[test]
+fn next_numbers_by_cost() {
+    for cost in [1, 2, 63, MOST_COST] {
+        let mut gate = open(1, 8, &[settings(3, 3, 300)]);
+        assert_eq!(gate.arrive(0, 1, 5, cost), by_reservation(0, 1));
+        let guest = gate.guests()[0];
+        let nexts = [333_333_333, 333_333_334, 3_333_333].map(|spacing| 5 + cost * spacing);
+        assert_eq!([guest.rnext, guest.lnext, guest.snext], nexts);
+        assert_eq!(gate.arrive(0, 2, 5, MOST_COST), NOTHING);
+        let request = gate.waiting()[0];
+        let [rtag, ltag, _] = nexts;
+        assert_eq!((request.rtag, request.ltag), (rtag, ltag));
+        assert_eq!((request.stag, request.cost), (5, MOST_COST));
+    }
+}
+
+/// Two guests of the same shares: A's plates cost 4, B's bids 1. Behind each plate four bids go.
+#[test]
+fn shares_by_cost() {
+    let mut gate = open(1, 16, &[settings(0, 0, 10), settings(0, 0, 10)]);
+    assert_eq!(gate.arrive(0, 0, 0, 4), by_weight(0, 0));
+    for id in 1..=2 {
+        assert_eq!(gate.arrive(0, id, 0, 4), NOTHING);
+    }
+    for id in 1..=8 {
+        assert_eq!(gate.arrive(1, id, 0, 1), NOTHING);
+    }
+    assert_eq!(share_tags(&gate)[..3], [0, 400 * MS, 0]);
+    let mut done = (0, 0);
+    let bids = |from| (from..from + 4).map(|id| (1, id));
+    let order = [(0, 1)].into_iter().chain(bids(1));
+    for (guest, id) in order.chain([(0, 2)]).chain(bids(5)) {
+        let sent = by_weight(guest, id);
+        assert_eq!(gate.complete(done.0, done.1, 0), sent);
+        done = (guest, id);
+    }
+}
+
+/// One in 100 ms reserved. Id 2 costs 3 and goes by weight: the reservation of what is behind it drops by 300 ms.
+#[test]
+fn drop_by_cost() {
+    let mut gate = open(1, 8, &[settings(10, 0, 1)]);
+    assert_eq!(gate.arrive(0, 1, 0, 1), by_reservation(0, 1));
+    for (id, cost) in [(2, 3), (3, 2), (4, 1)] {
+        assert_eq!(gate.arrive(0, id, 0, cost), NOTHING);
+    }
+    let tags = |gate: &Gate| -> Vec<u64> {
+        let waiting = gate.waiting().iter();
+        waiting.map(|request| request.rtag / MS).collect()
+    };
+    assert_eq!(tags(&gate), [100, 400, 600]);
+    assert_eq!(gate.complete(0, 1, 0), by_weight(0, 2));
+    assert_eq!(tags(&gate), [100, 300]);
+    assert_eq!(gate.guests()[0].rnext, 400 * MS);
+}
+
+/// One in 100 ms is the limit. Behind a request of cost 3 the next may go after 300 ms.
+#[test]
+fn limit_by_cost() {
+    let mut gate = open(4, 8, &[settings(0, 10, 1)]);
+    assert_eq!(gate.arrive(0, 1, 0, 3), by_weight(0, 1));
+    assert_eq!(gate.arrive(0, 2, 0, 1), until(300 * MS, NOTHING));
+    assert_eq!(gate.tick(300 * MS), by_weight(0, 2));
+}
+
+/// "A cost outside 1 to 64 is 18, after 6 and before 7."
+#[test]
+fn bad_costs() {
+    let mut gate = open(1, 1, &[settings(0, 0, 1)]);
+    assert_eq!(gate.arrive(0, 1, 5, MOST_COST), by_weight(0, 1));
+    assert_eq!(gate.arrive(0, 2, 5, 1), NOTHING);
+    for cost in [0, MOST_COST + 1, 1 << 32 | 1, u64::MAX] {
+        for (guest, id, time, refusal) in [
+            (1, 1, 5, Refusal::UnknownGuest),
+            (0, 1, CEILING + 1, Refusal::TimeAboveCeiling),
+            (0, 1, 4, Refusal::TimeBeforeLast),
+            (0, 1, 5, Refusal::Cost),
+            (0, 3, 5, Refusal::Cost),
+        ] {
+            refused(&mut gate, refusal, |gate| {
+                gate.arrive(guest, id, time, cost)
+            });
+        }
+    }
+    refused(&mut gate, Refusal::IdInUse, |gate| gate.arrive(0, 1, 5, 64));
+    refused(&mut gate, Refusal::WaitingFull, |gate| {
+        gate.arrive(0, 3, 5, 64)
+    });
+}
+
+/// At 2^62 - 1 a request of any cost is taken: its tags are the time, and only a next number passes the ceiling.
+#[test]
+fn ceiling_by_cost() {
+    let mut gate = open(1, 8, &[settings(1, 1, 1)]);
+    assert_eq!(gate.arrive(0, 1, CEILING, MOST_COST), by_reservation(0, 1));
+    let guest = gate.guests()[0];
+    let far = CEILING + MOST_COST * 1_000 * MS;
+    assert_eq!([guest.rnext, guest.lnext, guest.snext], [far; 3]);
+    assert_eq!(gate.complete(0, 1, CEILING), NOTHING);
 }
 
 #[test]
@@ -326,8 +431,8 @@ fn what_a_gate_shows() {
     assert_eq!((gate.depth(), gate.capacity(), gate.time()), (2, 3, 0));
     assert_eq!((gate.waiting(), gate.flight()), (&[][..], &[][..]));
     assert_eq!((gate.free_places(), gate.free_waiting()), (2, 3));
-    assert_eq!(gate.arrive(0, 7, 5), by_weight(0, 7));
-    assert_eq!(gate.arrive(0, 8, 6), until(1_000 * MS + 5, NOTHING));
+    assert_eq!(gate.arrive(0, 7, 5, 1), by_weight(0, 7));
+    assert_eq!(gate.arrive(0, 8, 6, 1), until(1_000 * MS + 5, NOTHING));
     assert_eq!((gate.free_places(), gate.free_waiting()), (1, 2));
     assert_eq!((gate.flight_of(0), gate.waiting_of(0)), (1, 1));
     assert_eq!((gate.flight_of(1), gate.waiting_of(1)), (0, 0));
@@ -339,11 +444,11 @@ fn what_a_gate_shows() {
 /// A gate at which `count` requests of a guest with this limit arrive at 0; the first goes at once.
 fn limited(depth: u64, limit: u64, count: u32) -> Gate {
     let mut gate = open(depth, 8, &[settings(0, limit, 1)]);
-    assert_eq!(gate.arrive(0, 1, 0), by_weight(0, 1));
+    assert_eq!(gate.arrive(0, 1, 0, 1), by_weight(0, 1));
     for id in 2..=count {
         let wake = (depth > 1).then_some(1_000 * MS / limit);
         let answer = Answer::Nothing;
-        assert_eq!(gate.arrive(0, id, 0), Ok(Outcome { answer, wake }));
+        assert_eq!(gate.arrive(0, id, 0, 1), Ok(Outcome { answer, wake }));
     }
     gate
 }
@@ -371,8 +476,8 @@ fn woken_after_a_completion() {
 fn woken_at_the_ceiling() {
     let mut gate = open(2, 2, &[settings(0, 1, 1)]);
     let early = CEILING - 1_000 * MS;
-    assert_eq!(gate.arrive(0, 1, early), by_weight(0, 1));
-    assert_eq!(gate.arrive(0, 2, early), until(CEILING, NOTHING));
+    assert_eq!(gate.arrive(0, 1, early, 1), by_weight(0, 1));
+    assert_eq!(gate.arrive(0, 2, early, 1), until(CEILING, NOTHING));
     assert_eq!(gate.tick(CEILING), by_weight(0, 2));
 }
 
@@ -383,7 +488,7 @@ fn every_tick_sends() {
     let mut wake = None;
     for id in 0..4 {
         for guest in [0, 1] {
-            wake = gate.arrive(guest, id, 0).expect("there is room").wake;
+            wake = gate.arrive(guest, id, 0, 1).expect("there is room").wake;
         }
     }
     let mut ticks = 0;
@@ -415,7 +520,7 @@ fn batch(gate: &mut Gate, events: &[Event]) -> Vec<Result<Outcome, Refusal>> {
 #[test]
 fn example_in_one_call() {
     let mut gate = open(4, 8, &[settings(100, 250, 1)]);
-    let arrivals = (1..=4).map(|id| Event::arrival(0, id, 0));
+    let arrivals = (1..=4).map(|id| Event::arrival(0, id, 0, 1));
     let ticks = [4, 8, 10, 9].map(|time| Event::tick(time * MS));
     let ends = [Event::completion(0, 1, 10 * MS); 2];
     let events: Vec<_> = arrivals.chain(ticks).chain(ends).collect();
@@ -442,14 +547,14 @@ fn one_by_one() {
     let mut gate = limited(2, 10, 3);
     let mut alone = gate.clone();
     let events = [
-        Event::arrival(0, 9, 7),
-        Event::arrival(1, 9, 7),
+        Event::arrival(0, 9, 7, 1),
+        Event::arrival(1, 9, 7, 1),
         Event::completion(0, 1, 100 * MS),
         Event::tick(100 * MS),
     ];
     let single = vec![
-        alone.arrive(0, 9, 7),
-        alone.arrive(1, 9, 7),
+        alone.arrive(0, 9, 7, 1),
+        alone.arrive(1, 9, 7, 1),
         alone.complete(0, 1, 100 * MS),
         alone.tick(100 * MS),
     ];
@@ -461,25 +566,32 @@ fn one_by_one() {
 fn what_is_no_event() {
     let mut gate = limited(2, 10, 3);
     let before = gate.clone();
-    let event = |kind, guest, id| Event {
+    let event = |kind, guest, id, cost| Event {
         kind,
         guest,
         id,
         time: 0,
+        cost,
     };
     let none = [
-        event(3, 0, 0),
-        event(u64::MAX, 0, 0),
-        event(raw::TICK, 1, 0),
-        event(raw::TICK, 0, 1),
-        event(raw::ARRIVAL, 0, 1 << 32),
-        event(raw::COMPLETION, 9, u64::MAX),
+        event(3, 0, 0, 0),
+        event(3, 0, 0, 1),
+        event(u64::MAX, 0, 0, 0),
+        event(raw::TICK, 1, 0, 0),
+        event(raw::TICK, 0, 1, 0),
+        event(raw::TICK, 0, 0, 1),
+        event(raw::ARRIVAL, 0, 1 << 32, 1),
+        event(raw::COMPLETION, 9, u64::MAX, 0),
+        event(raw::COMPLETION, 0, 1, 1),
+        event(raw::COMPLETION, 0, 1, u64::MAX),
     ];
     let answers = batch(&mut gate, &none);
     assert_eq!(answers, vec![Err(Refusal::EventKind); none.len()]);
-    let far = event(raw::ARRIVAL, u64::MAX, 1);
-    let answers = batch(&mut gate, &[far]);
-    assert_eq!(answers, [Err(Refusal::UnknownGuest)]);
+    let far = event(raw::ARRIVAL, u64::MAX, 1, 0);
+    let free = event(raw::ARRIVAL, 0, 1, 0);
+    let answers = batch(&mut gate, &[far, free]);
+    let expected = [Err(Refusal::UnknownGuest), Err(Refusal::Cost)];
+    assert_eq!(answers, expected);
     assert_eq!(gate, before);
 }
 

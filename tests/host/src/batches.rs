@@ -107,6 +107,9 @@ fn note(found: u64, batch: &Batch, answers: &[u64], seen: &mut Seen) {
             refusal,
             wake,
         };
-        seen.note(answer, event[EVENT_NUMBERS - 1]);
+        let &[_, _, _, time, _] = event else {
+            unreachable!("a whole row")
+        };
+        seen.note(answer, time);
     }
 }

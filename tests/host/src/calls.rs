@@ -9,9 +9,20 @@ use sgq::raw;
 #[derive(Clone, Debug)]
 pub enum Call {
     Open(Opening),
-    Arrive { guest: u64, id: u32, time: u64 },
-    Complete { guest: u64, id: u32, time: u64 },
-    Tick { time: u64 },
+    Arrive {
+        guest: u64,
+        id: u32,
+        time: u64,
+        cost: u64,
+    },
+    Complete {
+        guest: u64,
+        id: u32,
+        time: u64,
+    },
+    Tick {
+        time: u64,
+    },
 }
 
 #[derive(Clone, Debug)]
@@ -86,9 +97,14 @@ fn of_library(
                     w, flight, f,
                 )
             }
-            &Call::Arrive { guest, id, time } => {
-                raw::sgq_arrive(gate, guests, g, waiting, w, flight, f, guest, id, time)
-            }
+            &Call::Arrive {
+                guest,
+                id,
+                time,
+                cost,
+            } => raw::sgq_arrive(
+                gate, guests, g, waiting, w, flight, f, guest, id, time, cost,
+            ),
             &Call::Complete { guest, id, time } => {
                 raw::sgq_complete(gate, guests, g, waiting, w, flight, f, guest, id, time)
             }
@@ -125,7 +141,12 @@ fn of_second(call: &Call, tables: &mut Owned) -> raw::Answer {
             let (depth, guests, capacity) = (o.depth, o.guests, o.capacity);
             second::open(depth, guests, capacity, o.rule, &o.settings, &mut lent)
         }
-        &Call::Arrive { guest, id, time } => second::arrive(&mut lent, guest, id, time),
+        &Call::Arrive {
+            guest,
+            id,
+            time,
+            cost,
+        } => second::arrive(&mut lent, guest, id, time, cost),
         &Call::Complete { guest, id, time } => second::complete(&mut lent, guest, id, time),
         &Call::Tick { time } => second::tick(&mut lent, time),
     })

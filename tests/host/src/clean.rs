@@ -1,10 +1,12 @@
 //! Sound tables through many calls: a gate is opened and the events of a random trace are played on it. A trace cannot
-//! say a rule nor a credit, so the rule is named by who plays and each guest is given a credit here.
+//! say a rule, a credit or a cost, so the rule is named by who plays, and each guest is given a credit here and each
+//! arrival a cost. So other requests are in flight than the trace knows of, and most completions are of those.
 
 use crate::calls::{hold, Call, Fences, Opening};
+use crate::damage::cost;
 use crate::tally::Seen;
 use second::kinds::{fixed, trace};
-use second::numbers::MOST_CREDIT;
+use second::numbers::{MOST_COST, MOST_CREDIT};
 use second::sample::{Owned, Prng};
 use second::tables::{FLIGHT_NUMBERS, GATE_NUMBERS, GUEST_NUMBERS, WAITING_NUMBERS};
 use second::trace::{settings_of, Event, EVENT_BYTES, GUEST_BYTES, START_BYTES};
@@ -28,18 +30,19 @@ pub fn play(
         "fixed" => fixed(WAITING, most as u64),
         _ => trace(kind, seed).ok_or("there is no such kind of trace")?,
     };
-    let opening = opening(rule, &bytes, &mut Prng::new(seed));
+    let (mut rng, dearest) = (Prng::new(seed), dearest(kind, seed));
+    let opening = opening(rule, &bytes, &mut rng);
     let events = &bytes[START_BYTES + opening.guests as usize * GUEST_BYTES..];
     let mut tables = dusty(&opening);
-    let mut make = |call: &Call, number: usize| {
-        let answer =
-            hold(call, &mut tables, fences).map_err(|why| format!("event {number}, {why}"))?;
+    let mut make = |call: &Call, number: usize, tables: &mut Owned| {
+        let answer = hold(call, tables, fences).map_err(|why| format!("event {number}, {why}"))?;
         seen.note(answer, tables.view().gate().time);
         Ok::<(), String>(())
     };
-    make(&Call::Open(opening), 0)?;
+    make(&Call::Open(opening), 0, &mut tables)?;
     for (number, event) in events.chunks_exact(EVENT_BYTES).take(most).enumerate() {
-        make(&call(event), number + 1)?;
+        let call = call(event, dearest, &tables, &mut rng);
+        make(&call, number + 1, &mut tables)?;
     }
     Ok(tables)
 }
@@ -71,12 +74,42 @@ fn dusty(opening: &Opening) -> Owned {
     )
 }
 
-fn call(bytes: &[u8]) -> Call {
+/// The most that a request costs in a run. Where many cost much, limits let few of them go, so in some runs all cost
+/// little or 1; in the large ones they cost anything.
+fn dearest(kind: &str, seed: u64) -> u64 {
+    match (kind, seed % 3) {
+        ("large", _) | (_, 0) => MOST_COST,
+        (_, 1) => 4,
+        _ => 1,
+    }
+}
+
+/// The call that an event of a trace is; an arrival costs up to so much, a few of them what none may.
+fn call(bytes: &[u8], dearest: u64, tables: &Owned, rng: &mut Prng) -> Call {
     let event = Event::from_bytes(bytes.try_into().expect("a whole event"));
     let (guest, id, time) = (event.guest as u64, event.id, event.time);
     match event.kind {
-        0 => Call::Arrive { guest, id, time },
-        1 => Call::Complete { guest, id, time },
+        0 => Call::Arrive {
+            guest,
+            id,
+            time,
+            cost: cost(rng, 4, dearest),
+        },
+        1 => {
+            let (guest, id) = flown(tables, rng).unwrap_or((guest, id));
+            Call::Complete { guest, id, time }
+        }
         _ => Call::Tick { time },
     }
+}
+
+/// A request in flight, if there is one, and most often then.
+fn flown(tables: &Owned, rng: &mut Prng) -> Option<(u64, u32)> {
+    let view = tables.view();
+    let flight = view.gate().flight;
+    if flight == 0 || rng.chance(20) {
+        return None;
+    }
+    let row = view.flight(rng.below(flight) as usize);
+    Some((row.guest, row.id as u32))
 }

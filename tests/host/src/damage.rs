@@ -1,10 +1,10 @@
 //! Random tables, most of them damaged, and random calls on them.
 
 use crate::calls::{Call, Opening};
-use second::numbers::{CEILING, MOST_CAPACITY, MOST_CREDIT, MOST_DEPTH, MOST_GUESTS, MOST_RATE};
-use second::numbers::{RULE_1, RULE_2};
-use second::sample::{sound_tables, spoil, Owned, Prng};
-use second::tables::Flight;
+use second::numbers::{Settings, CEILING, MOST_CAPACITY, MOST_COST, MOST_CREDIT, MOST_DEPTH};
+use second::numbers::{MOST_GUESTS, MOST_RATE, RULE_1, RULE_2};
+use second::sample::{bad_cost, good_cost, sound_tables, spoil, Owned, Prng};
+use second::tables::{Flight, Guest, Waiting};
 use second::tables::{
     CREDIT, FLIGHT_NUMBERS, GATE_NUMBERS, GUEST_NUMBERS, RULE, SETTINGS_CREDIT, SETTINGS_NUMBERS,
     WAITING_NUMBERS,
@@ -36,12 +36,13 @@ pub fn tables(rng: &mut Prng) -> Owned {
 
 /// One damage, or none that can be seen.
 pub fn damage(rng: &mut Prng, tables: &mut Owned) {
-    match rng.below(12) {
+    match rng.below(14) {
         0 => rubbish(rng, tables),
         1 => cut(rng, tables),
         2..=3 => repeat_id(rng, tables),
         4 => another_credit(rng, tables),
         5 => tables.gate[RULE] = rng.pick(&RULES),
+        6..=7 => another_cost(rng, tables),
         _ => spoil_lent(rng, tables),
     }
 }
@@ -52,6 +53,52 @@ fn another_credit(rng: &mut Prng, tables: &mut Owned) {
     if guests > 0 {
         let at = rng.below(guests) as usize * GUEST_NUMBERS + CREDIT;
         tables.guests[at] = rng.pick(&CREDITS);
+    }
+}
+
+/// A waiting request gets another cost, or one that none may have. Where it is the last of its guest the next numbers
+/// follow, so that nothing else is wrong then.
+fn another_cost(rng: &mut Prng, tables: &mut Owned) {
+    let rows = (tables.waiting.len() / WAITING_NUMBERS) as u64;
+    let waits = rows.min(tables.view().gate().waiting) as usize;
+    if waits == 0 {
+        return;
+    }
+    let place = rng.below(waits as u64) as usize;
+    let mut row = tables.view().waiting(place);
+    row.cost = cost(rng, 50, MOST_COST);
+    overwrite(&mut tables.waiting, place, row.numbers());
+    let last = !(place + 1..waits).any(|other| tables.view().waiting(other).guest == row.guest);
+    let known = (tables.guests.len() / GUEST_NUMBERS) as u64;
+    if last && row.guest < known {
+        let owner = row.guest as usize;
+        let guest = followed(tables.view().guest(owner).settings, &row);
+        overwrite(&mut tables.guests, owner, guest.numbers());
+    }
+}
+
+/// A guest of these settings, which may be any, with the next numbers that its last request leaves.
+fn followed(settings: Settings, last: &Waiting) -> Guest {
+    let next = |tag: u64, apart: u64| tag.wrapping_add(last.cost.wrapping_mul(apart));
+    let mut guest = Guest::fresh(settings);
+    if settings.has_reservation() {
+        guest.rnext = next(last.rtag, settings.reservation_spacing());
+    }
+    if settings.has_limit() {
+        guest.lnext = next(last.ltag, settings.limit_spacing());
+    }
+    if settings.shares != 0 {
+        guest.snext = next(last.stag, settings.share_spacing());
+    }
+    guest
+}
+
+/// A cost: so often in a hundred a bad one, which is 0, 65 or huge, else one from 1 to `dearest`, both ends often.
+pub fn cost(rng: &mut Prng, bad: u64, dearest: u64) -> u64 {
+    if rng.chance(bad) {
+        bad_cost(rng)
+    } else {
+        good_cost(rng).min(dearest)
     }
 }
 
@@ -156,7 +203,13 @@ fn rows(tables: &Owned) -> Vec<Row> {
 pub fn calls(rng: &mut Prng, tables: &Owned) -> [Call; 4] {
     let (guest, id) = named(rng, tables);
     let time = time(rng, tables);
-    let arrive = Call::Arrive { guest, id, time };
+    let cost = cost(rng, 12, MOST_COST);
+    let arrive = Call::Arrive {
+        guest,
+        id,
+        time,
+        cost,
+    };
     let (guest, id) = named(rng, tables);
     let time = self::time(rng, tables);
     let complete = Call::Complete { guest, id, time };

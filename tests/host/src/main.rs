@@ -14,7 +14,7 @@ mod fence;
 mod tally;
 
 use calls::{broken_rule, hold, Fences};
-use second::numbers::{RULE_1, RULE_2};
+use second::numbers::{MOST_COST, RULE_1, RULE_2};
 use second::sample::{Owned, Prng};
 use second::Rule;
 use sgq::Refusal;
@@ -31,8 +31,12 @@ const BATCH_SEEDS: usize = 1_500;
 const LARGE_BATCH_SEEDS: usize = 20;
 const BATCHES: usize = 3;
 
-/// How many of the refusals single calls give: those behind them are a batch's.
-const SINGLE: usize = 10;
+/// The refusals that no single call gives.
+const OF_BATCHES: [Refusal; 3] = [
+    Refusal::EventKind,
+    Refusal::ShortAnswers,
+    Refusal::TooManyEvents,
+];
 
 /// Kinds of traces for clean runs, how many of each, and how many events at most. The large ones come last. Each is
 /// played under both rules for limits.
@@ -75,7 +79,9 @@ fn damaged(first: u64, fences: &mut Fences, tally: &mut Tally) {
     println!("damaged tables: {SEEDS} seeds, {} calls", seen.calls);
     seen.print();
     rules.print();
-    let all = seen.all_seen(&Refusal::ALL[..SINGLE]);
+    let single = Refusal::ALL.iter().copied();
+    let single: Vec<_> = single.filter(|one| !OF_BATCHES.contains(one)).collect();
+    let all = seen.all_seen(&single);
     tally.add("damaged tables", all.and(rules.all_seen()));
     let enough = seen.calls >= LEAST_CALLS || tally.failed > 0;
     let too_few = || format!("only {} calls were made", seen.calls);
@@ -107,6 +113,7 @@ fn clean(first: u64, fences: &mut Fences, tally: &mut Tally) {
     let differ = seen_1.sends() != seen_2.sends();
     tally.add("the two rules", differ.then_some(()).ok_or_else(same));
     if let Some(large) = last {
+        tally.add("costs that wait in a large run", kept_costs(&large));
         damaged_large(first, &large, fences, tally);
         batched_large(first, &large, fences, tally);
     }
@@ -133,6 +140,25 @@ fn clean_under(
     println!("clean runs under rule {rule}: {} calls", seen.calls);
     seen.print();
     last
+}
+
+/// Whether requests of the least cost, of the most and of one between wait in these tables.
+fn kept_costs(tables: &Owned) -> Result<(), String> {
+    let waiting = 0..tables.view().gate().waiting as usize;
+    let costs: Vec<u64> = waiting
+        .map(|place| tables.view().waiting(place).cost)
+        .collect();
+    let between = 2..MOST_COST;
+    for (name, found) in [
+        ("1", costs.contains(&1)),
+        ("64", costs.contains(&MOST_COST)),
+        ("between", costs.iter().any(|cost| between.contains(cost))),
+    ] {
+        if !found {
+            return Err(format!("none of {} has cost {name}", costs.len()));
+        }
+    }
+    Ok(())
 }
 
 /// The tables at the end of a large run, each time with one damage.
@@ -200,7 +226,7 @@ fn batches(
 }
 
 /// The rules of soundness, each with how often it was the first that was broken.
-struct Rules([(Rule, u64); 12]);
+struct Rules([(Rule, u64); 13]);
 
 impl Default for Rules {
     fn default() -> Rules {
@@ -213,6 +239,7 @@ impl Default for Rules {
                 GuestsExist,
                 IdsFit,
                 NoIdTwice,
+                CostsInRange,
                 TagsAtMostCeiling,
                 TagsSpaced,
                 NextFollowsLast,
