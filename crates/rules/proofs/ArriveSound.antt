@@ -12,11 +12,11 @@ use borrow.Author.Tests.{lt-ltb, eqb-true, eqb-false, eq-eqb, not-false}
 use Rattle.lists.specs.Words.{if_then_else_, all, empty}
 use Rattle.lists.specs.WordsLaws.{both, join, eqb-sym, all-append, all-parts, all-filter, lowest-all, all-of-map, map-same, filter-map, filter-append, getD-each}
 use Rattle.rules.specs.Numbers.{ceiling}
-use Rattle.rules.specs.Tables.{Guest, Request, Flight, Table, reserved, limited, rspacing, lspacing, sspacing, nobodys, owner, of, mine, idle, name, lacks, names}
-use Rattle.rules.specs.Sound.{ranges, ruled, distinct, lawful, orderly}
+use Rattle.rules.specs.Tables.{Guest, Request, Flight, Table, reserved, limited, rplain, lplain, rspacing, lspacing, sspacing, nobodys, owner, of, mine, idle, name, lacks, names}
+use Rattle.rules.specs.Sound.{ranges, ruled, distinct, lawful, priced, fair, orderly}
 use Rattle.rules.specs.Events.{Arriving, calledBy, smallest, shifted, shiftedNext, adjusted, shareTag, stamped, following, placed, stampedFor, arriveAs, arrive}
 use Rattle.rules.specs.Refusals.{passing}
-use Rattle.rules.proofs.Spacings.{no-down, no-up}
+use Rattle.rules.proofs.Spacings.{no-down, no-up, cost-none}
 use Rattle.rules.proofs.Names.{distinct-mid, names-mid}
 use Rattle.rules.proofs.Chains.{kept-same, kept-shift, kept-snoc}
 use Rattle.rules.proofs.SameSettings.{same-ranges, same-rule, same-count, placed-settings, adjusted-settings}
@@ -27,6 +27,7 @@ record Firm (t : Table) : Type 0 where
   in-range : ranges t ≡ true
   rule-known : ruled (t .setup .rule) ≡ true
   flight-fits : length (t .flight) ≤ t .setup .depth
+  costs-fit : all priced (t .waiting) ≡ true
   guests-known : all (λ f. ltb (f .guest) (length (t .guests))) (names t) ≡ true
   names-once : distinct (names t) ≡ true
   guests-orderly : (g : ℕ) → g < length (t .guests) → orderly (owner (t .guests) g) (mine g (t .waiting)) ≡ true
@@ -91,7 +92,7 @@ module _ (t : Table) (now : ℕ) where
   adjusted-owner true g e h = getD-each moved 0 (t .guests) g nobodys h ∙ rw (zero-add g, e)
 
   -- a guest is as idle as before
-  adjusted-idle : (b : Bool) (g : ℕ) → idle (adjusted b now t) g ≡ idle t g
+  pub adjusted-idle : (b : Bool) (g : ℕ) → idle (adjusted b now t) g ≡ idle t g
   unfolding adjusted idle shifted
   adjusted-idle false g = refl
   adjusted-idle true g = ap empty (filter-map (of g) (shifted now (smallest t)) (λ q. refl) (t .waiting)) ∙ empty-map (shifted now (smallest t)) (mine g (t .waiting))
@@ -116,6 +117,12 @@ module _ (t : Table) (now : ℕ) where
       rw (getD-each moved 0 (t .guests) g nobodys known, filter-map (of g) (shifted now (smallest t)) (λ q. refl) (t .waiting), zero-add g)
       (moved-order s g known)
 
+  -- the costs are as they were
+  pub adjusted-costs : (f : ℕ → Bool) (b : Bool) → all (λ q. f (q .cost)) ((adjusted b now t) .waiting) ≡ all (λ q. f (q .cost)) (t .waiting)
+  unfolding adjusted shifted
+  adjusted-costs f false = refl
+  adjusted-costs f true = all-of-map (λ q. f (q .cost)) (shifted now (smallest t)) (t .waiting)
+
   -- the settling of the shares leaves a table firm
   adjusted-firm : Sound t → (b : Bool) → Firm (adjusted b now t)
   adjusted-firm s b =
@@ -125,6 +132,7 @@ module _ (t : Table) (now : ℕ) where
         in-range = same-ranges (adjusted b now t) t k ∙ s .in-range;
         rule-known = same-rule (adjusted b now t) t k ∙ s .rule-known;
         flight-fits = rw (adjusted-flight b, k .setup) (s .flight-fits);
+        costs-fit = adjusted-costs fair b ∙ s .costs-fit;
         guests-known = rw (n, adjusted-names b) (s .guests-known);
         names-once = rw (adjusted-names b) (s .names-once);
         guests-orderly = λ g h. adjusted-order s b g (rw n at h);
@@ -160,9 +168,9 @@ following-order h q l n e =
     is-orderly (following q h) (l ++ (q ∷ []))
     (record {
       reservations = kept-snoc Request.rtag (rspacing s) (rspacing s) (λ p. omega arith) (reserved s) l (h .rnext) q (λ z w. n .reservation z)
-          (λ z. (n .no-reservation z, no-down (s .reservation) z)) (o .reservations);
+          (λ z. (n .no-reservation z, cost-none (q .cost) (rplain s) (no-down (s .reservation) z))) (o .reservations);
       limits = kept-snoc Request.ltag (lspacing s) (lspacing s) (λ p. omega arith) (limited s) l (h .lnext) q (λ z w. n .limit z)
-          (λ z. (n .no-limit z, no-up (s .limit) z)) (o .limits);
+          (λ z. (n .no-limit z, cost-none (q .cost) (lplain s) (no-up (s .limit) z))) (o .limits);
       shares = kept-snoc Request.stag (sspacing s) (sspacing s) (λ p. omega arith) true l (h .snext) q (λ z. n .share)
           (λ z. absurd (true≢false z)) (o .shares);
     })
@@ -185,9 +193,9 @@ module _ (u : Table) (c : Firm u) (now : ℕ) (q : Request) (known : q .guest < 
           rw (eqb-sym (q .guest) g ∙ e, getD-set-other (u .guests) (q .guest) g next nobodys (eqb-false g (q .guest) e), append-nil) (c .guests-orderly g h)
 
   -- the placing leaves a table firm
-  placed-firm : lacks (name q) (names u) ≡ true → Firm (placed now q u)
+  placed-firm : lacks (name q) (names u) ≡ true → priced q ≡ true → Firm (placed now q u)
   unfolding placed
-  placed-firm new =
+  placed-firm new cheap =
       let k = placed-settings now q u in
       let f : Flight → Bool = λ f. ltb (f .guest) (length (u .guests)) in
       let parts = all-parts f (map name (u .waiting)) (u .flight) (c .guests-known) in
@@ -196,13 +204,15 @@ module _ (u : Table) (c : Firm u) (now : ℕ) (q : Request) (known : q .guest < 
         in-range = same-ranges (placed now q u) u k ∙ c .in-range;
         rule-known = same-rule (placed now q u) u k ∙ c .rule-known;
         flight-fits = c .flight-fits;
+        costs-fit = all-append priced (u .waiting) (q ∷ []) (c .costs-fit) (join cheap refl);
         guests-known = rw (same-count (placed now q u) u k, is)
             (all-append f (map name (u .waiting)) (name q ∷ u .flight) (parts .0) (join (lt-ltb (q .guest) (length (u .guests)) known) (parts .1)));
         names-once = rw (is, distinct-mid (map name (u .waiting)) (name q) (u .flight)) (join new (c .names-once));
         guests-orderly = λ g h. placed-order g (rw (same-count (placed now q u) u k) at h);
       }
 
-module _ (t : Table) (s : Sound t) (now : ℕ) (a : Arriving) (known : a .guest < length (t .guests)) (new : lacks (calledBy a) (names t) ≡ true) where
+module _ (t : Table) (s : Sound t) (now : ℕ) (a : Arriving) (known : a .guest < length (t .guests)) (new : lacks (calledBy a) (names t) ≡ true)
+    (cheap : fair (a .cost) ≡ true) where
   -- the steps of an arrival leave a table firm
   arriveAs-firm : (b : Bool) → idle t (a .guest) ≡ b → Firm (arriveAs b now a t)
   unfolding arriveAs stamped
@@ -210,7 +220,7 @@ module _ (t : Table) (s : Sound t) (now : ℕ) (a : Arriving) (known : a .guest 
       placed-firm (adjusted b now t) (adjusted-firm t now s b) now (stampedFor b now a t)
       (rw (same-count (adjusted b now t) t (adjusted-settings b now t)) known)
       (rw (adjusted-owner t now b (a .guest) e known, adjusted-idle t now b (a .guest) ∙ e) (stamped-next b now a (owner (t .guests) (a .guest))))
-      (rw (adjusted-names t now b) new)
+      (rw (adjusted-names t now b) new) cheap
 
   -- and sound where its tests passed
   arriveAs-sound : (b : Bool) → idle t (a .guest) ≡ b → now ≤ ceiling → length (t .waiting) < t .setup .capacity → passing b now a t ≡ false → Sound (arriveAs b now a t)
@@ -229,6 +239,7 @@ module _ (t : Table) (s : Sound t) (now : ℕ) (a : Arriving) (known : a .guest 
         guests-known = c .guests-known;
         names-once = c .names-once;
         tags-fit = all-append lawful w (q ∷ []) (f .0) (join (f .1) refl);
+        costs-fit = c .costs-fit;
         guests-orderly = c .guests-orderly;
       }
 

@@ -250,8 +250,10 @@ arrived t a now h =
       share-next = ap Guest.snext own ∙ ap (λ (q : Request). q .stag + sspacing (x .settings) q) (sym last);
       one-more = arrived-long t now a b;
       placed-last = ap name last;
+      cost-kept = ap Request.cost last;
       names-stay = tag-stays t now a name (λ q. refl) b;
       reservation-tags-stay = tag-stays t now a Request.rtag (λ q. refl) b;
+      costs-stay = tag-stays t now a Request.cost (λ q. refl) b;
       limit-tags-stay = tag-stays t now a Request.ltag (λ q. refl) b;
       as-many-guests = same-count (enter t (Arrival a now)) t same;
       settings-stay = λ g k. same-owner (enter t (Arrival a now)) t same g;
@@ -268,9 +270,9 @@ given-once : (has : Bool) (now next p q : ℕ) → Given has now next p → Give
 given-once true now next p q x y = x .larger refl ∙ sym (y .larger refl)
 given-once false now next p q x y = x .none refl ∙ sym (y .none refl)
 
--- a request is its name and its tags, and a guest its settings and its next numbers
-request-same : (p q : Request) → name p ≡ name q → p .rtag ≡ q .rtag → p .ltag ≡ q .ltag → p .stag ≡ q .stag → p ≡ q
-request-same p q n r l s = λ i. record { guest = (n i) .guest; id = (n i) .id; rtag = r i; ltag = l i; stag = s i }
+-- a request is its name, its tags and its cost, and a guest its settings and its next numbers
+request-same : (p q : Request) → name p ≡ name q → p .rtag ≡ q .rtag → p .ltag ≡ q .ltag → p .stag ≡ q .stag → p .cost ≡ q .cost → p ≡ q
+request-same p q n r l s c = λ i. record { guest = (n i) .guest; id = (n i) .id; rtag = r i; ltag = l i; stag = s i; cost = c i }
 
 guest-same : (h k : Guest) → h .settings ≡ k .settings → h .rnext ≡ k .rnext → h .lnext ≡ k .lnext → h .snext ≡ k .snext → h ≡ k
 guest-same h k n r l s = λ i. record { settings = n i; rnext = r i; lnext = l i; snext = s i }
@@ -301,7 +303,7 @@ module _ (t : Table) (a : Arriving) (now : ℕ) (u v : Table) (x : Arrived t a n
       request-same (lastOf t u) (lastOf t v) (x .placed-last ∙ sym (y .placed-last))
       (given-once (reserved ((arrivesAt t a) .settings)) now ((arrivesAt t a) .rnext) ((lastOf t u) .rtag) ((lastOf t v) .rtag) (x .reservation-tag) (y .reservation-tag))
       (given-once (limited ((arrivesAt t a) .settings)) now ((arrivesAt t a) .lnext) ((lastOf t u) .ltag) ((lastOf t v) .ltag) (x .limit-tag) (y .limit-tag))
-      (same-share (idle t (a .guest)) refl)
+      (same-share (idle t (a .guest)) refl) (x .cost-kept ∙ sym (y .cost-kept))
 
   same-request : (i : ℕ) → i < length (u .waiting) → at (u .waiting) i ≡ at (v .waiting) i
   same-request i h = ⊎-elim before (λ l. let e : i ≡ length (t .waiting) = omega (arith, x .one-more) in rw e same-last) (lt-or-le i (length (t .waiting)))
@@ -310,7 +312,7 @@ module _ (t : Table) (a : Arriving) (now : ℕ) (u v : Table) (x : Arrived t a n
       before l =
           request-same (at (u .waiting) i) (at (v .waiting) i) (x .names-stay i l ∙ sym (y .names-stay i l))
           (x .reservation-tags-stay i l ∙ sym (y .reservation-tags-stay i l)) (x .limit-tags-stay i l ∙ sym (y .limit-tags-stay i l))
-          (same-tags (idle t (a .guest)) refl i l)
+          (same-tags (idle t (a .guest)) refl i l) (x .costs-stay i l ∙ sym (y .costs-stay i l))
 
   -- the same next share numbers
   same-nexts : (b : Bool) → idle t (a .guest) ≡ b → (g : ℕ) → g < length (t .guests) → (g ≡ a .guest → ⊥) → (c : Bool) → idle t g ≡ c

@@ -9,36 +9,41 @@ use lib.ListN.{length, length-append}
 use borrow.Author.Tests.{ltb-true, le-leb, eqb-true, eq-eqb}
 use Rattle.lists.specs.Words.{if_then_else_, all}
 use Rattle.lists.specs.WordsLaws.{join, all-append, all-mid}
-use Rattle.rules.specs.Tables.{Settings, Guest, Request, Flight, Table, reserved, limited, rspacing, lspacing, sspacing, owner, of, mine, name, names}
-use Rattle.rules.specs.Sound.{lawful, kept, orderly}
+use Rattle.rules.specs.Tables.{Settings, Guest, Request, Flight, Table, reserved, limited, rplain, lplain, splain, rspacing, lspacing, sspacing, owner, of, mine, name, names}
+use Rattle.rules.specs.Sound.{lawful, fair, priced, kept, orderly}
 use Rattle.rules.specs.Choice.{sending, earlier, sooner, dropOf, dropped, room, choice}
-use Rattle.rules.proofs.Spacings.{down-le, up-le, no-down}
+use Rattle.rules.proofs.Spacings.{down-le, up-le, no-down, fair-is, cost-le, cost-none}
 use Rattle.rules.proofs.Names.{distinct-last, names-mid, names-sent}
 use Rattle.rules.proofs.Chains.{kept-tail, kept-above, kept-same, kept-drop}
 use Rattle.rules.proofs.SameSettings.{same-ranges, same-rule, same-count, sending-settings, dropped-settings}
 use Rattle.rules.proofs.Facts.{Sound, orderly-is, is-orderly, Lawful, lawful-is, waiting-known, any-orderly}
 use Rattle.rules.proofs.Picks.{Goes, due-goes, open-goes}
-use Rattle.rules.proofs.Drops.{dropped-names, dropped-length, dropped-flight, dropped-time, dropped-lawful, dropped-own, dropped-owner, dropped-others, dropped-other}
+use Rattle.rules.proofs.Drops.{dropped-names, dropped-length, dropped-flight, dropped-time, dropped-lawful, dropped-costs, dropped-own, dropped-owner, dropped-others, dropped-other}
 use Rattle.rules.proofs.Cases.{choice-by}
 
 -- A REQUEST GOES
 
 -- what stays of a guest when its first has gone is in order
-orderly-tail : (h : Guest) (p : Request) (l : List Request) → Lawful p → orderly h (p ∷ l) ≡ true → orderly h l ≡ true
-orderly-tail h p l b e =
+orderly-tail : (h : Guest) (p : Request) (l : List Request) → Lawful p → priced p ≡ true → orderly h (p ∷ l) ≡ true → orderly h l ≡ true
+orderly-tail h p l b c e =
     let s = h .settings in
     let o = orderly-is h (p ∷ l) e in
+    let most = fair-is (p .cost) c .1 in
     is-orderly h l
     (record {
-      reservations = kept-tail Request.rtag (rspacing s) (rspacing s) (reserved s) p l (h .rnext) (omega (arith, down-le (s .reservation))) (o .reservations);
-      limits = kept-tail Request.ltag (lspacing s) (lspacing s) (limited s) p l (h .lnext) (omega (arith, up-le (s .limit))) (o .limits);
-      shares = kept-tail Request.stag (sspacing s) (sspacing s) true p l (h .snext) (omega (arith, down-le (s .shares))) (o .shares);
+      reservations = kept-tail Request.rtag (rspacing s) (rspacing s) (reserved s) p l (h .rnext) (omega (arith, cost-le (p .cost) (rplain s) most (down-le (s .reservation)))) (o .reservations);
+      limits = kept-tail Request.ltag (lspacing s) (lspacing s) (limited s) p l (h .lnext) (omega (arith, cost-le (p .cost) (lplain s) most (up-le (s .limit)))) (o .limits);
+      shares = kept-tail Request.stag (sspacing s) (sspacing s) true p l (h .snext) (omega (arith, cost-le (p .cost) (splain s) most (down-le (s .shares)))) (o .shares);
     })
 
 module _ (t : Table) (s : Sound t) (p : Request) (v : List Request) (c : Goes t p v) where
   -- what goes has lawful tags
   sent-lawful : Lawful p
   sent-lawful = let k = c .split in lawful-is p (all-mid lawful (k .before) p (k .after) (rw (k .stood) at (s .tags-fit)) .0)
+
+  -- and a cost that there is
+  sent-priced : priced p ≡ true
+  sent-priced = let k = c .split in all-mid priced (k .before) p (k .after) (rw (k .stood) at (s .costs-fit)) .0
 
   -- and its guest exists
   pub sent-known : p .guest < length (t .guests)
@@ -52,7 +57,7 @@ module _ (t : Table) (s : Sound t) (p : Request) (v : List Request) (c : Goes t 
   sending-order : (g : ℕ) → orderly (owner (t .guests) g) (mine g v) ≡ true
   sending-order g =
       (elim (of g p) as (λ b. orderly (owner (t .guests) g) (if b then p ∷ mine g v else mine g v) ≡ true → orderly (owner (t .guests) g) (mine g v) ≡ true)
-      [ true ↦ orderly-tail (owner (t .guests) g) p (mine g v) sent-lawful | false ↦ λ e. e ])
+      [ true ↦ orderly-tail (owner (t .guests) g) p (mine g v) sent-lawful sent-priced | false ↦ λ e. e ])
       (rw (c .first g) at (any-orderly t s g))
 
   -- a request that may go leaves the table sound
@@ -75,6 +80,7 @@ module _ (t : Table) (s : Sound t) (p : Request) (v : List Request) (c : Goes t 
         guests-known = rw is (all-append f rest (name p ∷ []) (kn .1) (join (kn .0) refl));
         names-once = rw is (distinct-last (map name (k .before)) (name p) (map name (k .after) ++ t .flight) (rw was at (s .names-once)));
         tags-fit = rw (k .stay) (all-mid lawful (k .before) p (k .after) (rw (k .stood) at (s .tags-fit)) .1);
+        costs-fit = rw (k .stay) (all-mid priced (k .before) p (k .after) (rw (k .stood) at (s .costs-fit)) .1);
         guests-orderly = λ g known. sending-order g;
       }
 
@@ -94,7 +100,7 @@ all-from-zero (q ∷ l) = join (le-leb 0 (q .rtag) (omega arith)) (all-from-zero
 low : (s : Settings) (p : Request) (l : List Request) (n : ℕ) (b : Bool) → reserved s ≡ b → kept b Request.rtag (rspacing s) (rspacing s) (p ∷ l) n ≡ true
     → (all (λ q. leb (rspacing s p) (q .rtag)) l ≡ true) × (rspacing s p ≤ n)
 low s p l n true e k = kept-above Request.rtag (rspacing s) (rspacing s) (rspacing s p) p l n (omega arith) (omega arith) k
-low s p l n false e k = rw (no-down (s .reservation) e) (all-from-zero l, omega arith)
+low s p l n false e k = rw (cost-none (p .cost) (rplain s) (no-down (s .reservation) e)) (all-from-zero l, omega arith)
 
 module _ (t : Table) (s : Sound t) (p : Request) (v : List Request) (c : Goes t p v) where
   -- p is the first that waits of its guest
@@ -148,6 +154,7 @@ module _ (u : Table) (s : Sound u) (p : Request) (known : p .guest < length (u .
         guests-known = rw (same-count (dropped p u) u k, dropped-names p u) (s .guests-known);
         names-once = rw (dropped-names p u) (s .names-once);
         tags-fit = dropped-lawful p u (s .tags-fit);
+        costs-fit = dropped-costs p u fair ∙ s .costs-fit;
         guests-orderly = λ g known. dropped-order g;
       }
 

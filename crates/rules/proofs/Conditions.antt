@@ -8,12 +8,12 @@ use lib.Dec.{ltb, leb, eqb}
 use borrow.Author.Tests.{ltb-true, ltb-false, lt-ltb, le-ltb, leb-true, leb-false, le-leb, lt-leb, eqb-true, eqb-false, eq-eqb, ne-eqb, not-true, not-false}
 use Rattle.lists.specs.Words.{all}
 use Rattle.lists.specs.WordsLaws.{both, join, either-fails, left-fails, right-fails, all-of-map, all-each, each-all, all-but, but-all}
-use Rattle.rules.specs.Numbers.{ceiling, mostCredit, within}
+use Rattle.rules.specs.Numbers.{ceiling, mostCredit, mostCost, within}
 use Rattle.rules.specs.Tables.{Settings, Request, Flight, Table, limited, same, lacks}
-use Rattle.rules.specs.Sound.{counted, settled, ruled, lawful}
+use Rattle.rules.specs.Sound.{counted, settled, ruled, lawful, fair}
 use Rattle.rules.specs.Events.{Arriving, smallest, shifted, adjusted, stampedFor}
 use Rattle.rules.specs.Refusals.{passing}
-use Rattle.rules.specs.Refused.{Above, Passing, given, moved, Countable, Ruled, Good}
+use Rattle.rules.specs.Refused.{Above, Passing, given, moved, Countable, Ruled, Good, Fair}
 
 -- what it says that a condition holds, and that it does not
 pub record Means (b : Bool) (Holds Fails : Type 0) : Type 0 where
@@ -148,6 +148,11 @@ ruled-means r = means (to (eqb r 1) refl, back)
     back : Ruled r → eqb r 1 || eqb r 2 ≡ true
     back (inl e) = rw (eq-eqb r 1 e)
     back (inr e) = rw (eq-eqb r 2 e, or-true (eqb r 1))
+
+-- a cost that there is
+pub fair-means : (c : ℕ) → Means (fair c) (Fair c) (Fair c → ⊥)
+unfolding fair
+fair-means c = means (within-means 1 mostCost c)
 
 -- one guest's settings in their ranges
 pub settled-good : (s : Settings) → (settled s ≡ true) ↔ Good s

@@ -1,6 +1,6 @@
 -- What a drop of reservation tags does: to the guest's own requests and next number, and nothing to others'. Assumes nothing.
 use mathlib.Core.Path.{_≡_, refl, ap, _∙_}
-use mathlib.Core.Bool.{true, false}
+use mathlib.Core.Bool.{Bool, true, false}
 use mathlib.Core.List.{_++_, map}
 use Prim.Native.Nat.{ℕ, _<_}
 use native.Mathlib.Omega.{arith}
@@ -9,7 +9,7 @@ use lib.ListN.{length, length-map}
 use lib.Seq.{getD-set-same, getD-set-other}
 use borrow.Author.Tests.{eqb-true, eqb-false}
 use Rattle.lists.specs.Words.{if_then_else_, all}
-use Rattle.lists.specs.WordsLaws.{all-map, map-same, map-on, map-id, filter-map, filter-passes}
+use Rattle.lists.specs.WordsLaws.{all-map, all-same, map-same, map-on, map-id, filter-map, filter-passes}
 use Rattle.rules.specs.Tables.{Request, Flight, Table, nobodys, owner, of, mine, name, names}
 use Rattle.rules.specs.Sound.{lawful}
 use Rattle.rules.specs.Choice.{earlier, sooner, dropOf, dropped}
@@ -42,6 +42,11 @@ module _ (p : Request) (u : Table) where
         | false ↦ h
       ]
 
+  -- and its cost
+  lower-cost : (q : Request) → (lower q) .cost ≡ q .cost
+  unfolding earlier
+  lower-cost q = elim (of (p .guest) q) as (λ b. (if b then earlier (dropOf u p) q else q) .cost ≡ q .cost) [ true ↦ refl | false ↦ refl ]
+
   -- the requests of guest g
   mine-lower : (g : ℕ) → mine g ((dropped p u) .waiting) ≡ map lower (mine g (u .waiting))
   unfolding dropped
@@ -71,6 +76,11 @@ module _ (p : Request) (u : Table) where
   pub dropped-lawful : all lawful (u .waiting) ≡ true → all lawful ((dropped p u) .waiting) ≡ true
   unfolding dropped
   dropped-lawful h = all-map lawful lawful lower lower-lawful (u .waiting) h
+
+  -- no cost changes
+  pub dropped-costs : (f : ℕ → Bool) → all (λ q. f (q .cost)) ((dropped p u) .waiting) ≡ all (λ q. f (q .cost)) (u .waiting)
+  unfolding dropped
+  dropped-costs f = all-same (λ q. f (q .cost)) lower (λ q. ap f (lower-cost q)) (u .waiting)
 
   -- the ids of a guest, in order of acceptance
   pub dropped-ids : (g : ℕ) → map Request.id (mine g ((dropped p u) .waiting)) ≡ map Request.id (mine g (u .waiting))

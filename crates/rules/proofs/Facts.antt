@@ -11,7 +11,7 @@ use Rattle.lists.specs.Words.{all}
 use Rattle.lists.specs.WordsLaws.{both, join, below-at, at-below, all-parts, all-of-map}
 use Rattle.rules.specs.Numbers.{ceiling}
 use Rattle.rules.specs.Tables.{Guest, Request, Table, reserved, limited, rspacing, lspacing, sspacing, nobodys, owner, mine, name, names}
-use Rattle.rules.specs.Sound.{ranges, ruled, roomy, timely, known, distinct, lawful, kept, orderly, ordered, sound}
+use Rattle.rules.specs.Sound.{ranges, ruled, roomy, timely, known, distinct, lawful, priced, kept, orderly, ordered, sound}
 
 -- "A table is sound when"
 pub record Sound (t : Table) : Type 0 where
@@ -23,13 +23,15 @@ pub record Sound (t : Table) : Type 0 where
   pub guests-known : all (λ f. ltb (f .guest) (length (t .guests))) (names t) ≡ true
   pub names-once : distinct (names t) ≡ true
   pub tags-fit : all lawful (t .waiting) ≡ true
+  pub costs-fit : all priced (t .waiting) ≡ true
   pub guests-orderly : (g : ℕ) → g < length (t .guests) → orderly (owner (t .guests) g) (mine g (t .waiting)) ≡ true
 
 -- what the test says
 pub sound-is : (t : Table) → sound t ≡ true → Sound t
 unfolding sound
 sound-is t h =
-    let h7 = both (ranges t && ruled (t .setup .rule) && roomy t && timely t && known t && distinct (names t) && all lawful (t .waiting)) (ordered t) h in
+    let h8 = both (ranges t && ruled (t .setup .rule) && roomy t && timely t && known t && distinct (names t) && all lawful (t .waiting) && all priced (t .waiting)) (ordered t) h in
+    let h7 = both (ranges t && ruled (t .setup .rule) && roomy t && timely t && known t && distinct (names t) && all lawful (t .waiting)) (all priced (t .waiting)) (h8 .0) in
     let h6 = both (ranges t && ruled (t .setup .rule) && roomy t && timely t && known t && distinct (names t)) (all lawful (t .waiting)) (h7 .0) in
     let h5 = both (ranges t && ruled (t .setup .rule) && roomy t && timely t && known t) (distinct (names t)) (h6 .0) in
     let h4 = both (ranges t && ruled (t .setup .rule) && roomy t && timely t) (known t) (h5 .0) in
@@ -46,7 +48,8 @@ sound-is t h =
       guests-known = h4 .1;
       names-once = h5 .1;
       tags-fit = h6 .1;
-      guests-orderly = below-at (length (t .guests)) (λ g. orderly (owner (t .guests) g) (mine g (t .waiting))) (h7 .1);
+      costs-fit = h7 .1;
+      guests-orderly = below-at (length (t .guests)) (λ g. orderly (owner (t .guests) g) (mine g (t .waiting))) (h8 .1);
     }
 
 -- and the way back
@@ -54,7 +57,7 @@ pub is-sound : (t : Table) → Sound t → sound t ≡ true
 unfolding sound
 is-sound t s =
     let room = join (le-leb (length (t .waiting)) (t .setup .capacity) (s .waiting-fits)) (le-leb (length (t .flight)) (t .setup .depth) (s .flight-fits)) in
-    join (join (join (join (join (join (join (s .in-range) (s .rule-known)) room) (le-leb (t .time) ceiling (s .time-fits))) (s .guests-known)) (s .names-once)) (s .tags-fit))
+    join (join (join (join (join (join (join (join (s .in-range) (s .rule-known)) room) (le-leb (t .time) ceiling (s .time-fits))) (s .guests-known)) (s .names-once)) (s .tags-fit)) (s .costs-fit))
     (at-below (length (t .guests)) (λ g. orderly (owner (t .guests) g) (mine g (t .waiting))) (s .guests-orderly))
 
 -- the three kinds of tags of a guest of which w waits

@@ -24,7 +24,7 @@ owed = settings 1 0 1
 
 -- an arrival at a time in nanoseconds
 abbrev comesAt : (g i : ℕ) → ℕ → Event
-comesAt g i n = Arrival (record { guest = g; id = i }) n
+comesAt g i n = Arrival (record { guest = g; id = i; cost = 1 }) n
 
 -- a completion at a time in nanoseconds
 abbrev endsAt : (g i : ℕ) → ℕ → Event
@@ -159,8 +159,8 @@ between =
           ∷ record { settings = settings 0 0 2; rnext = 0; lnext = 0; snext = 0 }
           ∷ [];
       waiting =
-          record { guest = 0; id = 2; rtag = ms 1000; ltag = ms 1000; stag = 0 }
-          ∷ record { guest = 0; id = 3; rtag = ms 2000; ltag = ms 2000; stag = ms 1000 }
+          record { guest = 0; id = 2; rtag = ms 1000; ltag = ms 1000; stag = 0; cost = 1 }
+          ∷ record { guest = 0; id = 3; rtag = ms 2000; ltag = ms 2000; stag = ms 1000; cost = 1 }
           ∷ [];
       flight = named 0 1 ∷ [];
     }

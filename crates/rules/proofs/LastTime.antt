@@ -10,16 +10,16 @@ use native.Mathlib.Omega.{arith}
 use native.Mathlib.Nat.{div-lt-iff-lt-mul}
 use lib.Dec.{leb, eqb}
 use lib.ListN.{length, getD, drop, length-append, List·getD-eq-default}
-use borrow.Author.Tests.{leb-true, leb-false, le-leb, ltb-true, lt-ltb, eqb-true, eq-eqb, not-true}
+use borrow.Author.Tests.{leb-true, leb-false, le-leb, ltb-true, lt-ltb, eqb-true, eq-eqb, not-true, not-false}
 use Rattle.lists.specs.Words.{if_then_else_, all, empty}
 use Rattle.lists.specs.WordsLaws.{both, join, all-append, all-map, all-mid, all-at, all-same, all-each}
 use Rattle.lists.specs.Tab.{lt-or-le}
 use Rattle.rules.specs.Numbers.{ceiling, second, down, up}
-use Rattle.rules.specs.Tables.{Settings, Guest, Request, Flight, Table, reserved, limited, nobodys, owner, settingsOf, of, mine, idle, name, names}
-use Rattle.rules.specs.Sound.{counted, settled, ranges, lawful, sound}
+use Rattle.rules.specs.Tables.{Settings, Guest, Request, Flight, Table, reserved, limited, rplain, lplain, splain, nobodys, owner, settingsOf, of, mine, idle, name, names}
+use Rattle.rules.specs.Sound.{counted, settled, ranges, lawful, fair, sound}
 use Rattle.rules.specs.Events.{Arriving, Event, Arrival, Completion, Tick, moment, calledBy, smallest, shifted, adjusted, busyTag, shareTag, stamped, placed, stampedFor, arriveAs, arrive, complete, wait, enter}
 use Rattle.rules.specs.Refusals.{tests, eventTests, accepted}
-use Rattle.rules.specs.Refused.{FirstOf, Passing, given, moved, Good, eventCases, callCases}
+use Rattle.rules.specs.Refused.{FirstOf, Passing, given, moved, Good, Fair, eventCases, callCases}
 use Rattle.rules.specs.Choice.{nobody, picked, least, dueAt, due, open?, sending, earlier, sooner, dropOf, dropped, choice}
 use Rattle.rules.specs.Run.{step, after, answers}
 use Rattle.rules.specs.Order.{waits, brings, sends, came, left}
@@ -28,6 +28,7 @@ use Rattle.rules.specs.Arrived.{Idle, Busy, Smallest, Back, Arrived, arr
 use Rattle.rules.specs.declared.Answer.{Answer}
 use Rattle.rules.specs.declared.Answer.the-variants.{Nothing, Sent, Refused}
 use Rattle.rules.proofs.Judged.{passed}
+use Rattle.rules.proofs.Spacings.{cost-some}
 use Rattle.rules.proofs.Conditions.{settled-good}
 use Rattle.rules.proofs.SameSettings.{same-count, same-owner, choice-settings, enter-settings, step-settings}
 use Rattle.rules.proofs.Facts.{Sound, is-sound, lawful-is}
@@ -65,12 +66,13 @@ NoCredit u g = (owner (u .guests) g) .settings .credit ≡ 0
 abbrev pub NoneCredited : Table → Type 0
 NoneCredited u = (g : ℕ) → g < length (u .guests) → NoCredit u g
 
--- another request of the guest that a comes from
-abbrev pub another : Arriving → ℕ → Arriving
-another a i = record { guest = a .guest; id = i }
+-- another request of the guest that a comes from: its id and its cost
+abbrev pub another : Arriving → (id cost : ℕ) → Arriving
+another a i c = record { guest = a .guest; id = i; cost = c }
 
--- "with a new id and room to wait"
+-- "with a new id and room to wait", and a cost that there is
 pub record MayCome (u : Table) (b : Arriving) : Type 0 where
+  pub fair-cost : Fair (b .cost)
   pub new-id : List·Memᴰ (calledBy b) (names u) → ⊥
   pub room-to-wait : length (u .waiting) < u .setup .capacity
 
@@ -131,20 +133,32 @@ record Last (g : ℕ) (u : Table) : Type 0 where
 -- the first arrival makes them so
 first-past : (t : Table) (a : Arriving) → NoCredit t (a .guest) → accepted t (Arrival a ceiling) ≡ true → a .guest < length (t .guests)
     → PastOf (a .guest) (enter t (Arrival a ceiling))
+unfolding eventTests
 first-past t a free h k =
     let x = arrived t a ceiling h in
     let u = enter t (Arrival a ceiling) in
     let o = good-own t (accepted-finds t (Arrival a ceiling) h) (a .guest) k in
     let same = x .settings-stay (a .guest) k in
     let s = (arrivesAt t a) .settings in
+    let c : fair ((lastOf t u) .cost) ≡ true = ap fair (x .cost-kept) ∙ not-false (fair (a .cost)) (passed (tests false (not (sound t)) t (Arrival a ceiling)) h 18) in
     record {
       reservation = λ r.
           let has : reserved s ≡ true = ap reserved (sym same) ∙ r in
-          omega (arith, x .reservation-next, x .reservation-tag .larger has, down-some (s .reservation) (ltb-true 0 (s .reservation) has) (o .reservations));
+          omega (
+            arith,
+            x .reservation-next,
+            x .reservation-tag .larger has,
+            cost-some ((lastOf t u) .cost) (rplain s) c (down-some (s .reservation) (ltb-true 0 (s .reservation) has) (o .reservations)),
+          );
       limit = λ r.
           let has : limited s ≡ true = ap limited (sym same) ∙ r in
-          omega (arith, x .limit-next, x .limit-tag .larger has, up-some (s .limit) (ltb-true 0 (s .limit) has));
-      share = omega (arith, x .share-next, late (idle t (a .guest)) refl x, down-some (s .shares) (omega (arith, o .share-count .0)) (o .share-count .1));
+          omega (arith, x .limit-next, x .limit-tag .larger has, cost-some ((lastOf t u) .cost) (lplain s) c (up-some (s .limit) (ltb-true 0 (s .limit) has)));
+      share = omega (
+        arith,
+        x .share-next,
+        late (idle t (a .guest)) refl x,
+        cost-some ((lastOf t u) .cost) (splain s) c (down-some (s .shares) (omega (arith, o .share-count .0)) (o .share-count .1)),
+      );
     }
   where
     late : (b : Bool) → idle t (a .guest) ≡ b → Arrived t a ceiling (enter t (Arrival a ceiling)) → ceiling ≤ (lastOf t (enter t (Arrival a ceiling))) .stag
@@ -375,15 +389,15 @@ some-there : {A : Type 0} {x : A} {l : List A} → List·Memᴰ x l → 0 < leng
 some-there (List·Memᴰ·head e) = omega arith
 some-there (List·Memᴰ·tail m) = omega arith
 
-module _ (u : Table) (a : Arriving) (i : ℕ) (l : Last (a .guest) u) where
+module _ (u : Table) (a : Arriving) (i n : ℕ) (l : Last (a .guest) u) where
   abbrev guest : Guest
   guest = owner (u .guests) (a .guest)
 
   abbrev again : Event
-  again = Arrival (another a i) ceiling
+  again = Arrival (another a i n) ceiling
 
   -- where it may come, of the refusals only 9 is left
-  only-nine : MayCome u (another a i) → Prints u again 9 ↔ Passing (idle u (a .guest)) ceiling (another a i) u
+  only-nine : MayCome u (another a i n) → Prints u again 9 ↔ Passing (idle u (a .guest)) ceiling (another a i n) u
   unfolding eventCases
   only-nine m = (to, back)
     where
@@ -393,7 +407,7 @@ module _ (u : Table) (a : Arriving) (i : ℕ) (l : Last (a .guest) u) where
       fine : not (sound u) ≡ true → ⊥
       fine e = true≢false (sym (is-sound u (l .is-sound)) ∙ not-true (sound u) e)
 
-      to : Prints u again 9 → Passing (idle u (a .guest)) ceiling (another a i) u
+      to : Prints u again 9 → Passing (idle u (a .guest)) ceiling (another a i n) u
       to p =
           ⊎-elim (λ q. absurd (omega (arith, q .0))) (λ q.
           ⊎-elim (λ q. absurd (omega (arith, q .0))) (λ q.
@@ -402,9 +416,10 @@ module _ (u : Table) (a : Arriving) (i : ℕ) (l : Last (a .guest) u) where
           ⊎-elim (λ q. absurd (omega (arith, q .0))) (λ q.
           ⊎-elim (λ q. absurd (omega (arith, q .0))) (λ q.
           ⊎-elim (λ q. absurd (omega (arith, q .0))) (λ q.
-          ⊎-elim (λ q. q .1) (λ q. absurd (q .1)) (q .1)) (q .1)) (q .1)) (q .1)) (q .1)) (q .1)) (q .1)) (r .0 p)
+          ⊎-elim (λ q. absurd (omega (arith, q .0))) (λ q.
+          ⊎-elim (λ q. q .1) (λ q. absurd (q .1)) (q .1)) (q .1)) (q .1)) (q .1)) (q .1)) (q .1)) (q .1)) (q .1)) (r .0 p)
 
-      back : Passing (idle u (a .guest)) ceiling (another a i) u → Prints u again 9
+      back : Passing (idle u (a .guest)) ceiling (another a i n) u → Prints u again 9
       back p =
           r .1
           (inr (
@@ -417,7 +432,7 @@ module _ (u : Table) (a : Arriving) (i : ℕ) (l : Last (a .guest) u) where
                   λ z. omega arith,
                   inr (
                     λ z. omega (arith, l .last-time),
-                    inr (m .new-id, inr (λ z. omega (arith, m .room-to-wait), inl (refl, p))),
+                    inr (λ z. z (m .fair-cost), inr (m .new-id, inr (λ z. omega (arith, m .room-to-wait), inl (refl, p)))),
                   ),
                 ),
               ),
@@ -425,7 +440,7 @@ module _ (u : Table) (a : Arriving) (i : ℕ) (l : Last (a .guest) u) where
           ))
 
   -- a tag passes the ceiling where the guest has something waiting, or a reservation, or a limit
-  passes-if : Busy u (a .guest) ⊎ Held u (a .guest) → Passing (idle u (a .guest)) ceiling (another a i) u
+  passes-if : Busy u (a .guest) ⊎ Held u (a .guest) → Passing (idle u (a .guest)) ceiling (another a i n) u
   unfolding stamped shareTag
   passes-if (inl b) = given (inr (inr (rw (is-busy u (a .guest) b) (omega (arith, l .past .share)))))
   passes-if (inr (inl r)) =
@@ -436,7 +451,7 @@ module _ (u : Table) (a : Arriving) (i : ℕ) (l : Last (a .guest) u) where
       given (inr (inl (rw has (omega (arith, l .past .limit has)))))
 
   -- and only there, where the share tags that wait lie at the ceiling or the guest has something waiting
-  only-if : Busy u (a .guest) ⊎ (all high (u .waiting) ≡ true) → Passing (idle u (a .guest)) ceiling (another a i) u → Busy u (a .guest) ⊎ Held u (a .guest)
+  only-if : Busy u (a .guest) ⊎ (all high (u .waiting) ≡ true) → Passing (idle u (a .guest)) ceiling (another a i n) u → Busy u (a .guest) ⊎ Held u (a .guest)
   unfolding stamped shareTag
   only-if (inl b) p = inl b
   only-if (inr h) (given (inl r)) = inr (inl (go (reserved (guest .settings)) refl r))
@@ -544,19 +559,19 @@ module _ (t : Table) (a : Arriving) (first : accepted t (Arrival a ceiling) ≡ 
     not-idle : StillWaits (after begun es) (calledBy a) → Busy (after begun es) (a .guest)
     not-idle w = record { place = w .place; inside = w .inside; its-own = ap Flight.guest (w .its-name) }
 
-    exactly : NoCredit t (a .guest) → Busy (after begun es) (a .guest) ⊎ (all high ((after begun es) .waiting) ≡ true) → (i : ℕ) → MayCome (after begun es) (another a i)
-        → Prints (after begun es) (Arrival (another a i) ceiling) 9 ↔ (StillWaits (after begun es) (calledBy a) ⊎ Held (after begun es) (a .guest))
-    exactly free c i m =
+    exactly : NoCredit t (a .guest) → Busy (after begun es) (a .guest) ⊎ (all high ((after begun es) .waiting) ≡ true) → (i n : ℕ) → MayCome (after begun es) (another a i n)
+        → Prints (after begun es) (Arrival (another a i n) ceiling) 9 ↔ (StillWaits (after begun es) (calledBy a) ⊎ Held (after begun es) (a .guest))
+    exactly free c i n m =
         let u = after begun es in
         let l = run-last (a .guest) es begun (first-last t a free first) alone in
-        let r = only-nine u a i l m in
-        (λ p. ⊎-elim (λ b. inl (still b)) inr (only-if u a i l c (r .0 p)), λ p. r .1 (passes-if u a i l (⊎-elim (λ w. inl (not-idle w)) inr p)))
+        let r = only-nine u a i n l m in
+        (λ p. ⊎-elim (λ b. inl (still b)) inr (only-if u a i n l c (r .0 p)), λ p. r .1 (passes-if u a i n l (⊎-elim (λ w. inl (not-idle w)) inr p)))
 
     -- A guest is idle in a sound table where no guest has credit, and its first request is accepted at the ceiling; then comes any run of events that accepts
     -- none of this guest. A second arrival of it there, "with a new id and room to wait", is refused 9 exactly where the first request still waits or the
     -- guest has a reservation or a limit. In a fresh table every guest is idle.
-    pub second-later : NoneCredited t → Idle t (a .guest) → (i : ℕ) → MayCome (after begun es) (another a i)
-        → Prints (after begun es) (Arrival (another a i) ceiling) 9 ↔ (StillWaits (after begun es) (calledBy a) ⊎ Held (after begun es) (a .guest))
+    pub second-later : NoneCredited t → Idle t (a .guest) → (i n : ℕ) → MayCome (after begun es) (another a i n)
+        → Prints (after begun es) (Arrival (another a i n) ceiling) 9 ↔ (StillWaits (after begun es) (calledBy a) ⊎ Held (after begun es) (a .guest))
     second-later free d =
         let own = none-credited t free (a .guest) in
         exactly own
@@ -564,8 +579,8 @@ module _ (t : Table) (a : Arriving) (first : accepted t (Arrival a ceiling) ≡ 
         (run-high (a .guest) es begun (first-last t a own first) (step-free t (Arrival a ceiling) free) alone (first-high t a own first (is-idle t (a .guest) d))))
 
   -- The same at once after the first arrival, from any sound table, the guest idle or not, where it has no credit itself.
-  pub second-at-once : NoCredit t (a .guest) → (i : ℕ) → MayCome begun (another a i)
-      → Prints begun (Arrival (another a i) ceiling) 9 ↔ (StillWaits begun (calledBy a) ⊎ Held begun (a .guest))
+  pub second-at-once : NoCredit t (a .guest) → (i n : ℕ) → MayCome begun (another a i n)
+      → Prints begun (Arrival (another a i n) ceiling) 9 ↔ (StillWaits begun (calledBy a) ⊎ Held begun (a .guest))
   unfolding came after
   second-at-once free = go (idle t (a .guest)) refl
     where
@@ -583,7 +598,7 @@ module _ (t : Table) (a : Arriving) (first : accepted t (Arrival a ceiling) ≡ 
             length-append s (waits g begun),
           ))
 
-      go : (b : Bool) → idle t (a .guest) ≡ b → (i : ℕ) → MayCome begun (another a i)
-          → Prints begun (Arrival (another a i) ceiling) 9 ↔ (StillWaits begun (calledBy a) ⊎ Held begun (a .guest))
+      go : (b : Bool) → idle t (a .guest) ≡ b → (i n : ℕ) → MayCome begun (another a i n)
+          → Prints begun (Arrival (another a i n) ceiling) 9 ↔ (StillWaits begun (calledBy a) ⊎ Held begun (a .guest))
       go true e = exactly [] refl free (inr (first-high t a free first e))
       go false e = exactly [] refl free (inl (busy e))

@@ -35,6 +35,8 @@ pub mod Trials
 pub mod Answered
 pub mod Guards
 pub mod Bursts
+pub mod Costs
+pub mod Plain
 pub mod InFlight
 pub mod Credit
 pub mod Arrived

@@ -57,5 +57,6 @@ fresh-sound short d n c r ss h l =
       guests-known = refl;
       names-once = distinct-none;
       tags-fit = refl;
+      costs-fit = refl;
       guests-orderly = λ g m. rw (List·getD-map newcomer ss g (nobodys .settings)) (newcomer-orderly (getD ss g (nobodys .settings)));
     })

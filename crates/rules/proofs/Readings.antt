@@ -4,7 +4,7 @@ use mathlib.Core.Path.{_≡_, refl}
 use mathlib.Core.Bool.{Bool, true, false}
 use mathlib.Core.List.{List, [], _∷_}
 use Prim.Native.Nat.{ℕ}
-use Rattle.rules.specs.Tables.{Guest, Request, Table, rspacing, lspacing, sspacing}
+use Rattle.rules.specs.Tables.{Guest, Request, Table, rplain, lplain, splain}
 use Rattle.rules.specs.Events.{Event, Tick, stamped}
 use Rattle.rules.specs.Run.{fresh}
 use Rattle.rules.proofs.Trials.{ms, settings, comes, ends, three, -, R, W, X, lines, waitingAfter}
@@ -19,7 +19,7 @@ tagsOf q = q .rtag ∷ q .ltag ∷ q .stag ∷ []
 
 -- those that the guest's next request gets at a time, where it is idle or not
 abbrev given : (idle : Bool) (now : ℕ) → List ℕ
-given idle now = tagsOf (stamped idle now (record { guest = 0; id = 1 }) tens)
+given idle now = tagsOf (stamped idle now (record { guest = 0; id = 1; cost = 1 }) tens)
 
 -- "depth 4, one guest (reservation 100, limit 250, shares 1), capacity 8"
 abbrev pub oneBy : (rule : ℕ) → Table
@@ -47,10 +47,10 @@ tags t es = waitingAfter Request.stag t es
 -- the readings that document 01 marks with a star, in its order. Document 02, K3: "the share tag of a request arriving at an idle guest is t itself", so the
 -- next number 10 of shares is not read there; and "In 01's depth 1 reading A's ids 2 and 3 first get 0 and 1,000 ms; what follows there stays."
 pub record Readings : Type 0 where
-  pub reservation-3 : (l w : ℕ) (q : Request) → rspacing (settings 3 l w) q ≡ 333333333
-  pub limit-3 : (r w : ℕ) (q : Request) → lspacing (settings r 3 w) q ≡ 333333334
-  pub shares-300 : (r l : ℕ) (q : Request) → sspacing (settings r l 300) q ≡ 3333333
-  pub shares-1000000 : (r l : ℕ) (q : Request) → sspacing (settings r l 1000000) q ≡ 1000
+  pub reservation-3 : (l w : ℕ) → rplain (settings 3 l w) ≡ 333333333
+  pub limit-3 : (r w : ℕ) → lplain (settings r 3 w) ≡ 333333334
+  pub shares-300 : (r l : ℕ) → splain (settings r l 300) ≡ 3333333
+  pub shares-1000000 : (r l : ℕ) → splain (settings r l 1000000) ≡ 1000
   pub next-at : (idle : Bool) → given idle 10 ≡ 10 ∷ 10 ∷ 10 ∷ []
   pub next-before : given false 9 ≡ 10 ∷ 10 ∷ 10 ∷ []
   pub next-before-idle : given true 9 ≡ 10 ∷ 10 ∷ 9 ∷ []
@@ -68,10 +68,10 @@ pub readings : Readings
 unfolding lines
 readings =
     record {
-      reservation-3 = λ l w q. refl;
-      limit-3 = λ r w q. refl;
-      shares-300 = λ r l q. refl;
-      shares-1000000 = λ r l q. refl;
+      reservation-3 = λ l w. refl;
+      limit-3 = λ r w. refl;
+      shares-300 = λ r l. refl;
+      shares-1000000 = λ r l. refl;
       next-at = λ idle. elim idle as (λ b. given b 10 ≡ 10 ∷ 10 ∷ 10 ∷ []) [ true ↦ refl | false ↦ refl ];
       next-before = refl;
       next-before-idle = refl;

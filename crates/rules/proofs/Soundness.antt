@@ -3,20 +3,20 @@ use mathlib.Core.Path.{_≡_, refl, sym, ap, _∙_}
 use mathlib.Core.Bool.{Bool, true, false, _&&_, true≢false, false≢true}
 use mathlib.Core.List.{List, [], _∷_, _++_, map, List·Memᴰ}
 use mathlib.Core.Logic.{_↔_}
-use Prim.Native.Nat.{ℕ, zero, suc, _+_, _≤_, _<_}
+use Prim.Native.Nat.{ℕ, zero, suc, _+_, _*_, _≤_, _<_}
 use native.Mathlib.Omega.{arith}
 use lib.Dec.{ltb, leb, eqb}
 use lib.ListN.{length}
 use borrow.Author.Tests.{ltb-true, lt-ltb, leb-true, le-leb, eqb-true, eq-eqb}
 use Rattle.lists.specs.Words.{all}
 use Rattle.lists.specs.WordsLaws.{both, join, all-of-map, all-each, each-all, all-at, places-all}
-use Rattle.rules.specs.Numbers.{ceiling, second, idleBound}
+use Rattle.rules.specs.Numbers.{ceiling, second, mostCost, idleBound}
 use Rattle.rules.specs.Tables.{Settings, Guest, Request, Flight, Table, reserved, limited, rspacing, lspacing, sspacing, owner, mine, lacks, names}
-use Rattle.rules.specs.Sound.{counted, settled, ranges, distinct, lawful, apart, follows, kept, sound}
-use Rattle.rules.specs.Refused.{Countable, Ruled, Good}
+use Rattle.rules.specs.Sound.{counted, settled, ranges, distinct, lawful, priced, apart, follows, kept, sound}
+use Rattle.rules.specs.Refused.{Countable, Ruled, Good, Fair}
 use Rattle.rules.specs.Chosen.{blank, at}
 use Rattle.rules.proofs.Facts.{Sound, sound-is, is-sound, Orderly, orderly-is, is-orderly, lawful-is, is-lawful}
-use Rattle.rules.proofs.Conditions.{counted-means, ruled-means, settled-means, lacking}
+use Rattle.rules.proofs.Conditions.{counted-means, ruled-means, settled-means, fair-means, lacking}
 
 -- one kind of tag of what waits of a guest, l, and its next number: the guest has this kind, or lacks it
 pub record Kept (has : Bool) (tag spacing : Request → ℕ) (l : List Request) (next : ℕ) : Type 0 where
@@ -24,8 +24,8 @@ pub record Kept (has : Bool) (tag spacing : Request → ℕ) (l : List Request) 
   pub spaced : has ≡ true → (i j : ℕ) → i < j → j < length l → tag (at l i) + spacing (at l i) ≤ tag (at l j)
   -- "for a guest with something waiting, each next number it has is its last waiting tag plus the spacing"
   pub next-follows : has ≡ true → (a : List Request) (q : Request) → l ≡ a ++ (q ∷ []) → next ≡ tag q + spacing q
-  -- "for an idle guest it is at most the ceiling plus 1,000,000,000"
-  pub idle-fits : has ≡ true → l ≡ [] → next ≤ ceiling + second
+  -- document 02, K8: "an idle guest's next number is at most the ceiling plus 64,000,000,000"
+  pub idle-fits : has ≡ true → l ≡ [] → next ≤ ceiling + mostCost * second
   -- "meaningless numbers .. are zero"
   pub no-next : has ≡ false → next ≡ 0
   pub no-tags : has ≡ false → (j : ℕ) → j < length l → tag (at l j) ≡ 0
@@ -51,6 +51,8 @@ pub record SoundTable (t : Table) : Type 0 where
   pub ids-once : Once (names t)
   -- "tags are at most the ceiling"
   pub tags-fit : (q : Request) → List·Memᴰ q (t .waiting) → (q .rtag ≤ ceiling) × (q .ltag ≤ ceiling) × (q .stag ≤ ceiling)
+  -- document 02, K8: "a cost outside 1 to 64 is 18 .. one kept in a table is 3"
+  pub costs-fit : (q : Request) → List·Memᴰ q (t .waiting) → Fair (q .cost)
   -- "within a guest", each kind it has, and those it lacks
   pub reservations : (g : ℕ) → g < length (t .guests)
       → Kept (reserved ((owner (t .guests) g) .settings)) Request.rtag (rspacing ((owner (t .guests) g) .settings)) (mine g (t .waiting)) ((owner (t .guests) g) .rnext)
@@ -165,6 +167,7 @@ module _ (t : Table) where
         guests-exist = λ f m. ltb-true (f .guest) (length (t .guests)) (all-each here (names t) (s .guests-known) f m);
         ids-once = once-means (names t) .0 (s .names-once);
         tags-fit = λ q m. let l = lawful-is q (all-each lawful (t .waiting) (s .tags-fit) q m) in (l .reservation, l .limit, l .share);
+        costs-fit = λ q m. fair-means (q .cost) .holds .0 (all-each priced (t .waiting) (s .costs-fit) q m);
         reservations = λ g h. kept-means _ _ _ _ _ .0 (o g h .reservations);
         limits = λ g h. kept-means _ _ _ _ _ .0 (o g h .limits);
         shares = λ g h. kept-means _ _ _ _ _ .0 (o g h .shares);
@@ -186,6 +189,7 @@ module _ (t : Table) where
         tags-fit =
             each-all lawful (t .waiting)
             (λ q m. is-lawful q (record { reservation = s .tags-fit q m .0; limit = s .tags-fit q m .1; share = s .tags-fit q m .2 }));
+        costs-fit = each-all priced (t .waiting) (λ q m. fair-means (q .cost) .holds .1 (s .costs-fit q m));
         guests-orderly = λ g h. is-orderly (owner (t .guests) g) (mine g (t .waiting))
             (record {
               reservations = kept-means _ _ _ _ _ .1 (s .reservations g h);

@@ -1,12 +1,14 @@
--- What the spacings are bounded by, and that a kind of tag which a guest lacks has none. Assumes nothing.
+-- What the spacings are bounded by, a cost times a spacing too, and that a kind of tag which a guest lacks has none. Assumes nothing.
 use mathlib.Core.Path.{_≡_}
-use mathlib.Core.Bool.{false}
-use Prim.Native.Nat.{ℕ, zero, suc, _≤_, _+_, _-_}
+use mathlib.Core.Bool.{true, false}
+use Prim.Native.Nat.{ℕ, zero, suc, _≤_, _<_, _+_, _-_, _*_}
 use native.Mathlib.Omega.{arith}
-use native.Mathlib.Nat.{div-le-self, div-lt-iff-lt-mul}
-use lib.Dec.{ltb}
-use borrow.Author.Tests.{ltb-false}
-use Rattle.rules.specs.Numbers.{second, down, up}
+use native.Mathlib.Nat.{div-le-self, div-lt-iff-lt-mul, mul-le-mul, mul-zero}
+use lib.Dec.{ltb, leb}
+use borrow.Author.Tests.{ltb-false, leb-true}
+use Rattle.lists.specs.WordsLaws.{both}
+use Rattle.rules.specs.Numbers.{second, mostCost, down, up}
+use Rattle.rules.specs.Sound.{fair}
 
 -- a spacing rounded down is at most a second
 pub down-le : (n : ℕ) → down n ≤ second
@@ -32,3 +34,20 @@ no-down n e = rw (zero-is n e)
 pub no-up : (n : ℕ) → ltb 0 n ≡ false → up n ≡ 0
 unfolding up
 no-up n e = rw (zero-is n e)
+
+-- a cost is from 1 to 64
+pub fair-is : (c : ℕ) → fair c ≡ true → (1 ≤ c) × (c ≤ mostCost)
+unfolding fair
+fair-is c h = let p = both (leb 1 c) (leb c mostCost) h in (leb-true 1 c (p .0), leb-true c mostCost (p .1))
+
+-- a cost times a spacing is at most 64 seconds
+pub cost-le : (c d : ℕ) → c ≤ mostCost → d ≤ second → c * d ≤ mostCost * second
+cost-le c d h k = mul-le-mul h k
+
+-- it is 0 where the guest lacks the kind
+pub cost-none : (c d : ℕ) → d ≡ 0 → c * d ≡ 0
+cost-none c d e = rw e (mul-zero c)
+
+-- but not where the guest has it
+pub cost-some : (c d : ℕ) → fair c ≡ true → 0 < d → 0 < c * d
+cost-some c d h k = omega (arith, mul-le-mul {n₁ = 1} {m₁ = 1} {n₂ = c} {m₂ = d} (fair-is c h .0) k)

@@ -5,7 +5,7 @@ use Rattle.lists.specs.Words.{lowest}
 use Rattle.rules.specs.Numbers.{down, up}
 use Rattle.rules.specs.Tables.{Settings, Guest, Request, Flight, Table, idle}
 use Rattle.rules.specs.Answers.{Printed, shown}
-use Rattle.rules.specs.Sound.{counted, settled, ranges, ruled, distinct, lawful, kept, orderly, sound}
+use Rattle.rules.specs.Sound.{counted, settled, ranges, ruled, distinct, lawful, fair, kept, orderly, sound}
 use Rattle.rules.specs.Choice.{dueAt, openAt, passesAt, sending, earlier, sooner, dropped, byWeight, byReservation, room, choice}
 use Rattle.rules.specs.Events.{Event, Arrival, Completion, shifted, shiftedNext, adjusted, back, shareTag, stamped, following, placed, arriveAs, arrive, complete, wait, enter}
 use Rattle.rules.specs.Refusals.{eventTests}
@@ -19,9 +19,13 @@ ms n = n * 1000000
 abbrev pub settings : (reservation limit shares : ℕ) → Settings
 settings r l s = record { reservation = r; limit = l; shares = s; credit = 0 }
 
--- an arrival of guest g's id i, n ms after 0
+-- an arrival of guest g's id i at cost c, n ms after 0
+abbrev pub comesFor : (cost g i : ℕ) → ℕ → Event
+comesFor c g i n = Arrival (record { guest = g; id = i; cost = c }) (ms n)
+
+-- at cost 1
 abbrev pub comes : (g i : ℕ) → ℕ → Event
-comes g i n = Arrival (record { guest = g; id = i }) (ms n)
+comes g i n = comesFor 1 g i n
 
 -- its completion, n ms after 0
 abbrev pub ends : (g i : ℕ) → ℕ → Event
@@ -49,7 +53,7 @@ X n = record { letter = 88; values = n ∷ [] }
 
 -- what is printed of a run; to unfold it is to unfold all that a run computes with
 unfoldable pub lines : Table → List Event → List Printed
-unfolding down up lowest idle counted settled ranges ruled distinct lawful kept orderly sound dueAt openAt passesAt sending earlier sooner dropped byWeight byReservation room choice shifted shiftedNext adjusted back shareTag stamped following placed arriveAs arrive complete wait enter eventTests decided step after answers fresh
+unfolding down up lowest idle counted settled ranges ruled distinct lawful fair kept orderly sound dueAt openAt passesAt sending earlier sooner dropped byWeight byReservation room choice shifted shiftedNext adjusted back shareTag stamped following placed arriveAs arrive complete wait enter eventTests decided step after answers fresh
 lines t es = map shown (answers t es)
 
 -- a number of each request that waits after a run

@@ -72,16 +72,19 @@ pub record Arrived (t : Table) (a : Arriving) (now : ℕ) (u : Table) : Type 0 w
   pub limit-tag : Given (limited ((arrivesAt t a) .settings)) now ((arrivesAt t a) .lnext) ((lastOf t u) .ltag)
   pub share-tag : (b : ℕ) → Back ((arrivesAt t a) .settings) now b → Busy t (a .guest) → (lastOf t u) .stag ≡ max ((arrivesAt t a) .snext) b
   pub share-tag-idle : (b : ℕ) → Back ((arrivesAt t a) .settings) now b → Idle t (a .guest) → (lastOf t u) .stag ≡ min now (max ((arrivesAt t a) .snext) b)
-  -- 3. "Each next number becomes that tag plus the spacing."
+  -- 3. "Each next number becomes that tag plus the spacing", by document 02, K8: "tag plus cost times spacing"
   pub reservation-next : (owner (u .guests) (a .guest)) .rnext ≡ (lastOf t u) .rtag + rspacing ((arrivesAt t a) .settings) (lastOf t u)
   pub limit-next : (owner (u .guests) (a .guest)) .lnext ≡ (lastOf t u) .ltag + lspacing ((arrivesAt t a) .settings) (lastOf t u)
   pub share-next : (owner (u .guests) (a .guest)) .snext ≡ (lastOf t u) .stag + sspacing ((arrivesAt t a) .settings) (lastOf t u)
   -- 4. "The request is placed last among the waiting"
   pub one-more : length (u .waiting) ≡ length (t .waiting) + 1
   pub placed-last : name (lastOf t u) ≡ calledBy a
-  -- nothing else changes: those that waited stand where they stood, with their reservation and limit tags
+  -- K8: "Waiting requests keep their cost"
+  pub cost-kept : (lastOf t u) .cost ≡ a .cost
+  -- nothing else changes: those that waited stand where they stood, with their costs and their reservation and limit tags
   pub names-stay : (i : ℕ) → i < length (t .waiting) → name (at (u .waiting) i) ≡ name (at (t .waiting) i)
   pub reservation-tags-stay : (i : ℕ) → i < length (t .waiting) → (at (u .waiting) i) .rtag ≡ (at (t .waiting) i) .rtag
+  pub costs-stay : (i : ℕ) → i < length (t .waiting) → (at (u .waiting) i) .cost ≡ (at (t .waiting) i) .cost
   pub limit-tags-stay : (i : ℕ) → i < length (t .waiting) → (at (u .waiting) i) .ltag ≡ (at (t .waiting) i) .ltag
   -- every guest has its settings, and the others have their reservation and limit numbers
   pub as-many-guests : length (u .guests) ≡ length (t .guests)

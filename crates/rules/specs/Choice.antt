@@ -66,13 +66,13 @@ sending t q w = record { setup = t .setup; time = t .time; guests = t .guests; w
 
 -- the request q with its reservation tag dropped by d
 unfoldable pub earlier : ℕ → Request → Request
-earlier d q = record { guest = q .guest; id = q .id; rtag = q .rtag - d; ltag = q .ltag; stag = q .stag }
+earlier d q = record { guest = q .guest; id = q .id; rtag = q .rtag - d; ltag = q .ltag; stag = q .stag; cost = q .cost }
 
 -- the guest h with its next reservation number dropped by d
 unfoldable pub sooner : ℕ → Guest → Guest
 sooner d h = record { settings = h .settings; rnext = h .rnext - d; lnext = h .lnext; snext = h .snext }
 
--- how far that guest's tags drop after q was sent by weight: "its reservation spacing, if it has one", else 0
+-- how far that guest's tags drop after q was sent by weight, document 02, K8: "by the sent request's cost times the spacing"; 0 where it has no reservation
 abbrev pub dropOf : Table → Request → ℕ
 dropOf t q = rspacing (settingsOf (t .guests) q) q
 

@@ -13,7 +13,7 @@ use Rattle.rules.specs.declared.Answer.the-variants.{Nothing, Sent}
 
 -- the request that stands where there is none
 abbrev pub blank : Request
-blank = record { guest = 0; id = 0; rtag = 0; ltag = 0; stag = 0 }
+blank = record { guest = 0; id = 0; rtag = 0; ltag = 0; stag = 0; cost = 0 }
 
 -- the request at place i, places counted from 0 in order of acceptance
 abbrev pub at : List Request → ℕ → Request

@@ -6,7 +6,7 @@ use lib.ListN.{set}
 use Rattle.lists.specs.Words.{if_then_else_, each, lowest, without}
 use Rattle.rules.specs.Numbers.{down, tagAt}
 use Rattle.rules.specs.Tables.{Settings, Guest, Request, Flight, Table, reserved, limited, rspacing, lspacing, sspacing, owner, idle, same}
--- the request that an arrival brings: its guest, and its id
+-- the request that an arrival brings: its guest, its id, and by document 02, K8, its cost: "An arrival now carries a cost from 1 to 64"
 pub use Rattle.rules.specs.declared.Arriving.{Arriving}
 -- "Events: an arrival (guest, 32-bit id, time), a completion (guest, id, time), a tick (time)."
 pub use Rattle.rules.specs.declared.Event.{Event}
@@ -28,7 +28,7 @@ smallest t = lowest (map Request.stag (t .waiting))
 
 -- a request's share tag moves by now − m, up or down; it is at least m, the smallest, so the difference is not cut off at 0
 unfoldable pub shifted : (now m : ℕ) → Request → Request
-shifted now m q = record { guest = q .guest; id = q .id; rtag = q .rtag; ltag = q .ltag; stag = q .stag + now - m }
+shifted now m q = record { guest = q .guest; id = q .id; rtag = q .rtag; ltag = q .ltag; stag = q .stag + now - m; cost = q .cost }
 
 -- a guest's next share number moves by now − m, up or down
 unfoldable pub shiftedNext : (now m : ℕ) → Guest → Guest
@@ -74,9 +74,10 @@ stamped idle now a h =
       rtag = tagIf (reserved (h .settings)) now (h .rnext);
       ltag = tagIf (limited (h .settings)) now (h .lnext);
       stag = shareTag idle now h;
+      cost = a .cost;
     }
 
--- "Each next number becomes that tag plus the spacing", where q is the last request of the guest h; of a kind that it lacks this is 0
+-- document 02, K8: "A next number becomes tag plus cost times spacing", where q is the last request of the guest h; of a kind that it lacks this is 0
 unfoldable pub following : Request → Guest → Guest
 following q h =
     record {

@@ -1,7 +1,7 @@
 -- Document 01, "Numbers": the ceiling, the spacings, the tag that a next number and the time give, and the bound of an idle guest's next
 -- number. The ranges of settings are in Sound.antt, with the rule "settings lie in the ranges".
 use mathlib.Core.Bool.{Bool, _&&_}
-use Prim.Native.Nat.{ℕ, _+_, _-_, _/_, max}
+use Prim.Native.Nat.{ℕ, _+_, _-_, _*_, _/_, max}
 use lib.Dec.{leb}
 
 -- "Time and tags are whole nanoseconds, 0 to 4,611,686,018,427,387,903 (2^62 − 1, the ceiling)."
@@ -15,6 +15,10 @@ second = 1000000000
 -- document 02, K6: "a credit c from 0 to 256"
 abbrev pub mostCredit : ℕ
 mostCredit = 256
+
+-- document 02, K8: "a cost from 1 to 64"
+abbrev pub mostCost : ℕ
+mostCost = 64
 
 -- n lies from a to b, both included
 abbrev pub within : ℕ → ℕ → ℕ → Bool
@@ -32,6 +36,6 @@ up n = (second + n - 1) / n
 abbrev pub tagAt : ℕ → ℕ → ℕ
 tagAt now next = max next now
 
--- "for an idle guest it is at most the ceiling plus 1,000,000,000"
+-- document 02, K8: "an idle guest's next number is at most the ceiling plus 64,000,000,000"
 abbrev pub idleBound : ℕ
-idleBound = ceiling + second
+idleBound = ceiling + mostCost * second

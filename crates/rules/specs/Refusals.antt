@@ -7,10 +7,10 @@ use lib.ListN.{length}
 use Rattle.lists.specs.Words.{if_then_else_, all}
 use Rattle.rules.specs.Numbers.{ceiling}
 use Rattle.rules.specs.Tables.{Settings, Table, idle, lacks, names}
-use Rattle.rules.specs.Sound.{counted, settled, ruled, lawful, sound}
+use Rattle.rules.specs.Sound.{counted, settled, ruled, lawful, fair, sound}
 use Rattle.rules.specs.Events.{Arriving, Event, Arrival, Completion, Tick, calledBy, adjusted, stampedFor}
 use Rattle.rules.specs.declared.Refusal.{Refusal}
-use Rattle.rules.specs.declared.Refusal.the-variants.{BadSetting, ShortTable, Unsound, UnknownGuest, TimeAboveCeiling, TimeBeforeLast, IdInUse, NoRoom, TagAboveCeiling, NotInFlight}
+use Rattle.rules.specs.declared.Refusal.the-variants.{BadSetting, ShortTable, Unsound, UnknownGuest, TimeAboveCeiling, TimeBeforeLast, IdInUse, NoRoom, TagAboveCeiling, NotInFlight, BadCost}
 
 -- a refusal, and whether its condition holds
 pub record Test : Type 0 where
@@ -42,11 +42,13 @@ guestTests g now t cs = record { refusal = UnknownGuest; holds = leb (length (t 
 abbrev pub passing : (idle : Bool) (now : ℕ) → Arriving → Table → Bool
 passing idle now a t = not (all lawful ((adjusted idle now t) .waiting) && lawful (stampedFor idle now a t))
 
--- an event's own tests: "Arrival: .. 4, 5, 6, 7, 8, 9. Completion: .. 4, 5, 6, 10. Tick: .. 5, 6."
+-- an event's own tests: "Arrival: .. 4, 5, 6, 7, 8, 9. Completion: .. 4, 5, 6, 10. Tick: .. 5, 6." Document 02, K8: "a cost outside 1 to 64 is 18, after 6 and
+-- before 7"
 unfoldable pub eventTests : Table → Event → List Test
 eventTests t (Arrival a now) =
     guestTests (a .guest) now t
-    (record { refusal = IdInUse; holds = not (lacks (calledBy a) (names t)) }
+    (record { refusal = BadCost; holds = not (fair (a .cost)) }
+    ∷ record { refusal = IdInUse; holds = not (lacks (calledBy a) (names t)) }
     ∷ record { refusal = NoRoom; holds = eqb (length (t .waiting)) (t .setup .capacity) }
     ∷ record { refusal = TagAboveCeiling; holds = passing (idle t (a .guest)) now a t }
     ∷ [])

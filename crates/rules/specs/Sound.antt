@@ -5,7 +5,7 @@ use Prim.Native.Nat.{ℕ, _+_}
 use lib.Dec.{ltb, leb, eqb}
 use lib.ListN.{length}
 use Rattle.lists.specs.Words.{all, below}
-use Rattle.rules.specs.Numbers.{ceiling, mostCredit, within, idleBound}
+use Rattle.rules.specs.Numbers.{ceiling, mostCredit, mostCost, within, idleBound}
 use Rattle.rules.specs.Tables.{Settings, Guest, Request, Flight, Table, reserved, limited, rspacing, lspacing, sspacing, owner, mine, lacks, names}
 
 -- "Depth .. 1 to 64", "1 to 64 guests", "Capacity .. 1 to 1,024"
@@ -48,7 +48,16 @@ distinct (a ∷ l) = lacks a l && distinct l
 unfoldable pub lawful : Request → Bool
 lawful q = leb (q .rtag) ceiling && leb (q .ltag) ceiling && leb (q .stag) ceiling
 
--- "each later waiting request's tag .. is at least the earlier one's plus the spacing": the gap is asked between neighbours
+-- document 02, K8: "a cost from 1 to 64"
+unfoldable pub fair : (cost : ℕ) → Bool
+fair c = within 1 mostCost c
+
+-- K8: "a cost outside 1 to 64 is 18 .. one kept in a table is 3"
+abbrev pub priced : Request → Bool
+priced q = fair (q .cost)
+
+-- "each later waiting request's tag .. is at least the earlier one's plus the spacing": the gap is asked between neighbours. K8: "each later tag lies at least the earlier one's cost times the
+-- spacing further on", which is in the gap
 abbrev pub apart : (tag gap : Request → ℕ) → List Request → Bool
 apart tag gap [] = true
 apart tag gap (q ∷ []) = true
@@ -79,4 +88,6 @@ ordered t = below (length (t .guests)) (λ g. orderly (owner (t .guests) g) (min
 
 -- "A table is sound when": all of it. That unused places are zero is a rule of the lent numbers, beside their view.
 unfoldable pub sound : Table → Bool
-sound t = ranges t && ruled (t .setup .rule) && roomy t && timely t && known t && distinct (names t) && all lawful (t .waiting) && ordered t
+sound t =
+    ranges t && ruled (t .setup .rule) && roomy t && timely t && known t && distinct (names t) && all lawful (t .waiting) && all priced (t .waiting)
+    && ordered t

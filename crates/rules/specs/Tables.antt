@@ -2,7 +2,7 @@
 -- and a fresh one in Run.antt.
 use mathlib.Core.Bool.{Bool, not, _&&_}
 use mathlib.Core.List.{List, _++_, map}
-use Prim.Native.Nat.{ℕ}
+use Prim.Native.Nat.{ℕ, _*_}
 use lib.Dec.{ltb, eqb}
 use lib.ListN.{getD}
 use Rattle.lists.specs.Words.{all, filter, empty}
@@ -19,13 +19,14 @@ pub use Rattle.rules.specs.declared.Flight.{Flight}
 -- rule, what is set at opening for the whole array
 pub use Rattle.rules.specs.declared.Setup.{Setup}
 
--- a waiting request: whose, its id, and its reservation, limit and share tag
+-- a waiting request: whose, its id, its reservation, limit and share tag, and by document 02, K8: "Waiting requests keep their cost"
 pub record Request : Type 0 where
   pub guest : ℕ
   pub id : ℕ
   pub rtag : ℕ
   pub ltag : ℕ
   pub stag : ℕ
+  pub cost : ℕ
 
 -- "Waiting requests stand in order of acceptance .. Requests in flight stand in order of sending"
 pub record Table : Type 0 where
@@ -43,18 +44,29 @@ reserved s = ltb 0 (s .reservation)
 abbrev pub limited : Settings → Bool
 limited s = ltb 0 (s .limit)
 
--- "Spacings: reservation 1,000,000,000 / r rounded down": from the reservation tag of a guest's request q to its next one. Nothing in q
--- makes a difference to it, nor to the two below
+-- "Spacings: reservation 1,000,000,000 / r rounded down"
+abbrev pub rplain : Settings → ℕ
+rplain s = down (s .reservation)
+
+-- "limit 1,000,000,000 / l rounded up"
+abbrev pub lplain : Settings → ℕ
+lplain s = up (s .limit)
+
+-- "shares 1,000,000,000 / w rounded down"
+abbrev pub splain : Settings → ℕ
+splain s = down (s .shares)
+
+-- from the reservation tag of a guest's request q to its next one, document 02, K8: "cost times spacing"
 abbrev pub rspacing : Settings → Request → ℕ
-rspacing s q = down (s .reservation)
+rspacing s q = q .cost * rplain s
 
--- "limit 1,000,000,000 / l rounded up": from limit tag to limit tag
+-- from limit tag to limit tag likewise
 abbrev pub lspacing : Settings → Request → ℕ
-lspacing s q = up (s .limit)
+lspacing s q = q .cost * lplain s
 
--- "shares 1,000,000,000 / w rounded down": from share tag to share tag
+-- and from share tag to share tag
 abbrev pub sspacing : Settings → Request → ℕ
-sspacing s q = down (s .shares)
+sspacing s q = q .cost * splain s
 
 -- the guest that stands where there is none
 abbrev pub nobodys : Guest

@@ -41,10 +41,11 @@ pub struct Gate {
     pub flight: u64,
 }
 
-// The request that an arrival brings: whose, and its id.
+// The request that an arrival brings: whose, its id, and its cost, of any size until it is judged.
 pub struct Arriving {
     pub guest: u64,
     pub id: u32,
+    pub cost: u64,
 }
 
 // An event and its time: a request arrives, one completes, or only time passes.
@@ -79,6 +80,7 @@ pub enum Refusal {
     EventCut,
     AnswersShort,
     TooManyEvents,
+    BadCost,
 }
 
 // What a call answers: nothing is sent, a request is sent, or the call is refused.
@@ -123,5 +125,6 @@ pub fn number(refusal: Refusal) -> u64
         Refusal::EventCut => 15,
         Refusal::AnswersShort => 16,
         Refusal::TooManyEvents => 17,
+        Refusal::BadCost => 18,
     }
 }
