@@ -3,10 +3,11 @@
 //!
 //!     bench-calls WHICH TRACE SKIP COUNT ROUNDS [BATCH [CAPACITY]]
 //!
-//! WHICH is library, second or both. The first SKIP events fill the tables; the COUNT after them are played from there,
+//! WHICH is library, second, both or idle. The first SKIP events fill the tables; the COUNT after them are played from there,
 //! ROUNDS times, in turn where it is both. The library takes BATCH events in one call; with 0, and where it is not named,
-//! each is a call of its own, as it always is of the second program. CAPACITY stands in for the trace's. Prints for each
-//! round the name and the nanoseconds that the COUNT events took.
+//! each is a call of its own, as it always is of the second program. CAPACITY stands in for the trace's. idle is the
+//! library on tables with nothing waiting and nothing in flight: the COUNT events are ticks, and none is skipped. Prints
+//! for each round the name and the nanoseconds that the COUNT events took.
 
 mod players;
 mod trace;
@@ -21,7 +22,7 @@ fn main() -> ExitCode {
     match run(&words) {
         Some(()) => ExitCode::SUCCESS,
         None => {
-            eprintln!("bench-calls library|second|both TRACE SKIP COUNT ROUNDS [BATCH [CAPACITY]], TRACE one of 'traces fixed'");
+            eprintln!("bench-calls library|second|both|idle TRACE SKIP COUNT ROUNDS [BATCH [CAPACITY]], TRACE one of 'traces fixed'");
             ExitCode::FAILURE
         }
     }
@@ -38,10 +39,15 @@ fn run(words: &[String]) -> Option<()> {
     if let Some(capacity) = more.get(1) {
         trace.capacity = capacity.parse().ok()?;
     }
+    if which == "idle" {
+        trace.events.drain(..skip);
+        trace.events.iter_mut().for_each(to_tick);
+    }
+    let skip = if which == "idle" { 0 } else { skip };
     let (first, timed) = trace.events.split_at(skip);
     let start = after(&trace, first);
     let library = (which != "second").then(|| Batches::new(Library(start.clone()), batch));
-    let second = (which != "library").then_some(Second(start));
+    let second = matches!(which.as_str(), "second" | "both").then_some(Second(start));
     for _ in 0..rounds {
         let ours = library
             .as_ref()
@@ -53,6 +59,16 @@ fn run(words: &[String]) -> Option<()> {
         assert!(!differ, "the two do not answer alike");
     }
     Some(())
+}
+
+/// A tick at the event's time.
+fn to_tick(event: &mut second::trace::Event) {
+    *event = second::trace::Event {
+        kind: 2,
+        guest: 0,
+        id: 0,
+        ..*event
+    };
 }
 
 /// Plays the events from the same start and prints how long it took. Gives the answers folded into one number.

@@ -4,25 +4,25 @@ use mathlib.Core.Path.{_≡_, refl, sym, ap, _∙_, subst}
 use mathlib.Core.Bool.{Bool, true, false, _&&_, true≢false}
 use mathlib.Core.List.{List, []}
 use native.Mathlib.Omega.{arith}
-use lib.Dec.{ltb}
+use lib.Dec.{ltb, leb, eqb}
 use lib.ListN.{length, getD, set, replicate}
 use borrow.Author.Tests.{ltb-true}
-use Rattle.lists.specs.Words.{all, below}
+use Rattle.lists.specs.Words.{if_then_else_, all, below}
 use Rattle.lists.specs.WordsLaws.{both-all, all-filter}
 use Rattle.lists.specs.Walks.{below-ext, below-fails, below-three}
 use Rattle.lists.specs.RowsLaws.{row-at, length-rows}
-use Rattle.rules.specs.Numbers.{second, mostCost, down, up}
+use Rattle.rules.specs.Numbers.{second, mostCost, idleBound, down, up}
 use Rattle.rules.specs.Tables.{Request, owner, of, mine}
 use Rattle.rules.specs.declared.Guest.{Guest}
 use Rattle.rules.specs.Sound.{lawful, priced, kept, orderly}
 use Rattle.rules.proofs.Spacings.{no-down, no-up, cost-le}
 use Rattle.table.specs.Columns.{RESERVATION, LIMIT, SHARES, GUEST, COST, RTAG, mostGuests, guestAt, waitingAt}
 use Rattle.table.specs.View.{guestForm, requestForm, guestsOf, waitingOf}
-use Rattle.entries.specs.Kinds.{passes, gapOf, Gaps, nextAt, endsAt, keptOf, keptAll, Tested}
+use Rattle.entries.specs.Kinds.{passes, ends, gapOf, gapAt, nextAt, endsAt, keptOf, keptAll, Tested}
 use Rattle.entries.proofs.Chains.{gap, run, run-has, run-lacks}
 use Rattle.entries.proofs.Floors.{whole, Floors, floors-start, floors-fail, floors-next, floors-end}
-use Rattle.entries.proofs.GapLaws.{down-some, up-some, gap-low}
-use Rattle.entries.proofs.RowFacts.{tagOf, tag-is, owner-is, cost-is, in-range, guest-known, cost-low}
+use Rattle.entries.proofs.GapLaws.{down-some, up-some, gap-low, gap-none}
+use Rattle.entries.proofs.RowFacts.{tagOf, tag-is, owner-is, cost-is, in-range, guest-known, setting-low, cost-low}
 
 -- the order of every guest is that of each kind
 pub orderly-kinds : (gs : List ℕ) (known : ℕ) (ws : List ℕ) (count : ℕ) → (below known (keptAll gs known ws count RESERVATION) && below known (keptAll gs known ws count LIMIT) && below known (keptAll gs known ws count SHARES)) ≡ below known (λ g. orderly (owner (guestsOf gs known) g) (mine g (waitingOf ws count)))
@@ -35,12 +35,12 @@ has-is tag true d n l f p z = sym (run-has tag d l n (p refl) f)
 has-is tag false d n l f p z = sym (run-lacks tag (gap d) (gap d) l n) ∙ ap (λ (x : ℕ). run tag x 0 l n) (sym (z refl))
 
 -- where the walk over the requests of every guest stands before request i
-abbrev pub Walked : (gs : List ℕ) (known : ℕ) (ws : List ℕ) (count kind : ℕ) (gaps floors : List ℕ) (i : ℕ) → Type 0
-Walked gs known ws count kind gaps floors i = Floors (tagOf kind) (waitingOf ws count) gaps (nextAt gs kind) known floors i
+abbrev pub Walked : (gs : List ℕ) (known : ℕ) (ws : List ℕ) (count kind : ℕ) (floors : List ℕ) (i : ℕ) → Type 0
+Walked gs known ws count kind floors i = Floors (tagOf kind) (waitingOf ws count) (gapAt gs kind) (nextAt gs kind) known floors i
 
 -- before the first request
-pub walk-start : (gs : List ℕ) (known : ℕ) (ws : List ℕ) (count kind : ℕ) (gaps : List ℕ) → known ≤ mostGuests → Walked gs known ws count kind gaps (replicate mostGuests 0) 0
-walk-start gs known ws count kind gaps few = floors-start (tagOf kind) (waitingOf ws count) gaps (nextAt gs kind) known few
+pub walk-start : (gs : List ℕ) (known : ℕ) (ws : List ℕ) (count kind : ℕ) → known ≤ mostGuests → Walked gs known ws count kind (replicate mostGuests 0) 0
+walk-start gs known ws count kind few = floors-start (tagOf kind) (waitingOf ws count) (gapAt gs kind) (nextAt gs kind) known few
 
 module _ (gs : List ℕ) (known : ℕ) (ws : List ℕ) (count : ℕ) (t : Tested gs known ws count) where
   -- the order of a guest's tags of a kind is the walk over them
@@ -63,25 +63,26 @@ module _ (gs : List ℕ) (known : ℕ) (ws : List ℕ) (count : ℕ) (t : Tested
       ∙ has-is (tagOf SHARES) true (down n) (nextAt gs SHARES g) l f (λ e. down-some n (r .share-count .0) (r .share-count .1)) (λ e. absurd (true≢false e)))
   kept-is (suc (suc (suc n))) g k h l f = absurd (omega arith)
 
-  module _ (kind : ℕ) (three : kind ≤ SHARES) (gaps : List ℕ) (spaced : Gaps gs known kind gaps) where
+  module _ (kind : ℕ) (three : kind ≤ SHARES) where
     -- what the walk comes to is the order of the guest's kind
-    whole-is : (g : ℕ) → g < known → whole (tagOf kind) (waitingOf ws count) gaps (nextAt gs kind) known g ≡ keptAll gs known ws count kind g
+    whole-is : (g : ℕ) → g < known → whole (tagOf kind) (waitingOf ws count) (gapAt gs kind) (nextAt gs kind) known g ≡ keptAll gs known ws count kind g
     whole-is g h =
-        ap (λ (d : ℕ). run (tagOf kind) d 0 (mine g (waitingOf ws count)) (nextAt gs kind g)) (spaced .gap g h)
-        ∙ kept-is kind g three h (mine g (waitingOf ws count)) (all-filter priced (of g) (waitingOf ws count) (both-all lawful priced (waitingOf ws count) (t .isFit) .1))
+        kept-is kind g three h (mine g (waitingOf ws count)) (all-filter priced (of g) (waitingOf ws count) (both-all lawful priced (waitingOf ws count) (t .isFit) .1))
 
-    -- a gap of a guest that exists is no large number
-    gap-small : (g : ℕ) → g < known → getD gaps g 0 ≤ second
-    gap-small g h = omega (arith, spaced .gap g h, gap-low kind (guestAt gs g kind))
+    -- whether a guest has the kind its setting says as its gap does
+    ends-is : (g f n : ℕ) → g < known → ends (guestAt gs g kind) f n ≡ ends (gapAt gs kind g) f n
+    ends-is g f n h =
+        ap (λ (b : Bool). if b then eqb n 0 else (if eqb f 0 then leb n idleBound else eqb n f))
+        (sym (gap-none kind (guestAt gs g kind) (setting-low gs known ws count t kind g three h)))
 
     -- after the last request the next numbers decide
-    pub kind-ends : (floors : List ℕ) (i : ℕ) → Walked gs known ws count kind gaps floors i → count ≤ i → below known (endsAt gs kind gaps floors) ≡ below known (keptAll gs known ws count kind)
+    pub kind-ends : (floors : List ℕ) (i : ℕ) → Walked gs known ws count kind floors i → count ≤ i → below known (endsAt gs kind floors) ≡ below known (keptAll gs known ws count kind)
     kind-ends floors i s h =
-        below-ext known (endsAt gs kind gaps floors) (keptAll gs known ws count kind)
-        (λ g k. floors-end (tagOf kind) (waitingOf ws count) gaps (nextAt gs kind) known floors i s (omega (arith, length-rows requestForm ws count)) g k ∙ whole-is g k)
+        below-ext known (endsAt gs kind floors) (keptAll gs known ws count kind)
+        (λ g k. ends-is g (getD floors g 0) (nextAt gs kind g) k ∙ floors-end (tagOf kind) (waitingOf ws count) (gapAt gs kind) (nextAt gs kind) known floors i s (omega (arith, length-rows requestForm ws count)) g k ∙ whole-is g k)
 
     -- one turn, at the numbers that the code reads
-    module _ (floors : List ℕ) (i : ℕ) (s : Walked gs known ws count kind gaps floors i) (here : i < count) where
+    module _ (floors : List ℕ) (i : ℕ) (s : Walked gs known ws count kind floors i) (here : i < count) where
       abbrev z : Request
       z = requestForm .read []
 
@@ -106,22 +107,22 @@ module _ (gs : List ℕ) (known : ℕ) (ws : List ℕ) (count : ℕ) (t : Tested
       there = rw (owner-is ws count i here) (guest-known gs known ws count t i here)
 
       -- the test of the code is that of the request
-      same-test : (b : Bool) → passes (getD gaps g 0) (getD floors g 0) x ≡ b → passes (getD gaps (q .guest) 0) (getD floors (q .guest) 0) (tagOf kind q) ≡ b
+      same-test : (b : Bool) → passes (gapAt gs kind g) (getD floors g 0) x ≡ b → passes (gapAt gs kind (q .guest)) (getD floors (q .guest) 0) (tagOf kind q) ≡ b
       same-test b e = rw (tag-is ws count kind i three here, owner-is ws count i here) e
 
       -- what the request asks for is no large number
-      pub gap-fits : c * getD gaps g 0 ≤ mostCost * second
-      gap-fits = cost-le c (getD gaps g 0) (cost-low gs known ws count t i here) (gap-small g (guest-known gs known ws count t i here))
+      pub gap-fits : c * gapAt gs kind g ≤ mostCost * second
+      gap-fits = cost-le c (gapAt gs kind g) (cost-low gs known ws count t i here) (gap-low kind (guestAt gs g kind))
 
       -- a tag that does not pass
-      pub kind-fails : passes (getD gaps g 0) (getD floors g 0) x ≡ false → below known (keptAll gs known ws count kind) ≡ false
+      pub kind-fails : passes (gapAt gs kind g) (getD floors g 0) x ≡ false → below known (keptAll gs known ws count kind) ≡ false
       kind-fails e =
           below-fails (keptAll gs known ws count kind) known (q .guest) there
-          (sym (whole-is (q .guest) there) ∙ floors-fail (tagOf kind) (waitingOf ws count) gaps (nextAt gs kind) known z floors i s inside there (same-test false e))
+          (sym (whole-is (q .guest) there) ∙ floors-fail (tagOf kind) (waitingOf ws count) (gapAt gs kind) (nextAt gs kind) known z floors i s inside there (same-test false e))
 
       -- a tag that does
-      pub kind-next : (v : ℕ) → passes (getD gaps g 0) (getD floors g 0) x ≡ true → v ≡ x + c * getD gaps g 0 → Walked gs known ws count kind gaps (set floors g v) (i + 1)
+      pub kind-next : (v : ℕ) → passes (gapAt gs kind g) (getD floors g 0) x ≡ true → v ≡ x + c * gapAt gs kind g → Walked gs known ws count kind (set floors g v) (i + 1)
       kind-next v e f =
-          subst (λ (o : ℕ). Walked gs known ws count kind gaps (set floors o v) (i + 1)) (owner-is ws count i here)
-          (floors-next (tagOf kind) (waitingOf ws count) gaps (nextAt gs kind) known z floors i s inside v (t .few) there (same-test true e)
+          subst (λ (o : ℕ). Walked gs known ws count kind (set floors o v) (i + 1)) (owner-is ws count i here)
+          (floors-next (tagOf kind) (waitingOf ws count) (gapAt gs kind) (nextAt gs kind) known z floors i s inside v (t .few) there (same-test true e)
           (f ∙ sym (rw (tag-is ws count kind i three here, owner-is ws count i here, cost-is ws count i here))))

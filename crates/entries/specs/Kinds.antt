@@ -18,7 +18,7 @@ use Rattle.entries.specs.Tests.{settledGuest, named, fits}
 abbrev pub passes : (d f x : ℕ) → Bool
 passes d f x = if eqb d 0 then eqb x 0 else leb f x
 
--- n may be the next number where the gap is d, and the last waiting tag asks for f, which is 0 where nothing waits
+-- n may be the next number where the gap is d, or the setting, which is 0 where the gap is, and the last waiting tag asks for f, which is 0 where nothing waits
 abbrev pub ends : (d f n : ℕ) → Bool
 ends d f n = if eqb d 0 then eqb n 0 else (if eqb f 0 then leb n idleBound else eqb n f)
 
@@ -26,25 +26,22 @@ ends d f n = if eqb d 0 then eqb n 0 else (if eqb f 0 then leb n idleBound else 
 abbrev pub gapOf : (kind setting : ℕ) → ℕ
 gapOf k n = if eqb k LIMIT then up n else down n
 
--- gaps holds the gap of every guest, of one kind
-pub record Gaps (gs : List ℕ) (known kind : ℕ) (gaps : List ℕ) : Type 0 where
-  pub long : length gaps ≡ mostGuests
-  pub gap : (g : ℕ) → g < known → getD gaps g 0 ≡ gapOf kind (guestAt gs g kind)
+-- guest g's gap of a kind
+abbrev pub gapAt : (gs : List ℕ) (kind g : ℕ) → ℕ
+gapAt gs k g = gapOf k (guestAt gs g k)
 
--- the settings of a kind are low enough for the gaps to be computed
-pub record Low (gs : List ℕ) (known kind : ℕ) : Type 0 where
-  pub few : known ≤ mostGuests
-  pub room : known * guestWide ≤ length gs
-  pub three : kind ≤ SHARES
-  pub low : (g : ℕ) → g < known → guestAt gs g kind ≤ 1000000
+-- the gaps of those of the first guests that have a floor stand in a list
+pub record Gaps (gap : ℕ → ℕ) (known : ℕ) (gaps floors : List ℕ) : Type 0 where
+  pub long : length gaps ≡ mostGuests
+  pub same : (g : ℕ) → g < known → (getD floors g 0 ≡ 0 → ⊥) → getD gaps g 0 ≡ gap g
 
 -- guest g's next number of a kind
 abbrev pub nextAt : (gs : List ℕ) (kind g : ℕ) → ℕ
 nextAt gs k g = guestAt gs g (RNEXT + k)
 
--- guest g's next number of a kind is right, by the gaps and by what the last waiting tags ask for, the floors
-abbrev pub endsAt : (gs : List ℕ) (kind : ℕ) (gaps floors : List ℕ) → ℕ → Bool
-endsAt gs k gaps floors g = ends (getD gaps g 0) (getD floors g 0) (nextAt gs k g)
+-- guest g's next number of a kind is right, by its setting and by what its last waiting tag asks for, the floor
+abbrev pub endsAt : (gs : List ℕ) (kind : ℕ) (floors : List ℕ) → ℕ → Bool
+endsAt gs k floors g = ends (guestAt gs g k) (getD floors g 0) (nextAt gs k g)
 
 -- one kind of `orderly`
 abbrev pub keptOf : ℕ → Guest → List Request → Bool

@@ -21,7 +21,7 @@ ghost use Rattle.rules.specs.Tables.{owner, mine};
 ghost use Rattle.rules.specs.Sound.{orderly};
 ghost use Rattle.table.specs.Columns.{SHARES, guestWide, mostGuests};
 ghost use Rattle.table.specs.View.{guestsOf, waitingOf};
-ghost use Rattle.entries.specs.Kinds.{passes, ends, gapOf, Gaps, Low, Tested, endsAt, keptAll};
+ghost use Rattle.entries.specs.Kinds.{passes, ends, gapOf, Tested, endsAt, keptAll};
 
 // The most that an idle guest's next number may be: the ceiling plus 64,000,000,000.
 const IDLE: u64 = CEILING + 64000000000;
@@ -38,21 +38,6 @@ fn gap_of(kind: usize, n: u64) -> u64
     }
 }
 
-// The gap of every guest, by a kind of its settings.
-fn gaps_of(guests: &[u64], known: usize, kind: usize) -> [u64; MOST_GUESTS]
-    requires { ⌜ Low (now guests) known kind ⌝ }
-    ensures { λ r. ⌜ Gaps (now (guests .entry)) known kind r ⌝ }
-{
-    let mut gaps: [u64; MOST_GUESTS] = [0; MOST_GUESTS];
-    let mut g: usize = 0;
-    while g < known {
-        let setting = guests[g * GUEST_WIDE + kind];
-        gaps[g] = gap_of(kind, setting);
-        g += 1;
-    }
-    gaps
-}
-
 // A tag may stand where the one before it asks for at least `floor`; of a kind that the guest lacks it is 0.
 fn is_passed(gap: u64, floor: u64, tag: u64) -> bool
     ensures { λ b. ⌜ b ≡ passes gap floor tag ⌝ }
@@ -60,11 +45,12 @@ fn is_passed(gap: u64, floor: u64, tag: u64) -> bool
     if gap == 0 { tag == 0 } else { floor <= tag }
 }
 
-// A next number is right where the last waiting tag asks for `floor`, which is 0 where nothing waits; of a kind that the guest lacks it is 0.
-fn is_end(gap: u64, floor: u64, next: u64) -> bool
-    ensures { λ b. ⌜ b ≡ ends gap floor next ⌝ }
+// A next number is right where the last waiting tag asks for `floor`, which is 0 where nothing waits; of a kind that the guest lacks it is 0. A guest's
+// setting says whether it has the kind: no gap has to be known.
+fn is_end(setting: u64, floor: u64, next: u64) -> bool
+    ensures { λ b. ⌜ b ≡ ends setting floor next ⌝ }
 {
-    if gap == 0 {
+    if setting == 0 {
         return next == 0;
     }
     if floor == 0 {
@@ -74,20 +60,16 @@ fn is_end(gap: u64, floor: u64, next: u64) -> bool
 }
 
 // The next number of every guest, of one kind, is right.
-fn all_end(
-    guests: &[u64],
-    known: usize,
-    kind: usize,
-    gaps: [u64; MOST_GUESTS],
-    floors: [u64; MOST_GUESTS],
-) -> bool
+fn all_end(guests: &[u64], known: usize, kind: usize, floors: &[u64; MOST_GUESTS]) -> bool
     requires { ⌜ (known ≤ mostGuests) × (known * guestWide ≤ length (now guests)) × (kind ≤ SHARES) ⌝ }
-    ensures { λ b. ⌜ b ≡ below known (endsAt (now (guests .entry)) kind gaps floors) ⌝ }
+    ensures { λ b. ⌜ b ≡ below known (endsAt (now (guests .entry)) kind (now (floors .entry))) ⌝ }
 {
     let mut g: usize = 0;
     while g < known {
+        let setting = guests[g * GUEST_WIDE + kind];
         let next = guests[g * GUEST_WIDE + (RNEXT + kind)];
-        if !is_end(gaps[g], floors[g], next) {
+        let floor = floors[g];
+        if !is_end(setting, floor, next) {
             return false;
         }
         g += 1;
@@ -95,27 +77,31 @@ fn all_end(
     true
 }
 
-// The order of one kind of every guest: one walk over the requests, which keeps for each guest the least that its next tag may be.
+// The order of one kind of every guest: one walk over the requests, which keeps for each guest the least that its next tag may be. A gap, which is a
+// division, is computed at the first request of a guest: one with nothing waiting needs none.
 fn is_kept(guests: &[u64], known: usize, waiting: &[u64], count: usize, kind: usize) -> bool
     requires { ⌜ Tested (now guests) known (now waiting) count × (kind ≤ SHARES) ⌝ }
     ensures { λ b. ⌜ b ≡ below known (keptAll (now (guests .entry)) known (now (waiting .entry)) count kind) ⌝ }
 {
-    let gaps = gaps_of(guests, known, kind);
+    let mut gaps: [u64; MOST_GUESTS] = [0; MOST_GUESTS];
     let mut floors: [u64; MOST_GUESTS] = [0; MOST_GUESTS];
     let mut i: usize = 0;
     while i < count {
         let g = waiting[i * WAITING_WIDE + GUEST] as usize;
         let tag = waiting[i * WAITING_WIDE + (RTAG + kind)];
         let cost = waiting[i * WAITING_WIDE + COST];
-        let gap = gaps[g];
         let floor = floors[g];
+        if floor == 0 {
+            gaps[g] = gap_of(kind, guests[g * GUEST_WIDE + kind]);
+        }
+        let gap = gaps[g];
         if !is_passed(gap, floor, tag) {
             return false;
         }
         floors[g] = tag + cost * gap;
         i += 1;
     }
-    all_end(guests, known, kind, gaps, floors)
+    all_end(guests, known, kind, &floors)
 }
 
 // The order of every guest, kind by kind.

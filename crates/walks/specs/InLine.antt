@@ -2,13 +2,13 @@
 -- Assumes nothing.
 use Prim.Native.Nat.{ℕ, _+_, _-_, _*_, _≤_, _<_}
 use mathlib.Core.Path.{_≡_, refl, sym, ap, _∙_}
-use mathlib.Core.Bool.{Bool, true, false, _&&_, and-true}
+use mathlib.Core.Bool.{Bool, true, false, _&&_, false≢true}
 use mathlib.Core.List.{List}
 use native.Mathlib.Omega.{arith}
 use lib.Dec.{eqb, leb, ltb}
 use lib.ListN.{length, getD, set, replicate, length-set, length-replicate, getD-replicate}
 use lib.Seq.{getD-set-other}
-use borrow.Author.Tests.{eqb-true, eqb-false, ltb-true, ltb-false, leb-true, le-leb}
+use borrow.Author.Tests.{eqb-true, eqb-false, leb-true, le-leb}
 use Rattle.lists.specs.WordsLaws.{both, join}
 use Rattle.lists.specs.RowsLaws.{length-rows}
 use Rattle.rules.specs.Numbers.{ceiling}
@@ -16,10 +16,20 @@ use Rattle.rules.specs.Tables.{Request}
 use Rattle.rules.specs.Chosen.{at}
 use Rattle.table.specs.Columns.{RESERVATION, GUEST, RTAG, LTAG, STAG, waitingWide, mostGuests, guestAt, waitingAt}
 use Rattle.table.specs.View.{requestForm, waitingOf}
-use Rattle.walks.specs.Walks.{Picks, Owned, Rising, SharesFit, placeIn}
+use Rattle.walks.specs.Walks.{Picks, Owned, Rising, SharesFit, Counts, placeIn}
 use Rattle.walks.specs.Unseen.{unseen, unseen-some, kept-to-end}
 use Rattle.walks.specs.WalksLaws.{walk-behind, Told, told-start, told-take, told-pass, told-picks}
 use Rattle.walks.specs.WalksRows.{dueIn, openIn, row-from, rtag-at, stag-at, due-parts, due-is, due-tag, open-at, open-is, due-behind, open-behind}
+
+-- a tag that counts is below a bound that is not past the ceiling, or one that does not count is not
+counted-below : (b : Bool) {tag t bound : ℕ} → Counts b tag t → t < bound → bound ≤ ceiling + 1 → (b ≡ true) × (t ≡ tag)
+counted-below true c l h = (refl, c)
+counted-below false c l h = absurd (omega (arith, c))
+
+-- where it counts it is the tag
+counted-is : (b : Bool) {tag t : ℕ} → Counts b tag t → b ≡ true → t ≡ tag
+counted-is true c e = c
+counted-is false c e = absurd (false≢true e)
 
 -- guest g has one of the first i rows
 pub record Stood (ws : List ℕ) (i g : ℕ) : Type 0 where
@@ -89,53 +99,50 @@ module _ (gs ws : List ℕ) (known count time latest : ℕ) where
     abbrev passesHere : Bool
     passesHere = ltb 0 (guestAt gs (getD ws (from + GUEST) 0) RESERVATION) && leb (getD ws (from + LTAG) 0) latest
 
-    -- the row's reservation tag is below the bound, its limit tag passes and its guest has a reservation: it is due, and taken
-    pub due-take : Owned ws count known → (ltb (getD ws (from + RTAG) 0) soonest && passesHere) ≡ true
-        → Told (dueIn gs known time latest) Request.rtag (waitingOf ws count) (time + 1) count (l .row + 1) from (getD ws (from + RTAG) 0)
-    due-take owned e =
-        let b = both (ltb (getD ws (from + RTAG) 0) soonest) passesHere e in
-        let c = both (ltb 0 (guestAt gs (getD ws (from + GUEST) 0) RESERVATION)) (leb (getD ws (from + LTAG) 0) latest) (b .1) in
-        let low = ltb-true (getD ws (from + RTAG) 0) soonest (b .0) in
+    -- the row's reservation tag counts and is below the bound: it is due, and taken
+    pub due-take : Owned ws count known → time ≤ ceiling → {t : ℕ} → Counts passesHere (getD ws (from + RTAG) 0) t → t < soonest
+        → Told (dueIn gs known time latest) Request.rtag (waitingOf ws count) (time + 1) count (l .row + 1) from t
+    due-take owned early {t} c low =
+        let b = counted-below passesHere c low (omega (arith, l .byTag .walk .low)) in
+        let p = both (ltb 0 (guestAt gs (getD ws (from + GUEST) 0) RESERVATION)) (leb (getD ws (from + LTAG) 0) latest) (b .0) in
         let tag = row-from ws (l .row) RTAG (l .begins) in
-        let has : ltb 0 (guestAt gs (waitingAt ws (l .row) GUEST) RESERVATION) ≡ true = rw guest-here at (c .0) in
-        let within = leb-true (getD ws (from + LTAG) 0) latest (c .1) in
+        let has : ltb 0 (guestAt gs (waitingAt ws (l .row) GUEST) RESERVATION) ≡ true = rw guest-here at (p .0) in
+        let within = leb-true (getD ws (from + LTAG) 0) latest (p .1) in
         told-take (l .byTag) (l .begins)
-        (due-is ws count (l .row) here gs known time latest owned has (omega (arith, low, tag, l .byTag .walk .low)) (omega (arith, within, row-from ws (l .row) LTAG (l .begins))))
-        (rtag-at ws count (l .row) here ∙ sym tag) low
+        (due-is ws count (l .row) here gs known time latest owned has (omega (arith, low, tag, b .1, l .byTag .walk .low)) (omega (arith, within, row-from ws (l .row) LTAG (l .begins))))
+        (rtag-at ws count (l .row) here ∙ sym tag ∙ sym (b .1)) low
 
     -- else it is no due row with a smaller tag
-    pub due-pass : Owned ws count known → (ltb (getD ws (from + RTAG) 0) soonest && passesHere) ≡ false
+    pub due-pass : Owned ws count known → {t : ℕ} → Counts passesHere (getD ws (from + RTAG) 0) t → soonest ≤ t
         → Told (dueIn gs known time latest) Request.rtag (waitingOf ws count) (time + 1) count (l .row + 1) first soonest
-    due-pass owned e = told-pass (l .byTag) go
+    due-pass owned {t} c high = told-pass (l .byTag) go
       where
         go : dueIn gs known time latest (at (waitingOf ws count) (l .row)) ≡ true → soonest ≤ (at (waitingOf ws count) (l .row)) .rtag
         go o =
-            let c = due-parts ws count (l .row) here gs known time latest owned o in
-            let has : ltb 0 (guestAt gs (getD ws (from + GUEST) 0) RESERVATION) ≡ true = rw guest-here (c .0) in
-            let within = le-leb (getD ws (from + LTAG) 0) latest (omega (arith, c .2, row-from ws (l .row) LTAG (l .begins))) in
-            let f : ltb (getD ws (from + RTAG) 0) soonest ≡ false = sym (and-true _) ∙ rw (has, within) at e in
-            omega (arith, ltb-false (getD ws (from + RTAG) 0) soonest f, rtag-at ws count (l .row) here, row-from ws (l .row) RTAG (l .begins))
+            let p = due-parts ws count (l .row) here gs known time latest owned o in
+            let has : ltb 0 (guestAt gs (getD ws (from + GUEST) 0) RESERVATION) ≡ true = rw guest-here (p .0) in
+            let within = le-leb (getD ws (from + LTAG) 0) latest (omega (arith, p .2, row-from ws (l .row) LTAG (l .begins))) in
+            omega (arith, high, counted-is passesHere c (join has within), rtag-at ws count (l .row) here, row-from ws (l .row) RTAG (l .begins))
 
-    -- the row's share tag is below the bound and its limit tag at or before the time: it is open, and taken
-    pub open-take : (ltb (getD ws (from + STAG) 0) smallest && leb (getD ws (from + LTAG) 0) time) ≡ true
-        → Told (openIn time) Request.stag (waitingOf ws count) (ceiling + 1) count (l .row + 1) from (getD ws (from + STAG) 0)
-    open-take e =
-        let b = both (ltb (getD ws (from + STAG) 0) smallest) (leb (getD ws (from + LTAG) 0) time) e in
-        let within = leb-true (getD ws (from + LTAG) 0) time (b .1) in
+    -- the row's share tag counts and is below the bound: it is open, and taken
+    pub open-take : {t : ℕ} → Counts (leb (getD ws (from + LTAG) 0) time) (getD ws (from + STAG) 0) t → t < smallest
+        → Told (openIn time) Request.stag (waitingOf ws count) (ceiling + 1) count (l .row + 1) from t
+    open-take {t} c low =
+        let b = counted-below (leb (getD ws (from + LTAG) 0) time) c low (l .byShare .walk .low) in
+        let within = leb-true (getD ws (from + LTAG) 0) time (b .0) in
         told-take (l .byShare) (l .begins) (open-is ws count (l .row) here time (omega (arith, within, row-from ws (l .row) LTAG (l .begins))))
-        (stag-at ws count (l .row) here ∙ sym (row-from ws (l .row) STAG (l .begins))) (ltb-true (getD ws (from + STAG) 0) smallest (b .0))
+        (stag-at ws count (l .row) here ∙ sym (row-from ws (l .row) STAG (l .begins)) ∙ sym (b .1)) low
 
     -- else it is no open row with a smaller tag
-    pub open-pass : (ltb (getD ws (from + STAG) 0) smallest && leb (getD ws (from + LTAG) 0) time) ≡ false
+    pub open-pass : {t : ℕ} → Counts (leb (getD ws (from + LTAG) 0) time) (getD ws (from + STAG) 0) t → smallest ≤ t
         → Told (openIn time) Request.stag (waitingOf ws count) (ceiling + 1) count (l .row + 1) spare smallest
-    open-pass e = told-pass (l .byShare) go
+    open-pass {t} c high = told-pass (l .byShare) go
       where
         go : openIn time (at (waitingOf ws count) (l .row)) ≡ true → smallest ≤ (at (waitingOf ws count) (l .row)) .stag
         go o =
             let z = leb-true (waitingAt ws (l .row) LTAG) time (sym (open-at ws count (l .row) here time) ∙ o) in
             let h = le-leb (getD ws (from + LTAG) 0) time (omega (arith, z, row-from ws (l .row) LTAG (l .begins))) in
-            let f : ltb (getD ws (from + STAG) 0) smallest ≡ false = sym (and-true _) ∙ rw h at e in
-            omega (arith, ltb-false (getD ws (from + STAG) 0) smallest f, stag-at ws count (l .row) here, row-from ws (l .row) STAG (l .begins))
+            omega (arith, high, counted-is (leb (getD ws (from + LTAG) 0) time) c h, stag-at ws count (l .row) here, row-from ws (l .row) STAG (l .begins))
 
     -- a row whose guest is marked
     pub line-skip : Owned ws count known → known ≤ mostGuests → Rising ws count → (getD seen (getD ws (from + GUEST) 0) 0 ≡ 0 → ⊥)

@@ -2,6 +2,7 @@ pub mod Walks
 pub mod WalksLaws
 pub mod WalksRows
 pub mod Unseen
+pub mod Lifted
 pub mod InLine
 pub mod Ready
 pub mod LeastLaws

@@ -46,6 +46,11 @@ readyUnder rule r a l = if eqb rule 2 then l else readyBy r a l
 abbrev pub readyByTag : (rule : ℕ) → List Guest → Request → ℕ
 readyByTag rule gs q = readyUnder rule (settingsOf gs q .reservation) (q .rtag) (q .ltag)
 
+-- what a walk holds against its bound: the tag where it counts, else something past the ceiling
+abbrev pub Counts : Bool → (tag t : ℕ) → Type 0
+Counts true tag t = t ≡ tag
+Counts false tag t = ceiling < t
+
 -- the place of the row whose numbers begin at `at`, or none where the rows that are used end before it
 unfoldable pub placeIn : (at used : ℕ) → Found
 placeIn at used = if ltb at used then At (at / waitingWide) else Nothing

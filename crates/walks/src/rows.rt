@@ -22,10 +22,14 @@ ghost use Rattle.rules.specs.Tables.{Request, settingsOf};
 ghost use Rattle.rules.specs.Choice.{dueAt};
 ghost use Rattle.table.specs.Columns.{RESERVATION, guestWide, flightWide, RTAG, LTAG, STAG, waitingWide, mostGuests, mostDepth, mostCapacity, guestAt};
 ghost use Rattle.table.specs.View.{guestsOf, waitingOf, flightsOf};
-ghost use Rattle.walks.specs.Walks.{Picks, Finds, Owned, Rising, SharesFit, placeIn};
+ghost use Rattle.lists.specs.Words.{if_then_else_};
+ghost use Rattle.walks.specs.Walks.{Picks, Finds, Owned, Rising, SharesFit, Counts, placeIn};
 
 // One past the ceiling: no share tag is as large.
 const PAST: u64 = CEILING + 1;
+
+// A bit above all that a tag or a bound has. It is not PAST's: where both phases lift by one bit, compilers for x86-64 make branches of it.
+const ABOVE: u64 = 9223372036854775808;
 
 // What the walk of the choice finds: the request that each phase would send.
 pub struct Firsts {
@@ -33,40 +37,31 @@ pub struct Firsts {
     pub open: Found,
 }
 
-// Whether the row at `at` is of a guest with a reservation, its reservation tag below the bound, and its limit tag at or before the latest that passes.
-// The reservation tag is tested first: where it is not below, nothing else is read; and no limit where the guest has no reservation.
-fn due_before(
-    waiting: &[u64],
-    at: usize,
-    guests: &[u64],
-    guest: usize,
-    bound: u64,
-    latest: u64,
-) -> bool
-    requires { ⌜ (at + waitingWide ≤ length (now waiting)) × (guest * guestWide + guestWide ≤ length (now guests)) × (guest ≤ mostGuests) ⌝ }
-    ensures { λ b. ⌜ b ≡ (ltb (getD (now (waiting .entry)) (at + RTAG) 0) bound && (ltb 0 (guestAt (now (guests .entry)) guest RESERVATION) && leb (getD (now (waiting .entry)) (at + LTAG) 0) latest)) ⌝ }
+// A bit where a test holds, else none. Joined to a tag that does not count it lifts the tag past every bound, and no processor has to guess the test.
+fn bit_where(test: bool, bit: u64) -> u64
+    ensures { λ r. ⌜ r ≡ (if test then bit else 0) ⌝ }
 {
-    if waiting[at + RTAG] < bound {
-        if 0 < guests[guest * GUEST_WIDE + RESERVATION] {
-            waiting[at + LTAG] <= latest
-        } else {
-            false
-        }
-    } else {
-        false
-    }
+    if test { bit } else { 0 }
 }
 
-// Whether the row at `at` has a share tag below the bound, and a limit tag at or before the time. An unlimited guest's limit tags are 0.
-fn open_before(waiting: &[u64], at: usize, time: u64, bound: u64) -> bool
-    requires { ⌜ at + waitingWide ≤ length (now waiting) ⌝ }
-    ensures { λ b. ⌜ b ≡ (ltb (getD (now (waiting .entry)) (at + STAG) 0) bound && leb (getD (now (waiting .entry)) (at + LTAG) 0) time) ⌝ }
+// What the reservation phase holds against its bound of the row at `at`: its reservation tag, past every bound where its guest has no reservation or its
+// limit tag is above the latest that passes.
+fn due_tag(waiting: &[u64], at: usize, guests: &[u64], guest: usize, latest: u64) -> u64
+    requires { ⌜ (at + waitingWide ≤ length (now waiting)) × (guest * guestWide + guestWide ≤ length (now guests)) × (guest ≤ mostGuests) ⌝ }
+    ensures { λ t. ⌜ Counts (ltb 0 (guestAt (now (guests .entry)) guest RESERVATION) && leb (getD (now (waiting .entry)) (at + LTAG) 0) latest) (getD (now (waiting .entry)) (at + RTAG) 0) t ⌝ }
 {
-    if waiting[at + STAG] < bound {
-        waiting[at + LTAG] <= time
-    } else {
-        false
-    }
+    let none = guests[guest * GUEST_WIDE + RESERVATION] == 0;
+    let late = latest < waiting[at + LTAG];
+    waiting[at + RTAG] | (bit_where(none, ABOVE) | bit_where(late, ABOVE))
+}
+
+// What the weight phase does: its share tag, past every bound where its limit tag is above the time. An unlimited guest's limit tags are 0.
+fn open_tag(waiting: &[u64], at: usize, time: u64) -> u64
+    requires { ⌜ at + waitingWide ≤ length (now waiting) ⌝ }
+    ensures { λ t. ⌜ Counts (leb (getD (now (waiting .entry)) (at + LTAG) 0) time) (getD (now (waiting .entry)) (at + STAG) 0) t ⌝ }
+{
+    let late = time < waiting[at + LTAG];
+    waiting[at + STAG] | bit_where(late, PAST)
 }
 
 // The place of the row at `at`, or none where all rows are passed.
@@ -121,13 +116,15 @@ pub fn first_in_line(
         if seen[guest] == 0 {
             seen[guest] = 1;
             left -= 1;
-            if due_before(waiting, at, guests, guest, soonest, latest) {
+            let tag = due_tag(waiting, at, guests, guest, latest);
+            if tag < soonest {
                 first = at;
-                soonest = waiting[at + RTAG];
+                soonest = tag;
             }
-            if open_before(waiting, at, time, smallest) {
+            let share = open_tag(waiting, at, time);
+            if share < smallest {
                 spare = at;
-                smallest = waiting[at + STAG];
+                smallest = share;
             }
             if left == 0 {
                 return firsts_at(first, spare, used);

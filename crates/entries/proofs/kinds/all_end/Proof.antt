@@ -11,13 +11,25 @@ use Rattle.entries.proofs.kinds.all_end.Statement.{statement}
 use Rattle.entries.proofs.kinds.all_end.Tie as tie
 
 abbrev Inv-loop : tie.InvT-loop
-Inv-loop guests known kind gaps floors g₀ g = (g ≤ known) × (below g (endsAt guests kind gaps floors) ≡ true)
+Inv-loop guests known kind floors g₀ g = (g ≤ known) × (below g (endsAt guests kind floors) ≡ true)
 
 abbrev μ-loop : tie.MeasureT-loop
-μ-loop guests known kind gaps floors g₀ g = known - g
+μ-loop guests known kind floors g₀ g = known - g
 
 loop-holds : tie.Need-loop-holds Inv-loop μ-loop
 loop-holds c = (omega arith, refl)
+
+mul-setting : tie.Need-mul-setting Inv-loop μ-loop
+mul-setting c = omega arith
+
+add-setting : tie.Need-add-setting Inv-loop μ-loop
+add-setting c = omega arith
+
+mul-setting-2 : tie.Need-mul-setting-2 Inv-loop μ-loop
+mul-setting-2 c = omega arith
+
+shared-slice-read-setting : tie.Need-shared-slice-read-setting Inv-loop μ-loop
+shared-slice-read-setting c = omega arith
 
 mul-next : tie.Need-mul-next Inv-loop μ-loop
 mul-next c = omega arith
@@ -34,26 +46,20 @@ mul-next-2 c = omega arith
 shared-slice-read-next : tie.Need-shared-slice-read-next Inv-loop μ-loop
 shared-slice-read-next c = omega arith
 
-mul-is-end : tie.Need-mul-is-end Inv-loop μ-loop
-mul-is-end c = omega arith
+mul-floor : tie.Need-mul-floor Inv-loop μ-loop
+mul-floor c = omega arith
 
-array-read-is-end : tie.Need-array-read-is-end Inv-loop μ-loop
-array-read-is-end c = omega arith
-
-mul-is-end-2 : tie.Need-mul-is-end-2 Inv-loop μ-loop
-mul-is-end-2 c = omega arith
-
-array-read-is-end-2 : tie.Need-array-read-is-end-2 Inv-loop μ-loop
-array-read-is-end-2 c = omega arith
+element-copy-out-floor : tie.Need-element-copy-out-floor Inv-loop μ-loop
+element-copy-out-floor c = omega arith
 
 is-end-requires : tie.Need-is-end-requires Inv-loop μ-loop
 is-end-requires c κs = tt
 
 returns : tie.Need-returns Inv-loop μ-loop
 returns c =
-    let a = c .before .before .before .before .before .before .args in
-    let s = c .before .before .before .before .loop in
-    sym (below-fails (endsAt (a .guests .now) (a .kind) (a .t4) (a .t5)) (a .known) (s .g) (c .before .before .before .loop-test .taken) (sym (c .before .is-end .ensures) ∙ not-true _ (c .if1 .taken)))
+    let a = c .before .before .before .before .before .before .before .before .args in
+    let s = c .before .before .before .before .before .before .loop in
+    sym (below-fails (endsAt (a .guests .now) (a .kind) (a .floors .now)) (a .known) (s .g) (c .before .before .before .before .before .loop-test .taken) (sym (c .before .is-end .ensures) ∙ not-true _ (c .if1 .taken)))
 
 add-g : tie.Need-add-g Inv-loop μ-loop
 add-g c = omega arith
@@ -63,9 +69,9 @@ loop-less c = omega arith
 
 loop-again : tie.Need-loop-again Inv-loop μ-loop
 loop-again c =
-    let a = c .before .before .before .before .before .before .args in
-    let s = c .before .before .before .before .loop in
-    (omega arith, below-next (endsAt (a .guests .now) (a .kind) (a .t4) (a .t5)) (s .g) (sym (c .before .is-end .ensures) ∙ not-false _ (c .if1 .left)) (s .inv .1))
+    let a = c .before .before .before .before .before .before .before .before .args in
+    let s = c .before .before .before .before .before .before .loop in
+    (omega arith, below-next (endsAt (a .guests .now) (a .kind) (a .floors .now)) (s .g) (sym (c .before .is-end .ensures) ∙ not-false _ (c .if1 .left)) (s .inv .1))
 
 returns-2 : tie.Need-returns-2 Inv-loop μ-loop
 returns-2 c =
@@ -81,15 +87,17 @@ all-end-spec =
     Inv-loop
     μ-loop
     loop-holds
+    mul-setting
+    add-setting
+    mul-setting-2
+    shared-slice-read-setting
     mul-next
     add-next
     add-next-2
     mul-next-2
     shared-slice-read-next
-    mul-is-end
-    array-read-is-end
-    mul-is-end-2
-    array-read-is-end-2
+    mul-floor
+    element-copy-out-floor
     is-end-requires
     returns
     add-g

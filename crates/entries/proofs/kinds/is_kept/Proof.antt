@@ -1,30 +1,31 @@
--- With the floors before each request the test of every guest still comes to the same.
-use Prim.Native.Nat.{_≤_, _-_}
-use mathlib.Core.Path.{refl, sym, _∙_}
+-- One walk over the requests: what is left of the test of every guest still comes to the same. The gap of a guest that has a floor stands in the list.
+use Prim.Native.Nat.{ℕ, _+_, _*_, _≤_, _-_}
+use mathlib.Core.Path.{_≡_, refl, sym, ap, _∙_}
+use mathlib.Core.Bool.{Bool}
+use mathlib.Core.Logic.{⊎-elim}
 use native.Mathlib.Omega.{arith}
+use lib.ListN.{getD, set}
 use borrow.Author.Tests.{not-true, not-false}
-use borrow.Author.Needs.{needs}
+use Rattle.table.specs.Columns.{GUEST, RTAG, COST, waitingAt}
+use Rattle.entries.specs.Kinds.{passes, gapAt, Gaps}
+use Rattle.entries.proofs.GapLaws.{gaps-start, gaps-kept, gaps-next, gap-told}
 use Rattle.entries.proofs.RowFacts.{setting-low, guest-known, tag-low}
 use Rattle.entries.proofs.OneKind.{Walked, walk-start, gap-fits, kind-fails, kind-next, kind-ends}
 use Rattle.entries.proofs.kinds.is_kept.Statement.{statement}
 use Rattle.entries.proofs.kinds.is_kept.Tie as tie
 
 abbrev Inv-loop : tie.InvT-loop
-Inv-loop guests known waiting count kind gaps floors₀ i₀ floors i = (i ≤ count) × Walked guests known waiting count kind gaps floors i
+Inv-loop guests known waiting count kind gaps₀ floors₀ i₀ gaps floors i =
+    (i ≤ count) × Walked guests known waiting count kind floors i × Gaps (gapAt guests kind) known gaps floors
 
 abbrev μ-loop : tie.MeasureT-loop
-μ-loop guests known waiting count kind gaps floors₀ i₀ floors i = count - i
-
-gaps-of-requires : tie.Need-gaps-of-requires Inv-loop μ-loop
-gaps-of-requires c κs =
-    let a = c .before .before .args in
-    let p = c .before .before .pre in
-    record { few = p .0 .few; room = p .0 .guestRoom; three = p .1; low = λ g. setting-low (a .guests .now) (a .known) (a .waiting .now) (a .count) (p .0) (a .kind) g (p .1) }
+μ-loop guests known waiting count kind gaps₀ floors₀ i₀ gaps floors i = count - i
 
 loop-holds : tie.Need-loop-holds Inv-loop μ-loop
 loop-holds c =
-    let a = c .before .before .before .args in
-    (omega arith, walk-start (a .guests .now) (a .known) (a .waiting .now) (a .count) (a .kind) (c .gaps-of .result) (c .before .before .before .pre .0 .few))
+    let a = c .before .before .args in
+    let few = c .before .before .pre .0 .few in
+    (omega arith, walk-start (a .guests .now) (a .known) (a .waiting .now) (a .count) (a .kind) few, gaps-start (gapAt (a .guests .now) (a .kind)) (a .known) few)
 
 mul-g : tie.Need-mul-g Inv-loop μ-loop
 mul-g c = omega arith
@@ -65,59 +66,216 @@ mul-cost-2 c = omega arith
 shared-slice-read-cost : tie.Need-shared-slice-read-cost Inv-loop μ-loop
 shared-slice-read-cost c = omega arith
 
-mul-gap : tie.Need-mul-gap Inv-loop μ-loop
-mul-gap c = let a = c .before .before .before .before .before .before .before .before .args in let p = c .before .before .before .before .before .before .before .before .pre in omega (arith, guest-known (a .guests .now) (a .known) (a .waiting .now) (a .count) (p .0) (c .before .before .before .before .loop .i) (c .before .before .before .loop-test .taken))
-
-array-read-gap : tie.Need-array-read-gap Inv-loop μ-loop
-array-read-gap c = let a = c .before .before .before .before .before .before .before .before .args in let p = c .before .before .before .before .before .before .before .before .pre in omega (arith, guest-known (a .guests .now) (a .known) (a .waiting .now) (a .count) (p .0) (c .before .before .before .before .loop .i) (c .before .before .before .loop-test .taken))
-
 mul-floor : tie.Need-mul-floor Inv-loop μ-loop
-mul-floor c = let a = c .before .before .before .before .before .before .before .before .args in let p = c .before .before .before .before .before .before .before .before .pre in omega (arith, guest-known (a .guests .now) (a .known) (a .waiting .now) (a .count) (p .0) (c .before .before .before .before .loop .i) (c .before .before .before .loop-test .taken))
+mul-floor c =
+    let turn = c .before .before .before in
+    let s = turn .before .loop in
+    let start = turn .before .before .before .before in
+    let a = start .args in
+    let p = start .pre in
+    omega (arith, guest-known (a .guests .now) (a .known) (a .waiting .now) (a .count) (p .0) (s .i) (turn .loop-test .taken))
 
 array-read-floor : tie.Need-array-read-floor Inv-loop μ-loop
-array-read-floor c = let a = c .before .before .before .before .before .before .before .before .args in let p = c .before .before .before .before .before .before .before .before .pre in omega (arith, guest-known (a .guests .now) (a .known) (a .waiting .now) (a .count) (p .0) (c .before .before .before .before .loop .i) (c .before .before .before .loop-test .taken))
+array-read-floor c =
+    let turn = c .before .before .before in
+    let s = turn .before .loop in
+    let start = turn .before .before .before .before in
+    let a = start .args in
+    let p = start .pre in
+    omega (arith, guest-known (a .guests .now) (a .known) (a .waiting .now) (a .count) (p .0) (s .i) (turn .loop-test .taken))
+
+mul-gap-of : tie.Need-mul-gap-of Inv-loop μ-loop
+mul-gap-of c =
+    let turn = c .before .before .before .before in
+    let s = turn .before .loop in
+    let start = turn .before .before .before .before in
+    let a = start .args in
+    let p = start .pre in
+    omega (arith, guest-known (a .guests .now) (a .known) (a .waiting .now) (a .count) (p .0) (s .i) (turn .loop-test .taken))
+
+add-gap-of : tie.Need-add-gap-of Inv-loop μ-loop
+add-gap-of c =
+    let turn = c .before .before .before .before in
+    let s = turn .before .loop in
+    let start = turn .before .before .before .before in
+    let a = start .args in
+    let p = start .pre in
+    omega (arith, guest-known (a .guests .now) (a .known) (a .waiting .now) (a .count) (p .0) (s .i) (turn .loop-test .taken))
+
+mul-gap-of-2 : tie.Need-mul-gap-of-2 Inv-loop μ-loop
+mul-gap-of-2 c =
+    let turn = c .before .before .before .before in
+    let s = turn .before .loop in
+    let start = turn .before .before .before .before in
+    let a = start .args in
+    let p = start .pre in
+    omega (arith, guest-known (a .guests .now) (a .known) (a .waiting .now) (a .count) (p .0) (s .i) (turn .loop-test .taken))
+
+shared-slice-read-gap-of : tie.Need-shared-slice-read-gap-of Inv-loop μ-loop
+shared-slice-read-gap-of c =
+    let turn = c .before .before .before .before .before in
+    let s = turn .before .loop in
+    let start = turn .before .before .before .before in
+    let a = start .args in
+    let p = start .pre in
+    omega (arith, guest-known (a .guests .now) (a .known) (a .waiting .now) (a .count) (p .0) (s .i) (turn .loop-test .taken), p .0 .guestRoom, p .1)
+
+gap-of-requires : tie.Need-gap-of-requires Inv-loop μ-loop
+gap-of-requires c κs =
+    let turn = c .before .before .before .before .before in
+    let s = turn .before .loop in
+    let start = turn .before .before .before .before in
+    let a = start .args in
+    let p = start .pre in
+    setting-low (a .guests .now) (a .known) (a .waiting .now) (a .count) (p .0) (a .kind) (waitingAt (a .waiting .now) (s .i) GUEST) (p .1) (guest-known (a .guests .now) (a .known) (a .waiting .now) (a .count) (p .0) (s .i) (turn .loop-test .taken))
+
+mul-gaps : tie.Need-mul-gaps Inv-loop μ-loop
+mul-gaps c =
+    let turn = c .before .before .before .before .before .before in
+    let s = turn .before .loop in
+    let start = turn .before .before .before .before in
+    let a = start .args in
+    let p = start .pre in
+    omega (arith, guest-known (a .guests .now) (a .known) (a .waiting .now) (a .count) (p .0) (s .i) (turn .loop-test .taken), s .inv .2 .long)
+
+array-write-gaps : tie.Need-array-write-gaps Inv-loop μ-loop
+array-write-gaps c =
+    let turn = c .before .before .before .before .before .before in
+    let s = turn .before .loop in
+    let start = turn .before .before .before .before in
+    let a = start .args in
+    let p = start .pre in
+    omega (arith, guest-known (a .guests .now) (a .known) (a .waiting .now) (a .count) (p .0) (s .i) (turn .loop-test .taken), s .inv .2 .long)
+
+-- whatever the next floor of the row's guest, the list has its gap
+told : (c : tie.Joined1 Inv-loop μ-loop) →
+    let turn = c .before .before .before .before in
+    let s = turn .before .loop in
+    let a = turn .before .before .before .before .args in
+    (v : ℕ) → Gaps (gapAt (a .guests .now) (a .kind)) (a .known) (c .if1 .gaps) (set (s .floors) (waitingAt (a .waiting .now) (s .i) GUEST) v)
+told c =
+    let turn = c .before .before .before .before in
+    let s = turn .before .loop in
+    let start = turn .before .before .before .before in
+    let a = start .args in
+    let p = start .pre in
+    let g = waitingAt (a .waiting .now) (s .i) GUEST in
+    let low = guest-known (a .guests .now) (a .known) (a .waiting .now) (a .count) (p .0) (s .i) (turn .loop-test .taken) in
+    λ v. ⊎-elim
+    (λ u. rw (u .3) (gaps-next (gapAt (a .guests .now) (a .kind)) (a .known) (s .gaps) (s .floors) (s .inv .2) g v (p .0 .few) low _ (u .2 .ensures)))
+    (λ u. rw (u .1) (gaps-kept (gapAt (a .guests .now) (a .kind)) (a .known) (s .gaps) (s .floors) (s .inv .2) g v (p .0 .few) low (u .0 .left)))
+    (c .if1 .came)
+
+-- so the gap that is read is the guest's
+gap-is : (c : tie.Joined1 Inv-loop μ-loop) →
+    let turn = c .before .before .before .before in
+    let s = turn .before .loop in
+    let a = turn .before .before .before .before .args in
+    getD (c .if1 .gaps) (waitingAt (a .waiting .now) (s .i) GUEST) 0 ≡ gapAt (a .guests .now) (a .kind) (waitingAt (a .waiting .now) (s .i) GUEST)
+gap-is c =
+    let turn = c .before .before .before .before in
+    let s = turn .before .loop in
+    let start = turn .before .before .before .before in
+    let a = start .args in
+    let p = start .pre in
+    gap-told (gapAt (a .guests .now) (a .kind)) (a .known) (c .if1 .gaps) (s .floors) (waitingAt (a .waiting .now) (s .i) GUEST) (s .inv .1 .long) (p .0 .few) (guest-known (a .guests .now) (a .known) (a .waiting .now) (a .count) (p .0) (s .i) (turn .loop-test .taken)) (told c)
+
+mul-gap : tie.Need-mul-gap Inv-loop μ-loop
+mul-gap c =
+    let turn = c .before .before .before .before in
+    let s = turn .before .loop in
+    let start = turn .before .before .before .before in
+    let a = start .args in
+    let p = start .pre in
+    omega (arith, guest-known (a .guests .now) (a .known) (a .waiting .now) (a .count) (p .0) (s .i) (turn .loop-test .taken))
+
+array-read-gap : tie.Need-array-read-gap Inv-loop μ-loop
+array-read-gap c =
+    let turn = c .before .before .before .before in
+    let s = turn .before .loop in
+    let start = turn .before .before .before .before in
+    let a = start .args in
+    let p = start .pre in
+    omega (arith, guest-known (a .guests .now) (a .known) (a .waiting .now) (a .count) (p .0) (s .i) (turn .loop-test .taken), told c 0 .long)
 
 is-passed-requires : tie.Need-is-passed-requires Inv-loop μ-loop
 is-passed-requires c κs = tt
 
+-- the test of the code, with the guest's gap
+same-test : (c : tie.After-is-passed Inv-loop μ-loop) →
+    let turn = c .before .before .before .before .before in
+    let s = turn .before .loop in
+    let a = turn .before .before .before .before .args in
+    let g = waitingAt (a .waiting .now) (s .i) GUEST in
+    c .is-passed .result ≡ passes (gapAt (a .guests .now) (a .kind) g) (getD (s .floors) g 0) (waitingAt (a .waiting .now) (s .i) (RTAG + a .kind))
+same-test c =
+    let turn = c .before .before .before .before .before in
+    let s = turn .before .loop in
+    let start = turn .before .before .before .before in
+    let a = start .args in
+    let p = start .pre in
+    let g = waitingAt (a .waiting .now) (s .i) GUEST in
+    c .is-passed .ensures ∙ ap (λ (d : ℕ). passes d (getD (s .floors) g 0) (waitingAt (a .waiting .now) (s .i) (RTAG + a .kind))) (gap-is (c .before))
+
 returns : tie.Need-returns Inv-loop μ-loop
 returns c =
-    let a = c .before .before .before .before .before .before .before .before .before .before .args in
-    let p = c .before .before .before .before .before .before .before .before .before .before .pre in
-    let s = c .before .before .before .before .before .before .loop in
-    let d = c .before .before .before .before .before .before .before .gaps-of in
-    sym (kind-fails (a .guests .now) (a .known) (a .waiting .now) (a .count) (p .0) (a .kind) (p .1) (d .result) (d .ensures) (s .floors) (s .i) (s .inv .1) (c .before .before .before .before .before .loop-test .taken) (sym (c .before .is-passed .ensures) ∙ not-true _ (c .if1 .taken)))
+    let turn = c .before .before .before .before .before .before in
+    let s = turn .before .loop in
+    let start = turn .before .before .before .before in
+    let a = start .args in
+    let p = start .pre in
+    sym (kind-fails (a .guests .now) (a .known) (a .waiting .now) (a .count) (p .0) (a .kind) (p .1) (s .floors) (s .i) (s .inv .1) (turn .loop-test .taken) (sym (same-test (c .before)) ∙ not-true _ (c .if2 .taken)))
+
+-- what the request asks for, as the code computes it
+asked : (c : tie.After-is-passed Inv-loop μ-loop) →
+    let turn = c .before .before .before .before .before in
+    let s = turn .before .loop in
+    let a = turn .before .before .before .before .args in
+    let g = waitingAt (a .waiting .now) (s .i) GUEST in
+    waitingAt (a .waiting .now) (s .i) COST * getD (c .before .if1 .gaps) g 0 ≡ waitingAt (a .waiting .now) (s .i) COST * gapAt (a .guests .now) (a .kind) g
+asked c =
+    let turn = c .before .before .before .before .before in
+    let s = turn .before .loop in
+    let start = turn .before .before .before .before in
+    let a = start .args in
+    let p = start .pre in
+    ap (λ (d : ℕ). waitingAt (a .waiting .now) (s .i) COST * d) (gap-is (c .before))
 
 mul-floors : tie.Need-mul-floors Inv-loop μ-loop
 mul-floors c =
-    let a = c .before .before .before .before .before .before .before .before .before .before .args in
-    let p = c .before .before .before .before .before .before .before .before .before .before .pre in
-    let s = c .before .before .before .before .before .before .loop in
-    let d = c .before .before .before .before .before .before .before .gaps-of in
-    let h = c .before .before .before .before .before .loop-test .taken in
-    omega (
-      arith,
-      gap-fits (a .guests .now) (a .known) (a .waiting .now) (a .count) (p .0) (a .kind) (p .1) (d .result) (d .ensures) (s .floors) (s .i) (s .inv .1) h,
-    )
+    let turn = c .before .before .before .before .before .before in
+    let s = turn .before .loop in
+    let start = turn .before .before .before .before in
+    let a = start .args in
+    let p = start .pre in
+    omega (arith, asked (c .before), gap-fits (a .guests .now) (a .known) (a .waiting .now) (a .count) (p .0) (a .kind) (p .1) (s .floors) (s .i) (s .inv .1) (turn .loop-test .taken))
 
 add-floors : tie.Need-add-floors Inv-loop μ-loop
 add-floors c =
-    let a = c .before .before .before .before .before .before .before .before .before .before .args in
-    let p = c .before .before .before .before .before .before .before .before .before .before .pre in
-    let s = c .before .before .before .before .before .before .loop in
-    let d = c .before .before .before .before .before .before .before .gaps-of in
-    let h = c .before .before .before .before .before .loop-test .taken in
-    omega (
-      arith,
-      tag-low (a .guests .now) (a .known) (a .waiting .now) (a .count) (p .0) (a .kind) (s .i) (p .1) h,
-      gap-fits (a .guests .now) (a .known) (a .waiting .now) (a .count) (p .0) (a .kind) (p .1) (d .result) (d .ensures) (s .floors) (s .i) (s .inv .1) h,
-    )
+    let turn = c .before .before .before .before .before .before in
+    let s = turn .before .loop in
+    let start = turn .before .before .before .before in
+    let a = start .args in
+    let p = start .pre in
+    omega (arith, asked (c .before), gap-fits (a .guests .now) (a .known) (a .waiting .now) (a .count) (p .0) (a .kind) (p .1) (s .floors) (s .i) (s .inv .1) (turn .loop-test .taken), tag-low (a .guests .now) (a .known) (a .waiting .now) (a .count) (p .0) (a .kind) (s .i) (p .1) (turn .loop-test .taken))
 
 mul-floors-2 : tie.Need-mul-floors-2 Inv-loop μ-loop
-mul-floors-2 c = let a = c .before .before .before .before .before .before .before .before .before .before .args in let p = c .before .before .before .before .before .before .before .before .before .before .pre in omega (arith, guest-known (a .guests .now) (a .known) (a .waiting .now) (a .count) (p .0) (c .before .before .before .before .before .before .loop .i) (c .before .before .before .before .before .loop-test .taken))
+mul-floors-2 c =
+    let turn = c .before .before .before .before .before .before in
+    let s = turn .before .loop in
+    let start = turn .before .before .before .before in
+    let a = start .args in
+    let p = start .pre in
+    omega (arith, guest-known (a .guests .now) (a .known) (a .waiting .now) (a .count) (p .0) (s .i) (turn .loop-test .taken))
 
 array-write-floors : tie.Need-array-write-floors Inv-loop μ-loop
-array-write-floors c = let a = c .before .before .before .before .before .before .before .before .before .before .args in let p = c .before .before .before .before .before .before .before .before .before .before .pre in omega (arith, guest-known (a .guests .now) (a .known) (a .waiting .now) (a .count) (p .0) (c .before .before .before .before .before .before .loop .i) (c .before .before .before .before .before .loop-test .taken))
+array-write-floors c =
+    let turn = c .before .before .before .before .before .before in
+    let s = turn .before .loop in
+    let start = turn .before .before .before .before in
+    let a = start .args in
+    let p = start .pre in
+    omega (arith, guest-known (a .guests .now) (a .known) (a .waiting .now) (a .count) (p .0) (s .i) (turn .loop-test .taken), s .inv .1 .long)
 
 add-i : tie.Need-add-i Inv-loop μ-loop
 add-i c = omega arith
@@ -127,24 +285,29 @@ loop-less c = omega arith
 
 loop-again : tie.Need-loop-again Inv-loop μ-loop
 loop-again c =
-    let a = c .before .before .before .before .before .before .before .before .before .before .args in
-    let p = c .before .before .before .before .before .before .before .before .before .before .pre in
-    let s = c .before .before .before .before .before .before .loop in
-    let d = c .before .before .before .before .before .before .before .gaps-of in (
+    let turn = c .before .before .before .before .before .before in
+    let s = turn .before .loop in
+    let start = turn .before .before .before .before in
+    let a = start .args in
+    let p = start .pre in
+    let x = waitingAt (a .waiting .now) (s .i) (RTAG + a .kind) in (
       omega arith,
-      kind-next (a .guests .now) (a .known) (a .waiting .now) (a .count) (p .0) (a .kind) (p .1) (d .result) (d .ensures) (s .floors) (s .i) (s .inv .1) (c .before .before .before .before .before .loop-test .taken) _ (sym (c .before .is-passed .ensures) ∙ not-false _ (c .if1 .left)) refl,
+      kind-next (a .guests .now) (a .known) (a .waiting .now) (a .count) (p .0) (a .kind) (p .1) (s .floors) (s .i) (s .inv .1) (turn .loop-test .taken) _ (sym (same-test (c .before)) ∙ not-false _ (c .if2 .left))
+          (ap (λ (d : ℕ). x + d) (asked (c .before))),
+      told (c .before .before) _,
     )
 
 all-end-requires : tie.Need-all-end-requires Inv-loop μ-loop
-all-end-requires c κs = search needs
+all-end-requires c κs =
+    let p = c .before .before .before .before .before .pre in
+    (p .0 .few, p .0 .guestRoom, p .1)
 
 returns-2 : tie.Need-returns-2 Inv-loop μ-loop
 returns-2 c =
-    let a = c .before .before .before .before .before .before .args in
-    let p = c .before .before .before .before .before .before .pre in
-    let s = c .before .before .loop in
-    let d = c .before .before .before .gaps-of in
-    c .all-end .ensures ∙ kind-ends (a .guests .now) (a .known) (a .waiting .now) (a .count) (p .0) (a .kind) (p .1) (d .result) (d .ensures) (s .floors) (s .i) (s .inv .1) (c .before .loop-test .left)
+    let s = c .before .before .before .loop in
+    let start = c .before .before .before .before .before .before in
+    let a = start .args in
+    c .all-end .ensures ∙ kind-ends (a .guests .now) (a .known) (a .waiting .now) (a .count) (start .pre .0) (a .kind) (start .pre .1) (s .floors) (s .i) (s .inv .1) (c .before .before .loop-test .left)
 
 pub is-kept-spec : {M : Type 1} → statement M
 is-kept-spec =
@@ -152,7 +315,6 @@ is-kept-spec =
     (tie.spec
     Inv-loop
     μ-loop
-    gaps-of-requires
     loop-holds
     mul-g
     add-g
@@ -167,10 +329,17 @@ is-kept-spec =
     add-cost
     mul-cost-2
     shared-slice-read-cost
-    mul-gap
-    array-read-gap
     mul-floor
     array-read-floor
+    mul-gap-of
+    add-gap-of
+    mul-gap-of-2
+    shared-slice-read-gap-of
+    gap-of-requires
+    mul-gaps
+    array-write-gaps
+    mul-gap
+    array-read-gap
     is-passed-requires
     returns
     mul-floors

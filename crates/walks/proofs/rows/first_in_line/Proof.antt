@@ -59,33 +59,15 @@ sub-left c =
     let a = start .args in
     omega (arith, s .inv .1, unseen-some (s .seen) (a .known) _ (known-here (a .guests .now) (a .waiting .now) (a .known) (a .count) (a .time) (a .latest) (s .inv .0) (turn .loop-test .taken) (start .pre .1 .0 .0)) (c .if1 .taken))
 
-due-before-requires : tie.Need-due-before-requires Inv-loop μ-loop
-due-before-requires c κs =
+due-tag-requires : tie.Need-due-tag-requires Inv-loop μ-loop
+due-tag-requires c κs =
     let start = c .before .before .before .before .before .before in
     let a = start .args in
     let k = known-here (a .guests .now) (a .waiting .now) (a .known) (a .count) (a .time) (a .latest) (c .before .before .before .loop .inv .0) (c .before .before .loop-test .taken) (start .pre .1 .0 .0) in
     (omega (arith, c .before .before .before .loop .inv .0 .begins), omega (arith, k), omega (arith, k))
 
-add-soonest-2 : tie.Need-add-soonest-2 Inv-loop μ-loop
-add-soonest-2 c = omega arith
-
-mul-soonest : tie.Need-mul-soonest Inv-loop μ-loop
-mul-soonest c = omega arith
-
-shared-slice-read-soonest : tie.Need-shared-slice-read-soonest Inv-loop μ-loop
-shared-slice-read-soonest c = omega (arith, c .before .before .before .before .before .before .loop .inv .0 .begins)
-
-open-before-requires : tie.Need-open-before-requires Inv-loop μ-loop
-open-before-requires c κs = omega (arith, c .before .before .before .before .before .loop .inv .0 .begins)
-
-add-smallest : tie.Need-add-smallest Inv-loop μ-loop
-add-smallest c = omega arith
-
-mul-smallest : tie.Need-mul-smallest Inv-loop μ-loop
-mul-smallest c = omega arith
-
-shared-slice-read-smallest : tie.Need-shared-slice-read-smallest Inv-loop μ-loop
-shared-slice-read-smallest c = omega (arith, c .before .before .before .before .before .before .before .before .loop .inv .0 .begins)
+open-tag-requires : tie.Need-open-tag-requires Inv-loop μ-loop
+open-tag-requires c κs = omega (arith, c .before .before .before .before .before .loop .inv .0 .begins)
 
 -- a row that is the first of its guest: the walk stands one row on, with one guest less to see
 abbrev First : tie.Joined3 Inv-loop μ-loop → Type 0
@@ -110,12 +92,12 @@ first-row c =
     let marked = unseen-mark (s .seen) (a .known) (getD w (s .at + GUEST) 0) k (omega (arith, k, s .inv .0 .marks .long)) (c .before .before .before .before .if1 .taken) in (
       line-next g w (a .known) (a .count) (a .time) (a .latest) (s .inv .0) more
           (⊎-elim
-          (λ u. rw (u .2, u .3) (due-take g w (a .known) (a .count) (a .time) (a .latest) (s .inv .0) more owned (sym (c .before .before .before .due-before .ensures) ∙ u .0 .taken)))
-          (λ u. rw (u .1, u .2) (due-pass g w (a .known) (a .count) (a .time) (a .latest) (s .inv .0) more owned (sym (c .before .before .before .due-before .ensures) ∙ u .0 .left)))
+          (λ u. rw (u .1, u .2) (due-take g w (a .known) (a .count) (a .time) (a .latest) (s .inv .0) more owned (start .pre .1 .1) (c .before .before .before .due-tag .ensures) (u .0 .taken)))
+          (λ u. rw (u .1, u .2) (due-pass g w (a .known) (a .count) (a .time) (a .latest) (s .inv .0) more owned (c .before .before .before .due-tag .ensures) (u .0 .left)))
           (c .before .before .if2 .came))
           (⊎-elim
-          (λ u. rw (u .2, u .3) (open-take g w (a .known) (a .count) (a .time) (a .latest) (s .inv .0) more (sym (c .before .open-before .ensures) ∙ u .0 .taken)))
-          (λ u. rw (u .1, u .2) (open-pass g w (a .known) (a .count) (a .time) (a .latest) (s .inv .0) more (sym (c .before .open-before .ensures) ∙ u .0 .left)))
+          (λ u. rw (u .1, u .2) (open-take g w (a .known) (a .count) (a .time) (a .latest) (s .inv .0) more (c .before .open-tag .ensures) (u .0 .taken)))
+          (λ u. rw (u .1, u .2) (open-pass g w (a .known) (a .count) (a .time) (a .latest) (s .inv .0) more (c .before .open-tag .ensures) (u .0 .left)))
           (c .if3 .came)),
       omega (arith, marked, s .inv .1),
     )
@@ -148,7 +130,7 @@ loop-again c =
     let start = turn .before .before .before .before in
     let a = start .args in
     ⊎-elim
-    (λ v. rw (v .6, v .7, v .8, v .9, v .10, v .11) (first-row (record { before = record { before = record { before = record { before = record { before = c .before; if1 = v .0 }; «due-before» = v .1 }; if2 = v .2 }; «open-before» = v .3 }; if3 = v .4 })))
+    (λ v. rw (v .6, v .7, v .8, v .9, v .10, v .11) (first-row (record { before = record { before = record { before = record { before = record { before = c .before; if1 = v .0 }; «due-tag» = v .1 }; if2 = v .2 }; «open-tag» = v .3 }; if3 = v .4 })))
     (λ v. rw (v .1, v .2, v .3, v .4, v .5, v .6)
     (line-skip (a .guests .now) (a .waiting .now) (a .known) (a .count) (a .time) (a .latest) (s .inv .0) (turn .loop-test .taken) (start .pre .1 .0 .0) (start .pre .0 .2) (start .pre .1 .0 .1) (v .0 .left), s .inv .1))
     (c .if1 .came)
@@ -181,14 +163,8 @@ first-in-line-spec =
     array-read-if1
     array-write-seen
     sub-left
-    due-before-requires
-    add-soonest-2
-    mul-soonest
-    shared-slice-read-soonest
-    open-before-requires
-    add-smallest
-    mul-smallest
-    shared-slice-read-smallest
+    due-tag-requires
+    open-tag-requires
     firsts-at-requires
     returns
     add-at

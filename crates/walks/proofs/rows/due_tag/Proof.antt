@@ -1,0 +1,70 @@
+-- The tag and a bit that the tests lift it by. Assumes nothing.
+use Prim.Native.Nat.{_+_}
+use lib.Dec.{lit<}
+use lib.ListN.{getD}
+use Rattle.table.specs.Columns.{RESERVATION, RTAG, LTAG, guestAt}
+use Rattle.walks.specs.Lifted.{due-lifted}
+use borrow.Author.Needs.{needs}
+use Rattle.walks.proofs.rows.due_tag.Statement.{statement}
+use Rattle.walks.proofs.rows.due_tag.Tie as tie
+
+mul-none : tie.Need-mul-none
+mul-none c = search needs
+
+add-none : tie.Need-add-none
+add-none c = search needs
+
+mul-none-2 : tie.Need-mul-none-2
+mul-none-2 c = search needs
+
+shared-slice-read-none : tie.Need-shared-slice-read-none
+shared-slice-read-none c = search needs
+
+add-late : tie.Need-add-late
+add-late c = search needs
+
+mul-late : tie.Need-mul-late
+mul-late c = search needs
+
+shared-slice-read-late : tie.Need-shared-slice-read-late
+shared-slice-read-late c = search needs
+
+add-result : tie.Need-add-result
+add-result c = search needs
+
+mul-result : tie.Need-mul-result
+mul-result c = search needs
+
+shared-slice-read-result : tie.Need-shared-slice-read-result
+shared-slice-read-result c = search needs
+
+bit-where-requires : tie.Need-bit-where-requires
+bit-where-requires c κs = search needs
+
+bit-where-requires-2 : tie.Need-bit-where-requires-2
+bit-where-requires-2 c κs = search needs
+
+returns : tie.Need-returns
+returns c =
+    let a = c .before .before .before .before .before .before .before .args in
+    let w = a .waiting .now in
+    due-lifted (guestAt (a .guests .now) (a .guest) RESERVATION) (getD w (a .at + RTAG) 0) (getD w (a .at + LTAG) 0) (a .latest) 9223372036854775808
+    (c .before .bit-where .ensures) (c .bit-where2 .ensures) (lit< tt)
+
+pub due-tag-spec : {M : Type 1} → statement M
+due-tag-spec =
+    tie.close
+    (tie.spec
+    mul-none
+    add-none
+    mul-none-2
+    shared-slice-read-none
+    add-late
+    mul-late
+    shared-slice-read-late
+    add-result
+    mul-result
+    shared-slice-read-result
+    bit-where-requires
+    bit-where-requires-2
+    returns)
