@@ -92,7 +92,7 @@ module _ (t : Table) (now : ℕ) where
   adjusted-owner true g e h = getD-each moved 0 (t .guests) g nobodys h ∙ rw (zero-add g, e)
 
   -- a guest is as idle as before
-  adjusted-idle : (b : Bool) (g : ℕ) → idle (adjusted b now t) g ≡ idle t g
+  pub adjusted-idle : (b : Bool) (g : ℕ) → idle (adjusted b now t) g ≡ idle t g
   unfolding adjusted idle shifted
   adjusted-idle false g = refl
   adjusted-idle true g = ap empty (filter-map (of g) (shifted now (smallest t)) (λ q. refl) (t .waiting)) ∙ empty-map (shifted now (smallest t)) (mine g (t .waiting))
@@ -118,10 +118,10 @@ module _ (t : Table) (now : ℕ) where
       (moved-order s g known)
 
   -- the costs are as they were
-  adjusted-costs : (b : Bool) → all priced ((adjusted b now t) .waiting) ≡ all priced (t .waiting)
+  pub adjusted-costs : (f : ℕ → Bool) (b : Bool) → all (λ q. f (q .cost)) ((adjusted b now t) .waiting) ≡ all (λ q. f (q .cost)) (t .waiting)
   unfolding adjusted shifted
-  adjusted-costs false = refl
-  adjusted-costs true = all-of-map priced (shifted now (smallest t)) (t .waiting)
+  adjusted-costs f false = refl
+  adjusted-costs f true = all-of-map (λ q. f (q .cost)) (shifted now (smallest t)) (t .waiting)
 
   -- the settling of the shares leaves a table firm
   adjusted-firm : Sound t → (b : Bool) → Firm (adjusted b now t)
@@ -132,7 +132,7 @@ module _ (t : Table) (now : ℕ) where
         in-range = same-ranges (adjusted b now t) t k ∙ s .in-range;
         rule-known = same-rule (adjusted b now t) t k ∙ s .rule-known;
         flight-fits = rw (adjusted-flight b, k .setup) (s .flight-fits);
-        costs-fit = adjusted-costs b ∙ s .costs-fit;
+        costs-fit = adjusted-costs fair b ∙ s .costs-fit;
         guests-known = rw (n, adjusted-names b) (s .guests-known);
         names-once = rw (adjusted-names b) (s .names-once);
         guests-orderly = λ g h. adjusted-order s b g (rw n at h);

@@ -10,7 +10,7 @@ use borrow.Author.Tests.{ltb-true, le-leb, eqb-true, eq-eqb}
 use Rattle.lists.specs.Words.{if_then_else_, all}
 use Rattle.lists.specs.WordsLaws.{join, all-append, all-mid}
 use Rattle.rules.specs.Tables.{Settings, Guest, Request, Flight, Table, reserved, limited, rplain, lplain, splain, rspacing, lspacing, sspacing, owner, of, mine, name, names}
-use Rattle.rules.specs.Sound.{lawful, priced, kept, orderly}
+use Rattle.rules.specs.Sound.{lawful, fair, priced, kept, orderly}
 use Rattle.rules.specs.Choice.{sending, earlier, sooner, dropOf, dropped, room, choice}
 use Rattle.rules.proofs.Spacings.{down-le, up-le, no-down, cost-le, cost-none}
 use Rattle.rules.proofs.Names.{distinct-last, names-mid, names-sent}
@@ -18,7 +18,7 @@ use Rattle.rules.proofs.Chains.{kept-tail, kept-above, kept-same, kept-
 use Rattle.rules.proofs.SameSettings.{same-ranges, same-rule, same-count, sending-settings, dropped-settings}
 use Rattle.rules.proofs.Facts.{Sound, orderly-is, is-orderly, Lawful, lawful-is, waiting-known, any-orderly}
 use Rattle.rules.proofs.Picks.{Goes, due-goes, open-goes}
-use Rattle.rules.proofs.Drops.{dropped-names, dropped-length, dropped-flight, dropped-time, dropped-lawful, dropped-priced, dropped-own, dropped-owner, dropped-others, dropped-other}
+use Rattle.rules.proofs.Drops.{dropped-names, dropped-length, dropped-flight, dropped-time, dropped-lawful, dropped-costs, dropped-own, dropped-owner, dropped-others, dropped-other}
 use Rattle.rules.proofs.Cases.{choice-by}
 
 -- A REQUEST GOES
@@ -153,7 +153,7 @@ module _ (u : Table) (s : Sound u) (p : Request) (known : p .guest < length (u .
         guests-known = rw (same-count (dropped p u) u k, dropped-names p u) (s .guests-known);
         names-once = rw (dropped-names p u) (s .names-once);
         tags-fit = dropped-lawful p u (s .tags-fit);
-        costs-fit = dropped-priced p u (s .costs-fit);
+        costs-fit = dropped-costs p u fair ∙ s .costs-fit;
         guests-orderly = λ g known. dropped-order g;
       }
 

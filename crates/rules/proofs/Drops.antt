@@ -1,6 +1,6 @@
 -- What a drop of reservation tags does: to the guest's own requests and next number, and nothing to others'. Assumes nothing.
 use mathlib.Core.Path.{_≡_, refl, ap, _∙_}
-use mathlib.Core.Bool.{true, false}
+use mathlib.Core.Bool.{Bool, true, false}
 use mathlib.Core.List.{_++_, map}
 use Prim.Native.Nat.{ℕ, _<_}
 use native.Mathlib.Omega.{arith}
@@ -9,9 +9,9 @@ use lib.ListN.{length, length-map}
 use lib.Seq.{getD-set-same, getD-set-other}
 use borrow.Author.Tests.{eqb-true, eqb-false}
 use Rattle.lists.specs.Words.{if_then_else_, all}
-use Rattle.lists.specs.WordsLaws.{all-map, map-same, map-on, map-id, filter-map, filter-passes}
+use Rattle.lists.specs.WordsLaws.{all-map, all-same, map-same, map-on, map-id, filter-map, filter-passes}
 use Rattle.rules.specs.Tables.{Request, Flight, Table, nobodys, owner, of, mine, name, names}
-use Rattle.rules.specs.Sound.{lawful, priced}
+use Rattle.rules.specs.Sound.{lawful}
 use Rattle.rules.specs.Choice.{earlier, sooner, dropOf, dropped}
 use Rattle.rules.proofs.Facts.{lawful-is, is-lawful}
 
@@ -43,10 +43,9 @@ module _ (p : Request) (u : Table) where
       ]
 
   -- and its cost
-  lower-priced : (q : Request) → priced q ≡ true → priced (lower q) ≡ true
+  lower-cost : (q : Request) → (lower q) .cost ≡ q .cost
   unfolding earlier
-  lower-priced q h =
-      elim (of (p .guest) q) as (λ b. priced (if b then earlier (dropOf u p) q else q) ≡ true) [ true ↦ h | false ↦ h ]
+  lower-cost q = elim (of (p .guest) q) as (λ b. (if b then earlier (dropOf u p) q else q) .cost ≡ q .cost) [ true ↦ refl | false ↦ refl ]
 
   -- the requests of guest g
   mine-lower : (g : ℕ) → mine g ((dropped p u) .waiting) ≡ map lower (mine g (u .waiting))
@@ -79,9 +78,9 @@ module _ (p : Request) (u : Table) where
   dropped-lawful h = all-map lawful lawful lower lower-lawful (u .waiting) h
 
   -- no cost changes
-  pub dropped-priced : all priced (u .waiting) ≡ true → all priced ((dropped p u) .waiting) ≡ true
+  pub dropped-costs : (f : ℕ → Bool) → all (λ q. f (q .cost)) ((dropped p u) .waiting) ≡ all (λ q. f (q .cost)) (u .waiting)
   unfolding dropped
-  dropped-priced h = all-map priced priced lower lower-priced (u .waiting) h
+  dropped-costs f = all-same (λ q. f (q .cost)) lower (λ q. ap f (lower-cost q)) (u .waiting)
 
   -- the ids of a guest, in order of acceptance
   pub dropped-ids : (g : ℕ) → map Request.id (mine g ((dropped p u) .waiting)) ≡ map Request.id (mine g (u .waiting))

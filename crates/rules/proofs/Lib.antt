@@ -36,6 +36,7 @@ pub mod Answered
 pub mod Guards
 pub mod Bursts
 pub mod Costs
+pub mod Plain
 pub mod InFlight
 pub mod Credit
 pub mod Arrived
