@@ -11,26 +11,25 @@ use Rattle.lists.specs.Words.{if_then_else_}
 use Rattle.lists.specs.Lines.{whether, lineAt}
 use Rattle.lists.specs.Rows.{overRows, Unused}
 use Rattle.lists.specs.RowsLaws.{row-at, row-put, rows-changed, all-used, each-map}
-use Rattle.rules.specs.Numbers.{down}
-use Rattle.rules.specs.Tables.{Request, Table, owner, of}
+use Rattle.rules.specs.Tables.{Request, Table, rplain, owner, of}
 use Rattle.rules.specs.declared.Guest.{Guest}
 use Rattle.rules.specs.Choice.{earlier, sooner, dropOf, dropped}
 use Rattle.table.specs.Columns.{RNEXT, guestWide, GUEST, RTAG, waitingWide, waitingAt}
 use Rattle.table.specs.View.{guestForm, requestForm, guestsOf, waitingOf}
 use Rattle.table.specs.ViewLaws.{guest-exact, request-exact}
-use Rattle.moves.specs.Moves.{spacingOf, nextDropped, tagDropped, tagsDropped}
+use Rattle.moves.specs.Moves.{fallOf, nextDropped, tagDropped, tagsDropped}
 
-module _ (n : ℕ) (gs : List ℕ) (g : ℕ) (known : g < n) where
+module _ (n : ℕ) (gs : List ℕ) (g c : ℕ) (known : g < n) where
   -- the spacing that the numbers show is the guest's
-  pub spacing-is : spacingOf g gs ≡ down ((owner (guestsOf gs n) g) .settings .reservation)
-  spacing-is = ap (λ (h : Guest). down (h .settings .reservation)) (sym (row-at guestForm gs n g known))
+  pub fall-is : fallOf g c gs ≡ c * rplain ((owner (guestsOf gs n) g) .settings)
+  fall-is = ap (λ (h : Guest). c * rplain (h .settings)) (sym (row-at guestForm gs n g known))
 
   -- the guest's next reservation number drops
-  pub next-dropped-is : n * guestWide ≤ length gs → nextDropped g gs ≡ overRows guestForm n (set (guestsOf gs n) g (sooner (down ((owner (guestsOf gs n) g) .settings .reservation)) (owner (guestsOf gs n) g))) gs
+  pub next-dropped-is : n * guestWide ≤ length gs → nextDropped g c gs ≡ overRows guestForm n (set (guestsOf gs n) g (sooner (c * rplain ((owner (guestsOf gs n) g) .settings)) (owner (guestsOf gs n) g))) gs
   unfolding sooner
   next-dropped-is room =
       row-put guestForm guest-exact n n gs room (omega arith) (all-used guestForm guest-exact n gs) g RNEXT _ _ known (lit< tt)
-      (ap (λ (h : Guest). guestForm .line (sooner (down (h .settings .reservation)) h)) (row-at guestForm gs n g known))
+      (ap (λ (h : Guest). guestForm .line (sooner (c * rplain (h .settings)) h)) (row-at guestForm gs n g known))
 
 -- the guest's waiting reservation tags drop
 pub tags-dropped-is : (cap n : ℕ) (ws : List ℕ) → cap * waitingWide ≤ length ws → n ≤ cap → Unused requestForm cap n ws → (g d : ℕ)
@@ -48,13 +47,13 @@ tags-dropped-is cap n ws room fit unused g d =
 
 -- both, for the table t that the numbers show, where q was sent
 pub dropped-is : (n cap count : ℕ) (gs ws : List ℕ) (t : Table) (q : Request) → t .guests ≡ guestsOf gs n → t .waiting ≡ waitingOf ws count → n * guestWide ≤ length gs → q .guest < n → cap * waitingWide ≤ length ws → count ≤ cap → Unused requestForm cap count ws
-    → (nextDropped (q .guest) gs ≡ overRows guestForm n (dropped q t .guests) gs) × (tagsDropped (q .guest) (spacingOf (q .guest) gs) ws count ≡ overRows requestForm cap (dropped q t .waiting) ws)
+    → (nextDropped (q .guest) (q .cost) gs ≡ overRows guestForm n (dropped q t .guests) gs) × (tagsDropped (q .guest) (fallOf (q .guest) (q .cost) gs) ws count ≡ overRows requestForm cap (dropped q t .waiting) ws)
 unfolding dropped
 dropped-is n cap count gs ws t q eg ew room known rows fit unused = (
-  next-dropped-is n gs (q .guest) known room
-      ∙ ap (λ (hs : List Guest). overRows guestForm n (set hs (q .guest) (sooner (down ((owner hs (q .guest)) .settings .reservation)) (owner hs (q .guest)))) gs) (sym eg),
-  tags-dropped-is cap count ws rows fit unused (q .guest) (spacingOf (q .guest) gs)
+  next-dropped-is n gs (q .guest) (q .cost) known room
+      ∙ ap (λ (hs : List Guest). overRows guestForm n (set hs (q .guest) (sooner (q .cost * rplain ((owner hs (q .guest)) .settings)) (owner hs (q .guest)))) gs) (sym eg),
+  tags-dropped-is cap count ws rows fit unused (q .guest) (fallOf (q .guest) (q .cost) gs)
       ∙ ap (λ (d : ℕ). overRows requestForm cap (map (λ p. if of (q .guest) p then earlier d p else p) (waitingOf ws count)) ws)
-      (spacing-is n gs (q .guest) known ∙ ap (λ (hs : List Guest). down ((owner hs (q .guest)) .settings .reservation)) (sym eg))
+      (fall-is n gs (q .guest) (q .cost) known ∙ ap (λ (hs : List Guest). q .cost * rplain ((owner hs (q .guest)) .settings)) (sym eg))
       ∙ ap (λ (l : List Request). overRows requestForm cap (map (λ p. if of (q .guest) p then earlier (dropOf t q) p else p) l) ws) (sym ew),
 )

@@ -19,7 +19,7 @@ use Rattle.moves.specs.Moves.{followed}
 
 -- the guest whose request q is follows it
 pub followed-is : (n : ℕ) (gs : List ℕ) (q : Request) → n * guestWide ≤ length gs → q .guest < n
-    → followed (q .guest) (q .rtag) (q .ltag) (q .stag) gs ≡ overRows guestForm n (set (guestsOf gs n) (q .guest) (following q (owner (guestsOf gs n) (q .guest)))) gs
+    → followed (q .guest) (q .rtag) (q .ltag) (q .stag) (q .cost) gs ≡ overRows guestForm n (set (guestsOf gs n) (q .guest) (following q (owner (guestsOf gs n) (q .guest)))) gs
 unfolding following
 followed-is n gs q room known = third ∙ ap (λ (h : Guest). overRows guestForm n (set (guestsOf gs n) g (following q h)) gs) (sym (row-at guestForm gs n g known))
   where
@@ -45,5 +45,5 @@ followed-is n gs q room known = third ∙ ap (λ (h : Guest). overRows guestForm
     second : set (set gs (g * guestWide + RNEXT) (new .rnext)) (g * guestWide + LNEXT) (new .lnext) ≡ overRows guestForm n (set (guestsOf gs n) g two) gs
     second = row-put-again guestForm guest-exact n n gs room (omega arith) (all-used guestForm guest-exact n gs) (set gs (g * guestWide + RNEXT) (new .rnext)) g LNEXT (new .lnext) one two known (lit< tt) first refl
 
-    third : followed g (q .rtag) (q .ltag) (q .stag) gs ≡ overRows guestForm n (set (guestsOf gs n) g new) gs
+    third : followed g (q .rtag) (q .ltag) (q .stag) (q .cost) gs ≡ overRows guestForm n (set (guestsOf gs n) g new) gs
     third = row-put-again guestForm guest-exact n n gs room (omega arith) (all-used guestForm guest-exact n gs) (set (set gs (g * guestWide + RNEXT) (new .rnext)) (g * guestWide + LNEXT) (new .lnext)) g SNEXT (new .snext) two new known (lit< tt) second refl

@@ -5,6 +5,7 @@ use mathlib.Core.Path.{_≡_, refl, sym, ap, _∙_}
 use mathlib.Core.Bool.{Bool, true, false}
 use mathlib.Core.List.{List}
 use native.Mathlib.Omega.{arith}
+use native.Mathlib.Nat.{mul-zero}
 use lib.Dec.{eqb}
 use lib.ListN.{set}
 use lib.Seq.{set-getD}
@@ -12,7 +13,7 @@ use Rattle.lists.specs.Stores.{stores, stores-other, stores-next}
 use Rattle.lists.specs.Lines.{whether}
 use Rattle.rules.specs.Numbers.{down}
 use Rattle.table.specs.Columns.{RESERVATION, RNEXT, guestWide, GUEST, RTAG, waitingWide, guestAt, waitingAt}
-use Rattle.moves.specs.Moves.{spacingOf, nextDropped, tagDropped, tagsDropped}
+use Rattle.moves.specs.Moves.{fallOf, nextDropped, tagDropped, tagsDropped}
 
 -- w is xs after i turns
 module _ (g d : ℕ) (xs w : List ℕ) (i : ℕ) (e : w ≡ tagsDropped g d xs i) where
@@ -46,17 +47,17 @@ same-tags g ws (suc n) =
     ∙ set-getD ws (n * waitingWide + RTAG) 0)
 
 -- without a reservation nothing drops
-module _ (g : ℕ) (gs : List ℕ) (none : guestAt gs g RESERVATION ≡ 0) where
-  -- its spacing is 0
-  nothing : spacingOf g gs ≡ 0
+module _ (g c : ℕ) (gs : List ℕ) (none : guestAt gs g RESERVATION ≡ 0) where
+  -- its spacing is 0, and so is any number of them
+  nothing : fallOf g c gs ≡ 0
   unfolding down
-  nothing = rw none
+  nothing = rw none (mul-zero c)
 
   -- its next number is as it was
-  pub no-next-dropped : gs ≡ nextDropped g gs
+  pub no-next-dropped : gs ≡ nextDropped g c gs
   no-next-dropped =
       sym (ap (λ (d : ℕ). set gs (g * guestWide + RNEXT) (guestAt gs g RNEXT - d)) nothing ∙ ap (set gs (g * guestWide + RNEXT)) (omega arith) ∙ set-getD gs (g * guestWide + RNEXT) 0)
 
   -- and so are the tags
-  pub no-tags-dropped : (ws : List ℕ) (n : ℕ) → ws ≡ tagsDropped g (spacingOf g gs) ws n
+  pub no-tags-dropped : (ws : List ℕ) (n : ℕ) → ws ≡ tagsDropped g (fallOf g c gs) ws n
   no-tags-dropped ws n = same-tags g ws n ∙ ap (λ (d : ℕ). tagsDropped g d ws n) (sym nothing)

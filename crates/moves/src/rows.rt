@@ -1,5 +1,6 @@
 // The moves that write the lent tables: send, take out, append, drop, follow, start and clear. Each contract says what becomes of the
 // numbers; MovesLaws, DropLaws and FollowLaws in specs/ say which lists of document 01 they then show.
+use table::columns::COST;
 use table::columns::CREDIT;
 use table::columns::FLIGHT_WIDE;
 use table::columns::GUEST;
@@ -17,16 +18,17 @@ use table::columns::SHARES;
 use table::columns::SNEXT;
 use table::columns::STAG;
 use table::columns::WAITING_WIDE;
-use table::numbers::spacing_down;
-use table::numbers::spacing_up;
+use table::numbers::gap_down;
+use table::numbers::gap_up;
 ghost use mathlib.Core.Path.{_≡_};
 ghost use Prim.Native.Nat.{ℕ, _+_, _-_, _*_, _≤_, _<_};
 ghost use lib.Dec.{eqb};
 ghost use lib.ListN.{length};
 ghost use Rattle.lists.specs.Parts.{closed, zeros};
 ghost use Rattle.lists.specs.Lines.{whether};
+ghost use Rattle.rules.specs.Numbers.{mostCost};
 ghost use Rattle.table.specs.Columns.{LIMIT, RNEXT, guestWide, settingsWide, GUEST, flightWide, RTAG, waitingWide, guestAt, waitingAt};
-ghost use Rattle.moves.specs.Moves.{gone, joined, Named, freed, appended, spacingOf, nextDropped, tagsDropped, followed, started};
+ghost use Rattle.moves.specs.Moves.{gone, joined, Named, freed, appended, fallOf, nextDropped, tagsDropped, followed, started};
 
 // The first row of `tail`, of `wide` numbers, goes; each later one moves down a place, and the last becomes zeros.
 pub fn close_up(tail: &mut [u64], wide: usize)
@@ -42,20 +44,22 @@ pub fn close_up(tail: &mut [u64], wide: usize)
     clear(&mut tail[keep..], wide);
 }
 
-// A request's name: whose, and its id.
-pub struct Name {
+// A request that was sent: whose, its id, and its cost.
+pub struct Sent {
     pub guest: u64,
     pub id: u64,
+    pub cost: u64,
 }
 
-// The request at `place` goes to the array: its name to the end of flight, and the requests behind it move down one place.
+// The request at `place` goes to the array: its name to the end of flight, and the requests behind it move down one place. Its cost is read before
+// they do.
 pub fn send(
     waiting: &mut [u64],
     flight: &mut [u64],
     place: usize,
     count: usize,
     flying: usize,
-) -> Name
+) -> Sent
     requires { ⌜ (place < count) × (count * waitingWide ≤ length (now waiting)) × (flying * flightWide + flightWide ≤ length (now flight)) ⌝ }
     ensures { λ _. ⌜ now (waiting .exit) ≡ gone place count (now (waiting .entry)) ⌝ }
     ensures { λ _. ⌜ now (flight .exit) ≡ joined place flying (now (waiting .entry)) (now (flight .entry)) ⌝ }
@@ -66,12 +70,14 @@ pub fn send(
     let end = flying * FLIGHT_WIDE;
     let guest = waiting[from + GUEST];
     let id = waiting[from + ID];
+    let cost = waiting[from + COST];
     flight[end + GUEST] = guest;
     flight[end + ID] = id;
     close_up(&mut waiting[from..used], WAITING_WIDE);
-    Name {
+    Sent {
         guest: guest,
         id: id,
+        cost: cost,
     }
 }
 
@@ -94,15 +100,17 @@ pub fn append(
     rtag: u64,
     ltag: u64,
     stag: u64,
+    cost: u64,
 )
     requires { ⌜ count * waitingWide + waitingWide ≤ length (now waiting) ⌝ }
-    ensures { λ _. ⌜ now (waiting .exit) ≡ appended count (record { guest = guest; id = id; rtag = rtag; ltag = ltag; stag = stag }) (now (waiting .entry)) ⌝ }
+    ensures { λ _. ⌜ now (waiting .exit) ≡ appended count (record { guest = guest; id = id; rtag = rtag; ltag = ltag; stag = stag; cost = cost }) (now (waiting .entry)) ⌝ }
 {
     waiting[count * WAITING_WIDE + GUEST] = guest;
     waiting[count * WAITING_WIDE + ID] = id;
     waiting[count * WAITING_WIDE + RTAG] = rtag;
     waiting[count * WAITING_WIDE + LTAG] = ltag;
     waiting[count * WAITING_WIDE + STAG] = stag;
+    waiting[count * WAITING_WIDE + COST] = cost;
 }
 
 // A tag of `owner`, d earlier where the owner is `guest`.
@@ -129,38 +137,40 @@ fn lower(waiting: &mut [u64], count: usize, guest: u64, d: u64)
     }
 }
 
-// After a weight send: the next reservation number of `guest`, and each of its reservation tags, drop by its spacing, if it has one.
-pub fn drop_tags(guests: &mut [u64], waiting: &mut [u64], count: usize, guest: u64)
+// After a weight send at this cost: the next reservation number of `guest`, and each of its reservation tags, drop by the cost times its spacing, if it
+// has one.
+pub fn drop_tags(guests: &mut [u64], waiting: &mut [u64], count: usize, guest: u64, cost: u64)
     requires { ⌜ (guest * guestWide + guestWide ≤ length (now guests)) × (count * waitingWide ≤ length (now waiting)) ⌝ }
-    requires { ⌜ spacingOf guest (now guests) ≤ guestAt (now guests) guest RNEXT ⌝ }
-    requires { ⌜ ((k : ℕ) → k < count → waitingAt (now waiting) k GUEST ≡ guest → spacingOf guest (now guests) ≤ waitingAt (now waiting) k RTAG) ⌝ }
-    ensures { λ _. ⌜ now (guests .exit) ≡ nextDropped guest (now (guests .entry)) ⌝ }
-    ensures { λ _. ⌜ now (waiting .exit) ≡ tagsDropped guest (spacingOf guest (now (guests .entry))) (now (waiting .entry)) count ⌝ }
+    requires { ⌜ (cost ≤ mostCost) × (fallOf guest cost (now guests) ≤ guestAt (now guests) guest RNEXT) ⌝ }
+    requires { ⌜ ((k : ℕ) → k < count → waitingAt (now waiting) k GUEST ≡ guest → fallOf guest cost (now guests) ≤ waitingAt (now waiting) k RTAG) ⌝ }
+    ensures { λ _. ⌜ now (guests .exit) ≡ nextDropped guest cost (now (guests .entry)) ⌝ }
+    ensures { λ _. ⌜ now (waiting .exit) ≡ tagsDropped guest (fallOf guest cost (now (guests .entry))) (now (waiting .entry)) count ⌝ }
 {
     let g = guest as usize;
     let r = guests[g * GUEST_WIDE + RESERVATION];
     if r == 0 {
         return;
     }
-    let d = spacing_down(r);
+    let d = gap_down(cost, r);
     let n = guests[g * GUEST_WIDE + RNEXT];
     guests[g * GUEST_WIDE + RNEXT] = n - d;
     lower(waiting, count, guest, d);
 }
 
-// After an arrival: the next numbers of `guest` become the request's tags plus its spacings.
-pub fn follow(guests: &mut [u64], guest: u64, rtag: u64, ltag: u64, stag: u64)
+// After an arrival: the next numbers of `guest` become the request's tags plus its cost times the spacings.
+pub fn follow(guests: &mut [u64], guest: u64, rtag: u64, ltag: u64, stag: u64, cost: u64)
     requires { ⌜ (guest * guestWide + guestWide ≤ length (now guests)) × (guestAt (now guests) guest LIMIT ≤ 1000000) ⌝ }
+    requires { ⌜ cost ≤ mostCost ⌝ }
     requires { ⌜ (rtag ≤ 4611686018427387904) × (ltag ≤ 4611686018427387904) × (stag ≤ 4611686018427387904) ⌝ }
-    ensures { λ _. ⌜ now (guests .exit) ≡ followed guest rtag ltag stag (now (guests .entry)) ⌝ }
+    ensures { λ _. ⌜ now (guests .exit) ≡ followed guest rtag ltag stag cost (now (guests .entry)) ⌝ }
 {
     let g = guest as usize;
     let reservation = guests[g * GUEST_WIDE + RESERVATION];
     let limit = guests[g * GUEST_WIDE + LIMIT];
     let shares = guests[g * GUEST_WIDE + SHARES];
-    let r = spacing_down(reservation);
-    let l = spacing_up(limit);
-    let s = spacing_down(shares);
+    let r = gap_down(cost, reservation);
+    let l = gap_up(cost, limit);
+    let s = gap_down(cost, shares);
     guests[g * GUEST_WIDE + RNEXT] = rtag + r;
     guests[g * GUEST_WIDE + LNEXT] = ltag + l;
     guests[g * GUEST_WIDE + SNEXT] = stag + s;

@@ -12,7 +12,7 @@ use Rattle.lists.specs.WordsLaws.{join, all-append, all-mid}
 use Rattle.rules.specs.Tables.{Settings, Guest, Request, Flight, Table, reserved, limited, rplain, lplain, splain, rspacing, lspacing, sspacing, owner, of, mine, name, names}
 use Rattle.rules.specs.Sound.{lawful, fair, priced, kept, orderly}
 use Rattle.rules.specs.Choice.{sending, earlier, sooner, dropOf, dropped, room, choice}
-use Rattle.rules.proofs.Spacings.{down-le, up-le, no-down, cost-le, cost-none}
+use Rattle.rules.proofs.Spacings.{down-le, up-le, no-down, fair-is, cost-le, cost-none}
 use Rattle.rules.proofs.Names.{distinct-last, names-mid, names-sent}
 use Rattle.rules.proofs.Chains.{kept-tail, kept-above, kept-same, kept-drop}
 use Rattle.rules.proofs.SameSettings.{same-ranges, same-rule, same-count, sending-settings, dropped-settings}
@@ -28,11 +28,12 @@ orderly-tail : (h : Guest) (p : Request) (l : List Request) → Lawful p → pri
 orderly-tail h p l b c e =
     let s = h .settings in
     let o = orderly-is h (p ∷ l) e in
+    let most = fair-is (p .cost) c .1 in
     is-orderly h l
     (record {
-      reservations = kept-tail Request.rtag (rspacing s) (rspacing s) (reserved s) p l (h .rnext) (omega (arith, cost-le (p .cost) (rplain s) c (down-le (s .reservation)))) (o .reservations);
-      limits = kept-tail Request.ltag (lspacing s) (lspacing s) (limited s) p l (h .lnext) (omega (arith, cost-le (p .cost) (lplain s) c (up-le (s .limit)))) (o .limits);
-      shares = kept-tail Request.stag (sspacing s) (sspacing s) true p l (h .snext) (omega (arith, cost-le (p .cost) (splain s) c (down-le (s .shares)))) (o .shares);
+      reservations = kept-tail Request.rtag (rspacing s) (rspacing s) (reserved s) p l (h .rnext) (omega (arith, cost-le (p .cost) (rplain s) most (down-le (s .reservation)))) (o .reservations);
+      limits = kept-tail Request.ltag (lspacing s) (lspacing s) (limited s) p l (h .lnext) (omega (arith, cost-le (p .cost) (lplain s) most (up-le (s .limit)))) (o .limits);
+      shares = kept-tail Request.stag (sspacing s) (sspacing s) true p l (h .snext) (omega (arith, cost-le (p .cost) (splain s) most (down-le (s .shares)))) (o .shares);
     })
 
 module _ (t : Table) (s : Sound t) (p : Request) (v : List Request) (c : Goes t p v) where

@@ -144,13 +144,21 @@ first-past t a free h k =
     record {
       reservation = λ r.
           let has : reserved s ≡ true = ap reserved (sym same) ∙ r in
-          omega (arith, x .reservation-next, x .reservation-tag .larger has,
-          cost-some ((lastOf t u) .cost) (rplain s) c (down-some (s .reservation) (ltb-true 0 (s .reservation) has) (o .reservations)));
+          omega (
+            arith,
+            x .reservation-next,
+            x .reservation-tag .larger has,
+            cost-some ((lastOf t u) .cost) (rplain s) c (down-some (s .reservation) (ltb-true 0 (s .reservation) has) (o .reservations)),
+          );
       limit = λ r.
           let has : limited s ≡ true = ap limited (sym same) ∙ r in
           omega (arith, x .limit-next, x .limit-tag .larger has, cost-some ((lastOf t u) .cost) (lplain s) c (up-some (s .limit) (ltb-true 0 (s .limit) has)));
-      share = omega (arith, x .share-next, late (idle t (a .guest)) refl x,
-          cost-some ((lastOf t u) .cost) (splain s) c (down-some (s .shares) (omega (arith, o .share-count .0)) (o .share-count .1)));
+      share = omega (
+        arith,
+        x .share-next,
+        late (idle t (a .guest)) refl x,
+        cost-some ((lastOf t u) .cost) (splain s) c (down-some (s .shares) (omega (arith, o .share-count .0)) (o .share-count .1)),
+      );
     }
   where
     late : (b : Bool) → idle t (a .guest) ≡ b → Arrived t a ceiling (enter t (Arrival a ceiling)) → ceiling ≤ (lastOf t (enter t (Arrival a ceiling))) .stag

@@ -41,8 +41,8 @@ unfolding fair
 fair-is c h = let p = both (leb 1 c) (leb c mostCost) h in (leb-true 1 c (p .0), leb-true c mostCost (p .1))
 
 -- a cost times a spacing is at most 64 seconds
-pub cost-le : (c d : ℕ) → fair c ≡ true → d ≤ second → c * d ≤ mostCost * second
-cost-le c d h k = mul-le-mul (fair-is c h .1) k
+pub cost-le : (c d : ℕ) → c ≤ mostCost → d ≤ second → c * d ≤ mostCost * second
+cost-le c d h k = mul-le-mul h k
 
 -- it is 0 where the guest lacks the kind
 pub cost-none : (c d : ℕ) → d ≡ 0 → c * d ≡ 0

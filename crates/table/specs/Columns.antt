@@ -73,9 +73,13 @@ LTAG = 3
 abbrev pub STAG : ℕ
 STAG = 4
 
+-- its cost: the last number of its row
+abbrev pub COST : ℕ
+COST = 5
+
 -- how many numbers it has while it waits
 abbrev pub waitingWide : ℕ
-waitingWide = 5
+waitingWide = 6
 
 -- THE LARGEST TABLES
 

@@ -20,7 +20,7 @@ use Rattle.rules.specs.declared.Wake.{Wake}
 use Rattle.rules.specs.declared.Outcome.{Outcome}
 use Rattle.rules.specs.Waking.{told}
 use Rattle.table.specs.declared.gates.Decision.{Decision}
-use Rattle.table.specs.Columns.{RESERVATION, LIMIT, SHARES, RNEXT, LNEXT, SNEXT, CREDIT, LISTCREDIT, GUEST, ID, RTAG, LTAG, STAG, guestWide, settingsWide, waitingWide, flightWide}
+use Rattle.table.specs.Columns.{RESERVATION, LIMIT, SHARES, RNEXT, LNEXT, SNEXT, CREDIT, LISTCREDIT, GUEST, ID, RTAG, LTAG, STAG, COST, guestWide, settingsWide, waitingWide, flightWide}
 
 -- a guest's settings as numbers
 abbrev pub settingsForm : Form Settings
@@ -45,8 +45,8 @@ abbrev pub requestForm : Form Request
 requestForm =
     record {
       wide = waitingWide;
-      read = λ v. record { guest = getD v GUEST 0; id = getD v ID 0; rtag = getD v RTAG 0; ltag = getD v LTAG 0; stag = getD v STAG 0 };
-      line = λ q. q .guest ∷ q .id ∷ q .rtag ∷ q .ltag ∷ q .stag ∷ [];
+      read = λ v. record { guest = getD v GUEST 0; id = getD v ID 0; rtag = getD v RTAG 0; ltag = getD v LTAG 0; stag = getD v STAG 0; cost = getD v COST 0 };
+      line = λ q. q .guest ∷ q .id ∷ q .rtag ∷ q .ltag ∷ q .stag ∷ q .cost ∷ [];
     }
 
 -- a request in flight as numbers

@@ -49,8 +49,11 @@ pub const LTAG: usize = 3;
 // A waiting request's share tag.
 pub const STAG: usize = 4;
 
+// A waiting request's cost: the last number of its row.
+pub const COST: usize = 5;
+
 // The numbers of a waiting request.
-pub const WAITING_WIDE: usize = 5;
+pub const WAITING_WIDE: usize = 6;
 
 // The most guests.
 pub const MOST_GUESTS: usize = 64;

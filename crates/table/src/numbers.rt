@@ -1,7 +1,7 @@
 // Spacings and tags as functions on plain numbers.
 ghost use mathlib.Core.Path.{_≡_};
-ghost use Prim.Native.Nat.{_≤_};
-ghost use Rattle.rules.specs.Numbers.{mostCredit, down, up, tagAt};
+ghost use Prim.Native.Nat.{_*_, _≤_};
+ghost use Rattle.rules.specs.Numbers.{second, mostCredit, mostCost, down, up, tagAt};
 ghost use Rattle.rules.specs.declared.Settings.{Settings};
 ghost use Rattle.rules.specs.declared.Guest.{Guest};
 ghost use Rattle.rules.specs.Events.{tagIf, back as backTo, shareTag};
@@ -23,6 +23,22 @@ pub fn spacing_up(n: u64) -> u64
     ensures { λ d. ⌜ d ≡ up n ⌝ }
 {
     if n == 0 { 0 } else { (1000000000 + n - 1) / n }
+}
+
+// From the tag of a request of this cost to the next, by a reservation or shares n: the cost times the spacing.
+pub fn gap_down(cost: u64, n: u64) -> u64
+    requires { ⌜ cost ≤ mostCost ⌝ }
+    ensures { λ d. ⌜ (d ≡ cost * down n) × (d ≤ mostCost * second) ⌝ }
+{
+    cost * spacing_down(n)
+}
+
+// The same by a limit n.
+pub fn gap_up(cost: u64, n: u64) -> u64
+    requires { ⌜ (cost ≤ mostCost) × (n ≤ 1000000) ⌝ }
+    ensures { λ d. ⌜ (d ≡ cost * up n) × (d ≤ mostCost * second) ⌝ }
+{
+    cost * spacing_up(n)
 }
 
 // The larger of a next number and the time.

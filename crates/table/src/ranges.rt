@@ -1,16 +1,19 @@
-// Whether counts, rule and settings lie in their ranges, on plain numbers.
+// Whether counts, rule, costs and settings lie in their ranges, on plain numbers.
 use super::columns::MOST_CAPACITY;
 use super::columns::MOST_DEPTH;
 use super::columns::MOST_GUESTS;
 ghost use mathlib.Core.Path.{_≡_};
 ghost use Rattle.rules.specs.Numbers.{within as withinOf};
-ghost use Rattle.rules.specs.Sound.{counted, settled, ruled};
+ghost use Rattle.rules.specs.Sound.{counted, settled, ruled, fair};
 
 // The most that a setting may be.
 const MOST: u64 = 1000000;
 
 // The most that a credit may be.
 const MOST_CREDIT: u64 = 256;
+
+// The most that a request may cost.
+pub const MOST_COST: u64 = 64;
 
 // n lies from low to high, both included.
 fn within(low: u64, high: u64, n: u64) -> bool
@@ -43,6 +46,13 @@ pub fn is_ruled(rule: u64) -> bool
         return true;
     }
     rule == 2
+}
+
+// A request may cost this much.
+pub fn is_fair(cost: u64) -> bool
+    ensures { λ b. ⌜ b ≡ fair cost ⌝ }
+{
+    within(1, MOST_COST, cost)
 }
 
 // One guest's settings lie in their ranges. A reservation above a non-zero limit is bad; equal is good.

@@ -66,6 +66,18 @@ mul-waiting-10 c = search needs
 slice-write-waiting-5 : tie.Need-slice-write-waiting-5
 slice-write-waiting-5 c = simp length-set (omega arith)
 
+mul-waiting-11 : tie.Need-mul-waiting-11
+mul-waiting-11 c = search needs
+
+add-waiting-6 : tie.Need-add-waiting-6
+add-waiting-6 c = search needs
+
+mul-waiting-12 : tie.Need-mul-waiting-12
+mul-waiting-12 c = search needs
+
+slice-write-waiting-6 : tie.Need-slice-write-waiting-6
+slice-write-waiting-6 c = simp length-set (omega arith)
+
 same-length : tie.Need-same-length
 same-length c = search needs
 
@@ -97,5 +109,9 @@ append-spec =
     add-waiting-5
     mul-waiting-10
     slice-write-waiting-5
+    mul-waiting-11
+    add-waiting-6
+    mul-waiting-12
+    slice-write-waiting-6
     same-length
     returns)

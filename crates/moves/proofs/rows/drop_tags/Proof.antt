@@ -23,12 +23,12 @@ slice-read-r c = search needs
 returns : tie.Need-returns
 returns c =
     let a = c .before .before .before .before .args in (
-      no-next-dropped (a .guest) (a .guests .now) (c .if1 .taken),
-      no-tags-dropped (a .guest) (a .guests .now) (c .if1 .taken) (a .waiting .now) (a .count),
+      no-next-dropped (a .guest) (a .cost) (a .guests .now) (c .if1 .taken),
+      no-tags-dropped (a .guest) (a .cost) (a .guests .now) (c .if1 .taken) (a .waiting .now) (a .count),
     )
 
-spacing-down-requires : tie.Need-spacing-down-requires
-spacing-down-requires c κs = search needs
+gap-down-requires : tie.Need-gap-down-requires
+gap-down-requires c κs = search needs
 
 mul-n : tie.Need-mul-n
 mul-n c = search needs
@@ -60,7 +60,7 @@ slice-write-guests c = search needs
 lower-requires : tie.Need-lower-requires
 lower-requires c κs =
     let start = c .before .before .before .before .before .before .before in
-    (start .pre .0 .1, λ k l e. rw (c .before .before .spacing-down .ensures) (start .pre .1 .1 k l e))
+    (start .pre .0 .1, λ k l e. rw (c .before .before .gap-down .ensures .0) (start .pre .1 .1 k l e))
 
 same-length : tie.Need-same-length
 same-length c = search needs
@@ -71,9 +71,9 @@ same-length-2 c = search needs
 returns-2 : tie.Need-returns-2
 returns-2 c =
     let a = c .before .before .before .before .before .before .before .before .before .before .args in
-    let d = c .before .before .before .before .before .spacing-down in (
-      ap (λ (d : ℕ). set (a .guests .now) (a .guest * guestWide + RNEXT) (guestAt (a .guests .now) (a .guest) RNEXT - d)) (d .ensures),
-      c .before .before .lower .ensures ∙ ap (λ (d : ℕ). tagsDropped (a .guest) d (a .waiting .now) (a .count)) (d .ensures),
+    let d = c .before .before .before .before .before .gap-down in (
+      ap (λ (d : ℕ). set (a .guests .now) (a .guest * guestWide + RNEXT) (guestAt (a .guests .now) (a .guest) RNEXT - d)) (d .ensures .0),
+      c .before .before .lower .ensures ∙ ap (λ (d : ℕ). tagsDropped (a .guest) d (a .waiting .now) (a .count)) (d .ensures .0),
     )
 
 pub drop-tags-spec : {M : Type 1} → statement M
@@ -85,7 +85,7 @@ drop-tags-spec =
     mul-r-2
     slice-read-r
     returns
-    spacing-down-requires
+    gap-down-requires
     mul-n
     add-n
     mul-n-2

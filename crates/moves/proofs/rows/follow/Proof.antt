@@ -1,22 +1,8 @@
-use Prim.Native.Nat.{ℕ, _≤_, _+_, _-_}
-use mathlib.Core.Path.{_≡_}
-use native.Mathlib.Nat.{div-le-self}
 use native.Mathlib.Omega.{arith}
 use lib.ListN.{length-set}
-use Rattle.rules.specs.Numbers.{down, up}
 use borrow.Author.Needs.{needs}
 use Rattle.moves.proofs.rows.follow.Statement.{statement}
 use Rattle.moves.proofs.rows.follow.Tie as tie
-
--- a spacing that is rounded down is at most a second
-down-small : (n d : ℕ) → d ≡ down n → d ≤ 1000000000
-unfolding down
-down-small n d e = rw e (div-le-self 1000000000 n)
-
--- and one that is rounded up hardly more
-up-small : (n d : ℕ) → d ≡ up n → d ≤ 1000000000 + n - 1
-unfolding up
-up-small n d e = rw e (div-le-self (1000000000 + n - 1) n)
 
 mul-reservation : tie.Need-mul-reservation
 mul-reservation c = search needs
@@ -54,17 +40,17 @@ mul-shares-2 c = search needs
 slice-read-shares : tie.Need-slice-read-shares
 slice-read-shares c = search needs
 
-spacing-down-requires : tie.Need-spacing-down-requires
-spacing-down-requires c κs = search needs
+gap-down-requires : tie.Need-gap-down-requires
+gap-down-requires c κs = search needs
 
-spacing-up-requires : tie.Need-spacing-up-requires
-spacing-up-requires c κs = search needs
+gap-up-requires : tie.Need-gap-up-requires
+gap-up-requires c κs = search needs
 
-spacing-down-requires-2 : tie.Need-spacing-down-requires-2
-spacing-down-requires-2 c κs = search needs
+gap-down-requires-2 : tie.Need-gap-down-requires-2
+gap-down-requires-2 c κs = search needs
 
 add-guests : tie.Need-add-guests
-add-guests c = let s = c .before .before .spacing-down in omega (arith, down-small _ (s .result) (s .ensures))
+add-guests c = let s = c .before .before .gap-down in omega (arith, s .ensures .1)
 
 mul-guests : tie.Need-mul-guests
 mul-guests c = search needs
@@ -79,7 +65,7 @@ slice-write-guests : tie.Need-slice-write-guests
 slice-write-guests c = search needs
 
 add-guests-3 : tie.Need-add-guests-3
-add-guests-3 c = let s = c .before .spacing-up in omega (arith, up-small _ (s .result) (s .ensures))
+add-guests-3 c = let s = c .before .gap-up in omega (arith, s .ensures .1)
 
 mul-guests-3 : tie.Need-mul-guests-3
 mul-guests-3 c = search needs
@@ -94,7 +80,7 @@ slice-write-guests-2 : tie.Need-slice-write-guests-2
 slice-write-guests-2 c = simp length-set (omega arith)
 
 add-guests-5 : tie.Need-add-guests-5
-add-guests-5 c = let s = c .spacing-down2 in omega (arith, down-small _ (s .result) (s .ensures))
+add-guests-5 c = let s = c .gap-down2 in omega (arith, s .ensures .1)
 
 mul-guests-5 : tie.Need-mul-guests-5
 mul-guests-5 c = search needs
@@ -112,7 +98,7 @@ same-length : tie.Need-same-length
 same-length c = search needs
 
 returns : tie.Need-returns
-returns c = simp (c .before .before .spacing-down .ensures, c .before .spacing-up .ensures, c .spacing-down2 .ensures)
+returns c = simp (c .before .before .gap-down .ensures .0, c .before .gap-up .ensures .0, c .gap-down2 .ensures .0)
 
 pub follow-spec : {M : Type 1} → statement M
 follow-spec =
@@ -130,9 +116,9 @@ follow-spec =
     add-shares
     mul-shares-2
     slice-read-shares
-    spacing-down-requires
-    spacing-up-requires
-    spacing-down-requires-2
+    gap-down-requires
+    gap-up-requires
+    gap-down-requires-2
     add-guests
     mul-guests
     add-guests-2

@@ -37,6 +37,15 @@ mul-id c = search needs
 slice-read-id : tie.Need-slice-read-id
 slice-read-id c = search needs
 
+add-cost : tie.Need-add-cost
+add-cost c = search needs
+
+mul-cost : tie.Need-mul-cost
+mul-cost c = search needs
+
+slice-read-cost : tie.Need-slice-read-cost
+slice-read-cost c = search needs
+
 add-flight : tie.Need-add-flight
 add-flight c = search needs
 
@@ -78,9 +87,9 @@ same-length-2 c = search needs
 
 returns : tie.Need-returns
 returns c =
-    let a = c .before .before .before .before .before .before .before .before .args in (
+    let a = c .before .before .before .before .before .before .before .before .before .args in (
       ap (λ (ys : List ℕ). back (a .place * waitingWide) (a .count * waitingWide) ys (a .waiting .now)) (c .before .before .close-up .ensures),
-      (unfold stores in refl, (refl, refl)),
+      (unfold stores in refl, (refl, refl, refl)),
     )
 
 pub send-spec : {M : Type 1} → statement M
@@ -96,6 +105,9 @@ send-spec =
     add-id
     mul-id
     slice-read-id
+    add-cost
+    mul-cost
+    slice-read-cost
     add-flight
     mul-flight
     slice-write-flight
