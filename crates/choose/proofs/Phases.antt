@@ -8,28 +8,29 @@ use lib.Dec.{leb, eqb}
 use lib.ListN.{length, getD}
 use borrow.Author.Tests.{le-leb, eq-eqb, eqb-true}
 use Rattle.lists.specs.Words.{if_then_else_, all}
-use Rattle.lists.specs.WordsLaws.{both, all-passing-at}
+use Rattle.lists.specs.WordsLaws.{both, all-at, all-passing-at}
 use Rattle.lists.specs.Lines.{lineAt}
 use Rattle.lists.specs.RowsLaws.{row-at, length-rows}
-use Rattle.rules.specs.Numbers.{ceiling, down}
-use Rattle.rules.specs.Tables.{Request, Table, limited, lspacing, owner, settingsOf, of, mine}
+use Rattle.rules.specs.Numbers.{ceiling, mostCost}
+use Rattle.rules.specs.Tables.{Request, Table, limited, rplain, lspacing, owner, settingsOf, of, mine}
 use Rattle.rules.specs.declared.Guest.{Guest}
-use Rattle.rules.specs.Sound.{kept}
+use Rattle.rules.specs.Sound.{priced, kept}
 use Rattle.rules.specs.Choice.{dueAt, openAt, passesAt, due, open?, dropOf}
 use Rattle.rules.specs.Chosen.{blank, at}
 use Rattle.rules.proofs.Facts.{orderly-is, any-orderly}
+use Rattle.rules.proofs.Spacings.{fair-is}
 use Rattle.rules.proofs.WeightFits.{weight-fits}
 use Rattle.rules.specs.declared.Gate.{Gate}
 use Rattle.table.specs.Columns.{guestWide, waitingWide, flightWide, mostGuests, mostCapacity, RNEXT, GUEST, RTAG, mostDepth}
 use Rattle.table.specs.View.{guestForm, requestForm, guestsOf, tableOf, Known}
 use Rattle.walks.specs.LeastLaws.{least-ext, open-by-tag}
-use Rattle.moves.specs.Moves.{spacingOf}
+use Rattle.moves.specs.Moves.{fallOf}
 use Rattle.walks.specs.Walks.{Picks, Owned, Rising, SharesFit}
 use Rattle.walks.specs.declared.Found.{Found}
 use Rattle.walks.specs.declared.Found.the-variants.{At}
 use Rattle.table.proofs.Facts.{Facts, facts, rows-ask, row-is, guest-is}
 use Rattle.choose.proofs.Rising.{rising-rows}
-use Rattle.choose.proofs.Sends.{goes, stay, goesGuest, guest-goes, length-stay}
+use Rattle.choose.proofs.Sends.{goes, stay, goesGuest, goesCost, guest-goes, cost-goes, length-stay}
 use Rattle.choose.proofs.WeightSend.{left, left-rows, left-room}
 
 module _ (g : Gate) (gs ws fs : List ℕ) (k : Known g gs ws fs) where
@@ -106,13 +107,23 @@ module _ (g : Gate) (gs ws fs : List ℕ) (k : Known g gs ws fs) where
     abbrev n : ℕ
     n = goesGuest g gs ws fs k free place here
 
+    abbrev c : ℕ
+    c = goesCost g gs ws fs k free place here
+
     abbrev ws1 : List ℕ
     ws1 = left g gs ws fs k free place here
 
+    -- its cost is in range
+    cost-most : c ≤ mostCost
+    cost-most =
+        let q = goes g gs ws fs k free place here in
+        let fits = fair-is (q .cost) (all-at priced (t .waiting) blank (f .firm .costs-fit) place (omega (arith, length-rows requestForm ws (g .waiting)))) in
+        omega (arith, fits .1, cost-goes g gs ws fs k free place here)
+
     -- what the drop asks: nothing falls below zero
     pub drop-asks : Picks (open? t) Request.stag (t .waiting) (At place)
-        → ((n * guestWide + guestWide ≤ length gs) × ((g .waiting - 1) * waitingWide ≤ length ws1)) × ((spacingOf n gs ≤ getD gs (n * guestWide + RNEXT) 0)
-        × ((j : ℕ) → j < g .waiting - 1 → getD ws1 (j * waitingWide + GUEST) 0 ≡ n → spacingOf n gs ≤ getD ws1 (j * waitingWide + RTAG) 0))
+        → ((n * guestWide + guestWide ≤ length gs) × ((g .waiting - 1) * waitingWide ≤ length ws1)) × (((c ≤ mostCost) × (fallOf n c gs ≤ getD gs (n * guestWide + RNEXT) 0))
+        × ((j : ℕ) → j < g .waiting - 1 → getD ws1 (j * waitingWide + GUEST) 0 ≡ n → fallOf n c gs ≤ getD ws1 (j * waitingWide + RTAG) 0))
     drop-asks h =
         let q = goes g gs ws fs k free place here in
         let v = stay g gs ws fs k free place here in
@@ -120,13 +131,13 @@ module _ (g : Gate) (gs ws fs : List ℕ) (k : Known g gs ws fs) where
         let w = weight-fits t (k .isSound) q v (h .pick) in
         let own : n < g .guests = f .owners place here in
         let at-n : owner (t .guests) (q .guest) ≡ guestForm .read (lineAt guestWide gs n) = ap (owner (t .guests)) eq ∙ guest-is g gs ws fs k n own in
-        let d : dropOf t q ≡ spacingOf n gs = ap (λ (h : Guest). down (h .settings .reservation)) at-n in
+        let d : dropOf t q ≡ fallOf n c gs = λ i. cost-goes g gs ws fs k free place here i * rplain ((at-n i) .settings) in
         let e : (owner (t .guests) (q .guest)) .rnext ≡ getD gs (n * guestWide + RNEXT) 0 = ap Guest.rnext at-n in
         let rows = left-rows g gs ws fs k free place here in
         let size : (g .waiting - 1) * waitingWide ≤ length ws1 = omega (arith, left-room g gs ws fs k free place here, f .waits) in (
           (omega (arith, own, k .guestRoom), size),
           (
-            omega (arith, w .next),
+            (cost-most, omega (arith, w .next, d, e)),
             λ j l i.
                 let p : at v j ≡ requestForm .read (lineAt waitingWide ws1 j) = ap (λ (x : List Request). at x j) (sym rows) ∙ row-at requestForm ws1 (g .waiting - 1) j l in
                 let m : dropOf t q ≤ (at v j) .rtag = w .tags blank j (omega (arith, length-stay g gs ws fs k free place here)) (ap Request.guest p ∙ i ∙ sym eq) in

@@ -8,17 +8,18 @@ use lib.Dec.{leb}
 use lib.ListN.{length, getD}
 use borrow.Author.Tests.{lt-ltb, le-ltb}
 use Rattle.lists.specs.RowsLaws.{length-rows}
+use Rattle.rules.specs.Numbers.{mostCost}
 use Rattle.rules.specs.Tables.{Request, Table, settingsOf}
 use Rattle.rules.specs.Choice.{Result, room, choice, dueAt, due, open?}
 use Rattle.rules.specs.declared.Gate.{Gate}
 use Rattle.table.specs.declared.gates.Decision.{Decision}
 use Rattle.rules.specs.declared.Answer.the-variants.{Nothing, Sent}
 use Rattle.rules.specs.declared.Phase.the-variants.{Reservation, Weight}
-use Rattle.table.specs.Columns.{guestWide, waitingWide, RESERVATION, RNEXT, GUEST, RTAG}
+use Rattle.table.specs.Columns.{guestWide, waitingWide, RNEXT, GUEST, RTAG}
 use Rattle.table.specs.View.{decisionOf, flightForm, guestsOf, tableOf, Known}
-use Rattle.moves.specs.Moves.{gone, joined, Named, spacingOf, nextDropped, tagsDropped}
+use Rattle.moves.specs.Moves.{gone, joined, Named, fallOf, nextDropped, tagsDropped}
 use Rattle.walks.specs.Walks.{Picks}
-use Rattle.moves.specs.declared.rows.Name.{Name}
+use Rattle.moves.specs.declared.rows.Sent.{Sent as Gone}
 use Rattle.walks.specs.declared.Found.{Found}
 use Rattle.walks.specs.declared.Found.the-variants.{At, Nothing as NoPlace}
 use Rattle.table.specs.Does.{written, Leaves, weightPhase, reservationPhase, sentGate, sending}
@@ -37,7 +38,7 @@ module _ (g : Gate) (gs ws fs : List ℕ) (k : Known g gs ws fs) where
   again f e l = subst (λ (z : Decision × List ℕ × List ℕ × List ℕ). Leaves f g gs ws fs (z .0) (z .1) (z .2) (z .3)) (sym e) l
 
   -- an id that waits has 32 bits
-  pub narrow-id : (place : ℕ) → place < g .waiting → (r : Name) → Named place ws r → r .id < 4294967296
+  pub narrow-id : (place : ℕ) → place < g .waiting → (r : Gone) → Named place ws r → r .id < 4294967296
   narrow-id place here r n = omega (arith, n .1, facts g gs ws fs k .ids place here)
 
   module _ (free : g .flight < g .setup .depth) where
@@ -51,7 +52,7 @@ module _ (g : Gate) (gs ws fs : List ℕ) (k : Known g gs ws fs) where
       pub due-here : (x : Found) (place : ℕ) → Due x → x ≡ At place → place < g .waiting
       due-here x place p e = found-at g gs ws fs k x place (due-picks g gs ws fs k m is x p) e .1
 
-      pub reservation-returns : (x : Found) (place : ℕ) → Due x → x ≡ At place → (n : Name) (vs es : List ℕ) (d : Decision)
+      pub reservation-returns : (x : Found) (place : ℕ) → Due x → x ≡ At place → (n : Gone) (vs es : List ℕ) (d : Decision)
           → vs ≡ gone place (g .waiting) ws → es ≡ joined place (g .flight) ws fs → Named place ws n → d ≡ sending Reservation (n .guest) (n .id) g
           → Leaves reservationPhase g gs ws fs d gs vs es
       reservation-returns x place p e n vs es d ew ef en ed =
@@ -72,28 +73,28 @@ module _ (g : Gate) (gs ws fs : List ℕ) (k : Known g gs ws fs) where
     pub open-here : (x : Found) (place : ℕ) → Open x → x ≡ At place → place < g .waiting
     open-here x place p e = found-at g gs ws fs k x place (open-picks g gs ws fs k x p) e .1
 
-    abbrev Asks : ℕ → List ℕ → Type 0
-    Asks n vs =
-        ((n * guestWide + guestWide ≤ length gs) × ((g .waiting - 1) * waitingWide ≤ length vs)) × ((spacingOf n gs ≤ getD gs (n * guestWide + RNEXT) 0)
-        × ((j : ℕ) → j < g .waiting - 1 → getD vs (j * waitingWide + GUEST) 0 ≡ n → spacingOf n gs ≤ getD vs (j * waitingWide + RTAG) 0))
+    abbrev Asks : (n c : ℕ) → List ℕ → Type 0
+    Asks n c vs =
+        ((n * guestWide + guestWide ≤ length gs) × ((g .waiting - 1) * waitingWide ≤ length vs)) × (((c ≤ mostCost) × (fallOf n c gs ≤ getD gs (n * guestWide + RNEXT) 0))
+        × ((j : ℕ) → j < g .waiting - 1 → getD vs (j * waitingWide + GUEST) 0 ≡ n → fallOf n c gs ≤ getD vs (j * waitingWide + RTAG) 0))
 
     -- what the drop asks of the tables after the send
-    pub drop-asked : (x : Found) (place : ℕ) → Open x → x ≡ At place → (n : Name) (vs : List ℕ) → vs ≡ gone place (g .waiting) ws → Named place ws n → Asks (n .guest) vs
+    pub drop-asked : (x : Found) (place : ℕ) → Open x → x ≡ At place → (n : Gone) (vs : List ℕ) → vs ≡ gone place (g .waiting) ws → Named place ws n → Asks (n .guest) (n .cost) vs
     drop-asked x place p e n vs ew en =
         let f = found-at g gs ws fs k x place (open-picks g gs ws fs k x p) e in
-        subst (λ (y : ℕ). Asks y vs) (sym (en .0)) (subst (Asks (getD ws (place * waitingWide + GUEST) 0)) (sym ew) (drop-asks g gs ws fs k free place (f .1) (f .0)))
+        subst (λ (y : ℕ × ℕ × List ℕ). Asks (y .0) (y .1) (y .2)) (λ i. (sym (en .0) i, sym (en .2) i, sym ew i)) (drop-asks g gs ws fs k free place (f .1) (f .0))
 
-    pub weight-returns : (x : Found) (place : ℕ) → Open x → x ≡ At place → (n : Name) (hs vs us es : List ℕ) (d : Decision)
+    pub weight-returns : (x : Found) (place : ℕ) → Open x → x ≡ At place → (n : Gone) (hs vs us es : List ℕ) (d : Decision)
         → vs ≡ gone place (g .waiting) ws → es ≡ joined place (g .flight) ws fs → Named place ws n
-        → hs ≡ nextDropped (n .guest) gs → us ≡ tagsDropped (n .guest) (spacingOf (n .guest) gs) vs (g .waiting - 1)
+        → hs ≡ nextDropped (n .guest) (n .cost) gs → us ≡ tagsDropped (n .guest) (fallOf (n .guest) (n .cost) gs) vs (g .waiting - 1)
         → d ≡ sending Weight (n .guest) (n .id) g → Leaves weightPhase g gs ws fs d hs us es
     weight-returns x place p e n hs vs us es d ew ef en eh eu ed =
         let f = found-at g gs ws fs k x place (open-picks g gs ws fs k x p) e in
         again weightPhase
         (λ i. (
           (ed ∙ (λ j. decisionOf (sentGate g) (Sent Weight (en .0 j) (en .1 j)))) i,
-          (eh ∙ ap (λ (m : ℕ). nextDropped m gs) (en .0)) i,
-          (eu ∙ (λ j. tagsDropped (en .0 j) (spacingOf (en .0 j) gs) (ew j) (g .waiting - 1))) i,
+          (eh ∙ (λ j. nextDropped (en .0 j) (en .2 j) gs)) i,
+          (eu ∙ (λ j. tagsDropped (en .0 j) (fallOf (en .0 j) (en .2 j) gs) (ew j) (g .waiting - 1))) i,
           ef i,
         ))
         (weight-sent g gs ws fs k free place (f .1) (f .0))

@@ -14,7 +14,7 @@ use Rattle.rules.specs.Chosen.{at}
 use Rattle.rules.specs.declared.Gate.{Gate}
 use Rattle.rules.specs.declared.Answer.the-variants.{Nothing, Sent}
 use Rattle.rules.specs.declared.Phase.the-variants.{Reservation}
-use Rattle.table.specs.Columns.{waitingWide, GUEST, ID}
+use Rattle.table.specs.Columns.{waitingWide, GUEST, ID, COST}
 use Rattle.table.specs.View.{gateAt, decisionOf, guestForm, requestForm, flightForm, tableOf, Known}
 use Rattle.table.specs.ViewLaws.{guest-exact}
 use Rattle.moves.specs.Moves.{gone, joined}
@@ -53,18 +53,24 @@ module _ (g : Gate) (gs ws fs : List ℕ) (k : Known g gs ws fs) where
     abbrev pub stay : List Request
     stay = removeAt place (t .waiting)
 
-    -- its guest and its id, as numbers
+    -- its guest, its id and its cost, as numbers
     abbrev pub goesGuest : ℕ
     goesGuest = getD ws (place * waitingWide + GUEST) 0
 
     abbrev pub goesId : ℕ
     goesId = getD ws (place * waitingWide + ID) 0
 
+    abbrev pub goesCost : ℕ
+    goesCost = getD ws (place * waitingWide + COST) 0
+
     pub guest-goes : goes .guest ≡ goesGuest
     guest-goes = ap Request.guest (row-is g gs ws fs k place here)
 
     pub id-goes : goes .id ≡ goesId
     id-goes = ap Request.id (row-is g gs ws fs k place here)
+
+    pub cost-goes : goes .cost ≡ goesCost
+    cost-goes = ap Request.cost (row-is g gs ws fs k place here)
 
     pub length-stay : length stay ≡ g .waiting - 1
     length-stay =

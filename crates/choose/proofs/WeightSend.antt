@@ -15,14 +15,14 @@ use Rattle.rules.specs.declared.Phase.the-variants.{Weight}
 use Rattle.table.specs.Columns.{waitingWide}
 use Rattle.table.specs.View.{gateAt, decisionOf, guestForm, requestForm, waitingOf, tableOf, Known}
 use Rattle.table.specs.ViewLaws.{request-exact}
-use Rattle.moves.specs.Moves.{gone, joined, spacingOf, nextDropped, tagsDropped}
+use Rattle.moves.specs.Moves.{gone, joined, fallOf, nextDropped, tagsDropped}
 use Rattle.moves.specs.MovesLaws.{gone-is}
 use Rattle.moves.specs.DropLaws.{dropped-is}
 use Rattle.walks.specs.Walks.{Picks}
 use Rattle.walks.specs.declared.Found.the-variants.{At}
 use Rattle.table.specs.Does.{written, Leaves, weightPhase, sentGate}
 use Rattle.table.proofs.Facts.{facts}
-use Rattle.choose.proofs.Sends.{goes, stay, goesGuest, goesId, guest-goes, id-goes, length-stay, sent-written}
+use Rattle.choose.proofs.Sends.{goes, stay, goesGuest, goesId, goesCost, guest-goes, id-goes, cost-goes, length-stay, sent-written}
 
 module _ (g : Gate) (gs ws fs : List ℕ) (k : Known g gs ws fs) (free : g .flight < g .setup .depth) (place : ℕ) (here : place < g .waiting) where
   abbrev t : Table
@@ -36,6 +36,9 @@ module _ (g : Gate) (gs ws fs : List ℕ) (k : Known g gs ws fs) (free : g .flig
 
   abbrev n : ℕ
   n = goesGuest g gs ws fs k free place here
+
+  abbrev c : ℕ
+  c = goesCost g gs ws fs k free place here
 
   -- the waiting table once the request has gone
   abbrev pub left : List ℕ
@@ -62,29 +65,30 @@ module _ (g : Gate) (gs ws fs : List ℕ) (k : Known g gs ws fs) (free : g .flig
   left-room = omega (arith, k .waitingRoom, ap length left-is, length-over-rows requestForm request-exact (g .setup .capacity) v ws)
 
   -- the numbers once its guest's tags have dropped show the table that it is sent from, dropped
-  weight-written : (sentGate g, nextDropped n gs, tagsDropped n (spacingOf n gs) left (g .waiting - 1), joined place (g .flight) ws fs) ≡ written gs ws fs (dropped q (sending t q v))
+  weight-written : (sentGate g, nextDropped n c gs, tagsDropped n (fallOf n c gs) left (g .waiting - 1), joined place (g .flight) ws fs) ≡ written gs ws fs (dropped q (sending t q v))
   unfolding dropped sending
   weight-written =
       let f = facts g gs ws fs k in
       let s : Table = sending t q v in
       let eq = guest-goes g gs ws fs k free place here in
+      let ec = cost-goes g gs ws fs k free place here in
       let known : q .guest < g .guests = omega (arith, f .owners place here) in
       let d = dropped-is (g .guests) (g .setup .capacity) (g .waiting - 1) gs left s q refl (sym left-rows) (k .guestRoom) known left-room (omega (arith, f .waits)) left-unused in
       let w = sent-written g gs ws fs k free place here in
       let eg : length (dropped q s .guests) ≡ g .guests = length-set (t .guests) (q .guest) (sooner (dropOf s q) (owner (t .guests) (q .guest))) ∙ length-rows guestForm gs (g .guests) in
       let ew : length (dropped q s .waiting) ≡ g .waiting - 1 = length-map v (λ p. if of (q .guest) p then earlier (dropOf s q) p else p) ∙ length-stay g gs ws fs k free place here in
       let ef : g .flight + 1 ≡ length (s .flight) = λ i. w i .0 .flight in
-      let pg : nextDropped n gs ≡ overRows guestForm (length (dropped q s .guests)) (dropped q s .guests) gs =
-      ap (λ (m : ℕ). nextDropped m gs) (sym eq) ∙ d .0 ∙ ap (λ (m : ℕ). overRows guestForm m (dropped q s .guests) gs) (sym eg) in
-      let pw : tagsDropped n (spacingOf n gs) left (g .waiting - 1) ≡ overRows requestForm (g .setup .capacity) (dropped q s .waiting) ws =
-      ap (λ (m : ℕ). tagsDropped m (spacingOf m gs) left (g .waiting - 1)) (sym eq) ∙ d .1
+      let pg : nextDropped n c gs ≡ overRows guestForm (length (dropped q s .guests)) (dropped q s .guests) gs =
+      (λ i. nextDropped (sym eq i) (sym ec i) gs) ∙ d .0 ∙ ap (λ (m : ℕ). overRows guestForm m (dropped q s .guests) gs) (sym eg) in
+      let pw : tagsDropped n (fallOf n c gs) left (g .waiting - 1) ≡ overRows requestForm (g .setup .capacity) (dropped q s .waiting) ws =
+      (λ i. tagsDropped (sym eq i) (fallOf (sym eq i) (sym ec i) gs) left (g .waiting - 1)) ∙ d .1
       ∙ ap (overRows requestForm (g .setup .capacity) (dropped q s .waiting)) left-is
       ∙ over-twice requestForm request-exact (g .setup .capacity) (dropped q s .waiting) v ws (k .waitingRoom) in
       λ i. (gateAt (g .setup) (sym eg i) (g .time) (sym ew i) (ef i), pg i, pw i, w i .3)
 
   -- a send by weight
   pub weight-sent : Picks (open? t) Request.stag (t .waiting) (At place)
-      → Leaves weightPhase g gs ws fs (decisionOf (sentGate g) (Sent Weight n (goesId g gs ws fs k free place here))) (nextDropped n gs) (tagsDropped n (spacingOf n gs) left (g .waiting - 1)) (joined place (g .flight) ws fs)
+      → Leaves weightPhase g gs ws fs (decisionOf (sentGate g) (Sent Weight n (goesId g gs ws fs k free place here))) (nextDropped n c gs) (tagsDropped n (fallOf n c gs) left (g .waiting - 1)) (joined place (g .flight) ws fs)
   unfolding byWeight
   weight-sent h =
       record {

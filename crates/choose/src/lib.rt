@@ -21,7 +21,7 @@ ghost use Rattle.table.specs.View.{waitingOf, tableOf, Known};
 ghost use Rattle.walks.specs.Walks.{Picks};
 ghost use Rattle.table.specs.Does.{Leaves, weightPhase, reservationPhase};
 
-// The weight phase: the open request with the smallest share tag, which the walk found, goes, and its guest's reservation tags drop.
+// The weight phase: the open request with the smallest share tag, which the walk found, goes, and its guest's reservation tags drop by its cost.
 fn by_weight(
     gate: Gate,
     guests: &mut [u64],
@@ -38,10 +38,10 @@ fn by_weight(
     let flying = gate.flight as usize;
     match found {
         Found::At(place) => {
-            let name = moves::rows::send(waiting, flight, place, count, flying);
-            let guest = name.guest;
-            let id = name.id as u32;
-            moves::rows::drop_tags(guests, waiting, count - 1, guest);
+            let gone = moves::rows::send(waiting, flight, place, count, flying);
+            let guest = gone.guest;
+            let id = gone.id as u32;
+            moves::rows::drop_tags(guests, waiting, count - 1, guest, gone.cost);
             gates::sent(gate, Phase::Weight, guest, id)
         }
         Found::Nothing => gates::decided(gate, Answer::Nothing),
@@ -76,9 +76,9 @@ fn by_reservation(
     let spare = firsts.open;
     match found {
         Found::At(place) => {
-            let name = moves::rows::send(waiting, flight, place, count, flying);
-            let guest = name.guest;
-            let id = name.id as u32;
+            let gone = moves::rows::send(waiting, flight, place, count, flying);
+            let guest = gone.guest;
+            let id = gone.id as u32;
             gates::sent(gate, Phase::Reservation, guest, id)
         }
         Found::Nothing => by_weight(gate, guests, waiting, flight, spare),

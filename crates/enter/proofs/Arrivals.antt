@@ -11,6 +11,7 @@ use Rattle.lists.specs.Rows.{overRows, Unused}
 use Rattle.lists.specs.RowsLaws.{length-rows, length-over-rows, rows-over, over-twice, over-unused, over-same}
 use Rattle.rules.specs.Numbers.{ceiling}
 use Rattle.rules.specs.Tables.{Request, Table, owner, idle, lacks, names}
+use Rattle.rules.specs.Sound.{fair}
 use Rattle.rules.specs.declared.Setup.{Setup}
 use Rattle.rules.specs.declared.Guest.{Guest}
 use Rattle.rules.specs.declared.Flight.{Flight}
@@ -21,7 +22,7 @@ use Rattle.rules.specs.declared.Event.the-variants.{Arrival}
 use Rattle.rules.specs.Refusals.{eventTests, passing, accept, refuse, judged, verdict}
 use Rattle.rules.proofs.SameSettings.{adjusted-settings, same-count}
 use Rattle.rules.specs.declared.Gate.{Gate}
-use Rattle.rules.specs.declared.Refusal.the-variants.{IdInUse, NoRoom, TagAboveCeiling}
+use Rattle.rules.specs.declared.Refusal.the-variants.{BadCost, IdInUse, NoRoom, TagAboveCeiling}
 use Rattle.table.specs.Columns.{guestWide, waitingWide}
 use Rattle.table.specs.View.{gateAt, guestForm, requestForm, flightForm, guestsOf, waitingOf, tableOf, Known}
 use Rattle.table.specs.ViewLaws.{guest-exact, request-exact, flight-exact}
@@ -58,23 +59,28 @@ module _ (g : Gate) (gs ws fs : List ℕ) (k : Known g gs ws fs) (a : Arriving) 
     arrival-judged : verdict t ev ≡ judged (others t ev)
     arrival-judged = others-judged g gs ws fs k ev (a .guest) now (arrival-names t a now) known l h
 
-    -- its name is in use
-    pub arrival-used : lacks (calledBy a) (names t) ≡ false → verdict t ev ≡ refuse IdInUse
+    -- its cost is out of range
+    pub arrival-costly : fair (a .cost) ≡ false → verdict t ev ≡ refuse BadCost
     unfolding eventTests
-    arrival-used u = arrival-judged ∙ rw u
+    arrival-costly d = arrival-judged ∙ rw d
 
-    module _ (new : lacks (calledBy a) (names t) ≡ true) where
+    -- its name is in use
+    pub arrival-used : fair (a .cost) ≡ true → lacks (calledBy a) (names t) ≡ false → verdict t ev ≡ refuse IdInUse
+    unfolding eventTests
+    arrival-used c u = arrival-judged ∙ rw (c, u)
+
+    module _ (cheap : fair (a .cost) ≡ true) (new : lacks (calledBy a) (names t) ≡ true) where
       -- no place is free to wait in
       pub arrival-full : g .waiting ≡ g .setup .capacity → verdict t ev ≡ refuse NoRoom
       unfolding eventTests
-      arrival-full f = arrival-judged ∙ rw (new, length-rows requestForm ws (g .waiting), eq-eqb (g .waiting) (g .setup .capacity) f)
+      arrival-full f = arrival-judged ∙ rw (cheap, new, length-rows requestForm ws (g .waiting), eq-eqb (g .waiting) (g .setup .capacity) f)
 
       module _ (free : g .waiting ≡ g .setup .capacity → ⊥) (i : Bool) (e : idle t (a .guest) ≡ i) where
         -- only refusal 9 is left
         arrival-left : verdict t ev ≡ (if passing i now a t then refuse TagAboveCeiling else accept)
         unfolding eventTests
         arrival-left =
-            arrival-judged ∙ rw (new, length-rows requestForm ws (g .waiting), ne-eqb (g .waiting) (g .setup .capacity) free)
+            arrival-judged ∙ rw (cheap, new, length-rows requestForm ws (g .waiting), ne-eqb (g .waiting) (g .setup .capacity) free)
             (ap (λ (b : Bool). if passing b now a t then refuse TagAboveCeiling else accept) e)
 
         -- a tag would pass the ceiling
@@ -133,7 +139,7 @@ module _ (g : Gate) (gs ws fs : List ℕ) (k : Known g gs ws fs) (a : Arriving) 
                 ∙ over-twice requestForm request-exact (g .setup .capacity) (s .waiting ++ (q ∷ [])) (s .waiting) ws (k .waitingRoom)
 
             -- and its guest's next numbers
-            pub placed-guests : followed (a .guest) (q .rtag) (q .ltag) (q .stag) hs ≡ overRows guestForm (g .guests) (set (s .guests) (a .guest) (following q (owner (s .guests) (a .guest)))) gs
+            pub placed-guests : followed (a .guest) (q .rtag) (q .ltag) (q .stag) (q .cost) hs ≡ overRows guestForm (g .guests) (set (s .guests) (a .guest) (following q (owner (s .guests) (a .guest)))) gs
             unfolding stamped
             placed-guests =
                 let after : List Guest → List Guest = λ x. set x (a .guest) (following q (owner x (a .guest))) in
@@ -143,7 +149,7 @@ module _ (g : Gate) (gs ws fs : List ℕ) (k : Known g gs ws fs) (a : Arriving) 
                 ∙ over-twice guestForm guest-exact (g .guests) (after (s .guests)) (s .guests) gs (k .guestRoom)
 
             -- the numbers then show the request placed
-            base : (placedGate now g, followed (a .guest) (q .rtag) (q .ltag) (q .stag) hs, appended (g .waiting) q vs, fs) ≡ written gs ws fs (placed now q s)
+            base : (placedGate now g, followed (a .guest) (q .rtag) (q .ltag) (q .stag) (q .cost) hs, appended (g .waiting) q vs, fs) ≡ written gs ws fs (placed now q s)
             unfolding placed stamped
             base =
                 let es : t .setup ≡ s .setup = sym (adjusted-settings i now t .setup) in
@@ -152,7 +158,7 @@ module _ (g : Gate) (gs ws fs : List ℕ) (k : Known g gs ws fs) (a : Arriving) 
                 let ew : g .waiting + 1 ≡ length (s .waiting ++ (q ∷ [])) = sym (length-append (s .waiting) (q ∷ []) ∙ ap (λ (m : ℕ). m + 1) count) in
                 let el : t .flight ≡ s .flight = sym (adjusted-flight i now t) in
                 let ef : g .flight ≡ length (s .flight) = sym (length-rows flightForm fs (g .flight)) ∙ ap length el in
-                let pg : followed (a .guest) (q .rtag) (q .ltag) (q .stag) hs ≡ overRows guestForm (length after) after gs = placed-guests ∙ ap (λ (m : ℕ). overRows guestForm m after gs) eg in
+                let pg : followed (a .guest) (q .rtag) (q .ltag) (q .stag) (q .cost) hs ≡ overRows guestForm (length after) after gs = placed-guests ∙ ap (λ (m : ℕ). overRows guestForm m after gs) eg in
                 let pw : appended (g .waiting) q vs ≡ overRows requestForm (s .setup .capacity) (s .waiting ++ (q ∷ [])) ws = placed-waiting ∙ ap (λ (c : Setup). overRows requestForm (c .capacity) (s .waiting ++ (q ∷ [])) ws) es in
                 let pf : fs ≡ overRows flightForm (s .setup .depth) (s .flight) fs =
                 sym (over-same flightForm flight-exact (g .setup .depth) (g .flight) fs (k .whole .flightUnused))
@@ -165,9 +171,9 @@ module _ (g : Gate) (gs ws fs : List ℕ) (k : Known g gs ws fs) (a : Arriving) 
             unfolding enter arrive arriveAs
             entered = ap (λ (b : Bool). placed now (stampedFor b now a t) (adjusted b now t)) e
 
-            arrival-written : (placedGate now g, followed (a .guest) (q .rtag) (q .ltag) (q .stag) hs, appended (g .waiting) q vs, fs) ≡ written gs ws fs (enter t ev)
+            arrival-written : (placedGate now g, followed (a .guest) (q .rtag) (q .ltag) (q .stag) (q .cost) hs, appended (g .waiting) q vs, fs) ≡ written gs ws fs (enter t ev)
             arrival-written = base ∙ ap (written gs ws fs) (sym entered)
 
             -- so the arrival enters
-            pub arrival-enters : a .id < 4294967296 → EntersAt ev g gs ws fs (placedGate now g) (followed (a .guest) (q .rtag) (q .ltag) (q .stag) hs) (appended (g .waiting) q vs) fs
-            arrival-enters bits = entered-at g gs ws fs k ev taken (lt-ltb (a .id) 4294967296 bits) (placedGate now g) (followed (a .guest) (q .rtag) (q .ltag) (q .stag) hs) (appended (g .waiting) q vs) fs arrival-written
+            pub arrival-enters : a .id < 4294967296 → EntersAt ev g gs ws fs (placedGate now g) (followed (a .guest) (q .rtag) (q .ltag) (q .stag) (q .cost) hs) (appended (g .waiting) q vs) fs
+            arrival-enters bits = entered-at g gs ws fs k ev taken (lt-ltb (a .id) 4294967296 bits) (placedGate now g) (followed (a .guest) (q .rtag) (q .ltag) (q .stag) (q .cost) hs) (appended (g .waiting) q vs) fs arrival-written

@@ -19,6 +19,7 @@ use Rattle.rules.specs.declared.Event.{Event}
 use Rattle.rules.specs.declared.Event.the-variants.{Arrival}
 use Rattle.rules.specs.Refusals.{passing, refuse, verdict}
 use Rattle.rules.proofs.Facts.{lawful-is}
+use Rattle.rules.proofs.Spacings.{fair-is}
 use Rattle.rules.proofs.SameSettings.{adjusted-settings, same-count, same-owner}
 use Rattle.rules.specs.declared.Gate.{Gate}
 use Rattle.rules.specs.declared.Refusal.the-variants.{TagAboveCeiling}
@@ -79,7 +80,7 @@ module _ (g : Gate) (gs ws fs : List ℕ) (k : Known g gs ws fs) (a : Arriving) 
         ∙ ap (λ (x : Stamp). not (movesFit i now low high && lawfulTags (x .rtag) (x .ltag) (x .stag))) (sym stamp-is)
 
     refused-so : passing i now a t ≡ true → verdict t ev ≡ refuse TagAboveCeiling
-    refused-so = arrival-passing g gs ws fs k a now known (ready .timely .late) (ready .timely .early) (ready .new) (ready .free) i e
+    refused-so = arrival-passing g gs ws fs k a now known (ready .timely .late) (ready .timely .early) (ready .timely .cheap) (ready .new) (ready .free) i e
 
     -- a tag given would pass the ceiling
     pub stamp-passes : lawfulTags (s .rtag) (s .ltag) (s .stag) ≡ false → verdict t ev ≡ refuse TagAboveCeiling
@@ -101,21 +102,21 @@ module _ (g : Gate) (gs ws fs : List ℕ) (k : Known g gs ws fs) (a : Arriving) 
       -- the numbers that show the settled table
       module _ (hs vs : List ℕ) (ph : hs ≡ overRows guestForm (g .guests) ((adjusted i now t) .guests) gs) (pv : vs ≡ overRows requestForm (g .setup .capacity) ((adjusted i now t) .waiting) ws) where
         abbrev At : Request → Type 0
-        At q = EntersAt ev g gs ws fs (placedGate now g) (followed (a .guest) (q .rtag) (q .ltag) (q .stag) hs) (appended (g .waiting) q vs) fs
+        At q = EntersAt ev g gs ws fs (placedGate now g) (followed (a .guest) (q .rtag) (q .ltag) (q .stag) (q .cost) hs) (appended (g .waiting) q vs) fs
 
         -- the request placed so enters
         pub ready-enters : a .id < 4294967296 → (h : Gate) (os ps : List ℕ) → Placed g hs vs a now s h os ps → EntersAt ev g gs ws fs h os ps fs
         ready-enters bits h os ps p =
             subst (λ (x : Gate). EntersAt ev g gs ws fs x os ps fs) (sym (p .gate))
             (subst (λ (x : List ℕ). EntersAt ev g gs ws fs (placedGate now g) x ps fs) (sym (p .guests))
-            (subst (λ (x : List ℕ). EntersAt ev g gs ws fs (placedGate now g) (followed (a .guest) (s .rtag) (s .ltag) (s .stag) hs) x fs) (sym (p .waiting))
+            (subst (λ (x : List ℕ). EntersAt ev g gs ws fs (placedGate now g) (followed (a .guest) (s .rtag) (s .ltag) (s .stag) (a .cost) hs) x fs) (sym (p .waiting))
             (subst At (sym request-is)
-            (arrival-enters g gs ws fs k a now known (ready .timely .late) (ready .timely .early) (ready .new) (ready .free) i e passes-not hs vs ph pv bits))))
+            (arrival-enters g gs ws fs k a now known (ready .timely .late) (ready .timely .early) (ready .timely .cheap) (ready .new) (ready .free) i e passes-not hs vs ph pv bits))))
 
         -- there is room for the request, and its guest's next numbers fit
-        pub placeable : Placeable g hs vs (a .guest) s
+        pub placeable : Placeable g hs vs a s
         placeable =
-            let c = lawful-is (record { guest = 0; id = 0; rtag = s .rtag; ltag = s .ltag; stag = s .stag }) fits in
+            let c = lawful-is (record { guest = 0; id = 0; rtag = s .rtag; ltag = s .ltag; stag = s .stag; cost = 0 }) fits in
             let n : length ((adjusted i now t) .guests) ≡ g .guests = same-count (adjusted i now t) t (adjusted-settings i now t) ∙ length-rows guestForm gs (g .guests) in
             let rows : guestsOf hs (g .guests) ≡ (adjusted i now t) .guests =
             ap (λ (m : ℕ). guestsOf hs m) (sym n) ∙ ap (λ (x : List ℕ). guestsOf x (length ((adjusted i now t) .guests))) ph
@@ -131,6 +132,7 @@ module _ (g : Gate) (gs ws fs : List ℕ) (k : Known g gs ws fs) (a : Arriving) 
               row = omega (arith, fit, k .waitingRoom, ap length pv, length-over-rows requestForm request-exact (g .setup .capacity) ((adjusted i now t) .waiting) ws);
               owner = omega (arith, row-asks, ap length ph, length-over-rows guestForm guest-exact (g .guests) ((adjusted i now t) .guests) gs);
               limit = omega (arith, limits, z .settles (a .guest) known .limits);
+              cost = fair-is (a .cost) (ready .timely .cheap) .1;
               rtag = c .reservation;
               ltag = c .limit;
               stag = c .share;

@@ -83,13 +83,14 @@ module _ (g : Gate) (gs ws fs : List ℕ) (k : Known g gs ws fs) (now : ℕ) (la
       × (((j : ℕ) → j < g .waiting → getD ws (j * waitingWide + GUEST) 0 < g .guests) × (TagsMove now m ws (g .waiting) × NextsMove now m (idleIn ws (g .waiting)) gs (g .guests)))
   settle-asks m em =
       let f = facts g gs ws fs k in
-      let fit = f .firm .tags-fit in (
+      let fit = f .firm .tags-fit in
+      let fair = f .firm .costs-fit in (
         (f .counts .guest-count .1, k .guestRoom, omega (arith, f .waits, f .counts .capacities .1), omega (arith, f .waits, k .waitingRoom)),
         (
           f .owners,
           (
-            subst (λ (x : ℕ). TagsMove now x ws (g .waiting)) (sym em) (tags-movable gs ws (g .guests) (g .waiting) now late fit),
-            subst (λ (x : ℕ). NextsMove now x (idleIn ws (g .waiting)) gs (g .guests)) (sym em) (nexts-movable gs ws (g .guests) (g .waiting) now late fit (λ n h. any-orderly t (f .firm) n)),
+            subst (λ (x : ℕ). TagsMove now x ws (g .waiting)) (sym em) (tags-movable gs ws (g .guests) (g .waiting) now late fit fair),
+            subst (λ (x : ℕ). NextsMove now x (idleIn ws (g .waiting)) gs (g .guests)) (sym em) (nexts-movable gs ws (g .guests) (g .waiting) now late fit fair (λ n h. any-orderly t (f .firm) n)),
           ),
         ),
       )
@@ -123,7 +124,7 @@ module _ (t : Table) (f : Flight) where
   flies-used e = lacks-names ∙ right-fails (lacks f (map name (t .waiting))) e
 
 -- THE REFUSALS of a name in use and of a full table, and what an arrival that is ready knows
-module _ (g : Gate) (gs ws fs : List ℕ) (k : Known g gs ws fs) (a : Arriving) (now : ℕ) (timely : Timely g (a .guest) now) where
+module _ (g : Gate) (gs ws fs : List ℕ) (k : Known g gs ws fs) (a : Arriving) (now : ℕ) (timely : Timely g a now) where
   abbrev at : Table
   at = tableOf g gs ws fs
 
@@ -134,20 +135,20 @@ module _ (g : Gate) (gs ws fs : List ℕ) (k : Known g gs ws fs) (a : Arriving) 
   f = calledBy a
 
   pub waits-refused : lacks f (map name (at .waiting)) ≡ false → verdict at comes ≡ refuse IdInUse
-  waits-refused e = arrival-used g gs ws fs k a now (timely .known) (timely .late) (timely .early) (waits-used at f e)
+  waits-refused e = arrival-used g gs ws fs k a now (timely .known) (timely .late) (timely .early) (timely .cheap) (waits-used at f e)
 
   module _ (x : Found) (found : Finds f (at .flight) x) where
     pub flies-refused : (place : ℕ) → x ≡ At place → verdict at comes ≡ refuse IdInUse
     flies-refused place e =
         let h : Finds f (at .flight) (At place) = subst (Finds f (at .flight)) e found in
-        arrival-used g gs ws fs k a now (timely .known) (timely .late) (timely .early) (flies-used at f (h .1))
+        arrival-used g gs ws fs k a now (timely .known) (timely .late) (timely .early) (timely .cheap) (flies-used at f (h .1))
 
     module _ (e : x ≡ NoPlace) (absent : lacks f (map name (at .waiting)) ≡ true) where
       new : lacks f (names at) ≡ true
       new = names-new at f absent (subst (Finds f (at .flight)) e found)
 
       pub full-refused : g .waiting ≡ g .setup .capacity → verdict at comes ≡ refuse NoRoom
-      full-refused = arrival-full g gs ws fs k a now (timely .known) (timely .late) (timely .early) new
+      full-refused = arrival-full g gs ws fs k a now (timely .known) (timely .late) (timely .early) (timely .cheap) new
 
       pub is-ready : (g .waiting ≡ g .setup .capacity → ⊥) → Ready g gs ws fs a now
       is-ready free = record { timely = timely; new = new; free = free }

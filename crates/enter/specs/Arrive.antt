@@ -4,8 +4,9 @@ use mathlib.Core.Path.{_≡_}
 use mathlib.Core.Bool.{Bool, true}
 use mathlib.Core.List.{List}
 use lib.ListN.{length, getD}
-use Rattle.rules.specs.Numbers.{ceiling}
+use Rattle.rules.specs.Numbers.{ceiling, mostCost}
 use Rattle.rules.specs.Tables.{Request, reserved, limited, lacks, names}
+use Rattle.rules.specs.Sound.{fair}
 use Rattle.rules.specs.declared.Guest.{Guest}
 use Rattle.rules.specs.declared.Arriving.{Arriving}
 use Rattle.rules.specs.Events.{calledBy, tagIf, shareTag}
@@ -27,26 +28,28 @@ stampOf idle now h =
 
 -- the request that arrives, with these tags
 abbrev pub requestOf : Arriving → Stamp → Request
-requestOf a s = record { guest = a .guest; id = a .id; rtag = s .rtag; ltag = s .ltag; stag = s .stag }
+requestOf a s = record { guest = a .guest; id = a .id; rtag = s .rtag; ltag = s .ltag; stag = s .stag; cost = a .cost }
 
--- the guest exists, and the time is neither past the ceiling nor before the last
-pub record Timely (g : Gate) (guest now : ℕ) : Type 0 where
-  pub known : guest < g .guests
+-- the guest exists, the time is neither past the ceiling nor before the last, and the cost is in its range
+pub record Timely (g : Gate) (a : Arriving) (now : ℕ) : Type 0 where
+  pub known : a .guest < g .guests
   pub late : now ≤ ceiling
   pub early : g .time ≤ now
+  pub cheap : fair (a .cost) ≡ true
 
 -- and the name is not in use, and a place is free to wait in
 pub record Ready (g : Gate) (gs ws fs : List ℕ) (a : Arriving) (now : ℕ) : Type 0 where
-  pub timely : Timely g (a .guest) now
+  pub timely : Timely g a now
   pub new : lacks (calledBy a) (names (tableOf g gs ws fs)) ≡ true
   pub free : g .waiting ≡ g .setup .capacity → ⊥
 
 -- there is room for it, and its next numbers fit
-pub record Placeable (g : Gate) (gs ws : List ℕ) (guest : ℕ) (s : Stamp) : Type 0 where
+pub record Placeable (g : Gate) (gs ws : List ℕ) (a : Arriving) (s : Stamp) : Type 0 where
   pub waits : g .waiting ≤ mostCapacity
   pub row : g .waiting * waitingWide + waitingWide ≤ length ws
-  pub owner : guest * guestWide + guestWide ≤ length gs
-  pub limit : getD gs (guest * guestWide + LIMIT) 0 ≤ 1000000
+  pub owner : a .guest * guestWide + guestWide ≤ length gs
+  pub limit : getD gs (a .guest * guestWide + LIMIT) 0 ≤ 1000000
+  pub cost : a .cost ≤ mostCost
   pub rtag : s .rtag ≤ ceiling
   pub ltag : s .ltag ≤ ceiling
   pub stag : s .stag ≤ ceiling
@@ -54,5 +57,5 @@ pub record Placeable (g : Gate) (gs ws : List ℕ) (guest : ℕ) (s : Stamp) : T
 -- the request stands last, its guest's next numbers follow it, and the gate counts it
 pub record Placed (g : Gate) (gs ws : List ℕ) (a : Arriving) (now : ℕ) (s : Stamp) (h : Gate) (hs vs : List ℕ) : Type 0 where
   pub gate : h ≡ placedGate now g
-  pub guests : hs ≡ followed (a .guest) (s .rtag) (s .ltag) (s .stag) gs
+  pub guests : hs ≡ followed (a .guest) (s .rtag) (s .ltag) (s .stag) (a .cost) gs
   pub waiting : vs ≡ appended (g .waiting) (requestOf a s) ws

@@ -14,6 +14,7 @@ use table::columns::SHARES;
 use table::columns::SNEXT;
 use table::gates;
 use table::numbers::CEILING;
+use table::ranges::is_fair;
 use walks::Found;
 use walks::survey::Own;
 ghost use mathlib.Core.Path.{_≡_};
@@ -71,15 +72,24 @@ fn place(
     time: u64,
     tags: Stamp,
 ) -> Gate
-    requires { ⌜ Placeable gate (now guests) (now waiting) (what .guest) tags ⌝ }
+    requires { ⌜ Placeable gate (now guests) (now waiting) what tags ⌝ }
     ensures { λ r. ⌜ Placed gate (now (guests .entry)) (now (waiting .entry)) what time tags r (now (guests .exit)) (now (waiting .exit)) ⌝ }
 {
     let count = gate.waiting as usize;
     let rtag = tags.rtag;
     let ltag = tags.ltag;
     let stag = tags.stag;
-    moves::rows::append(waiting, count, what.guest, what.id as u64, rtag, ltag, stag);
-    moves::rows::follow(guests, what.guest, rtag, ltag, stag);
+    moves::rows::append(
+        waiting,
+        count,
+        what.guest,
+        what.id as u64,
+        rtag,
+        ltag,
+        stag,
+        what.cost,
+    );
+    moves::rows::follow(guests, what.guest, rtag, ltag, stag, what.cost);
     gates::placed(gate, time)
 }
 
@@ -151,7 +161,7 @@ fn arrive_new(
     idle: bool,
 ) -> Entered
     requires { ⌜ Known gate (now guests) (now waiting) (now flight) ⌝ }
-    requires { ⌜ Timely gate (what .guest) time ⌝ }
+    requires { ⌜ Timely gate what time ⌝ }
     requires { ⌜ lacks (calledBy what) (map name (waitingOf (now waiting) (gate .waiting))) ≡ true ⌝ }
     requires { ⌜ idleAt (tableOf gate (now guests) (now waiting) (now flight)) (what .guest) ≡ idle ⌝ }
     ensures { λ r. ⌜ Enters (Arrival what time) gate (now (guests .entry)) (now (waiting .entry)) (now (flight .entry)) r (now (guests .exit)) (now (waiting .exit)) (now (flight .exit)) ⌝ }
@@ -193,6 +203,9 @@ pub fn arrive(
     }
     if time < gate.time {
         return Entered::Refused(Refusal::TimeBeforeLast);
+    }
+    if !is_fair(what.cost) {
+        return Entered::Refused(Refusal::BadCost);
     }
     let count = gate.waiting as usize;
     let own = walks::survey::own_rows(&waiting[..], count, what.guest, what.id as u64);

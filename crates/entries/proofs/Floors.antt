@@ -1,6 +1,6 @@
 -- The walks of all guests at once: a list of gaps and a list of floors, one number a guest, and the requests from the first to the last.
 -- Assumes nothing.
-use Prim.Native.Nat.{ℕ, suc, _+_, _≤_, _<_}
+use Prim.Native.Nat.{ℕ, suc, _+_, _*_, _≤_, _<_}
 use mathlib.Core.Path.{_≡_, refl, sym, ap, _∙_}
 use mathlib.Core.Bool.{Bool, true, false, _&&_}
 use mathlib.Core.List.{List, _∷_}
@@ -53,7 +53,7 @@ module _ (tag : Request → ℕ) (w : List Request) (gaps : List ℕ) (next : �
     g₀ = q .guest
 
     -- the request's test is the first that its guest has left
-    own : left floors i g₀ ≡ (passes (getD gaps g₀ 0) (getD floors g₀ 0) (tag q) && run tag (getD gaps g₀ 0) (tag q + getD gaps g₀ 0) (mine g₀ (drop (suc i) w)) (next g₀))
+    own : left floors i g₀ ≡ (passes (getD gaps g₀ 0) (getD floors g₀ 0) (tag q) && run tag (getD gaps g₀ 0) (tag q + q .cost * getD gaps g₀ 0) (mine g₀ (drop (suc i) w)) (next g₀))
     unfolding run
     own =
         ap (λ (l : List Request). run tag (getD gaps g₀ 0) (getD floors g₀ 0) l (next g₀))
@@ -61,10 +61,10 @@ module _ (tag : Request → ℕ) (w : List Request) (gaps : List ℕ) (next : �
 
     -- a tag that does not pass decides its guest's test
     pub floors-fail : g₀ < known → passes (getD gaps g₀ 0) (getD floors g₀ 0) (tag q) ≡ false → whole g₀ ≡ false
-    floors-fail h e = sym (s .still g₀ h) ∙ own ∙ ap (λ (b : Bool). b && run tag (getD gaps g₀ 0) (tag q + getD gaps g₀ 0) (mine g₀ (drop (suc i) w)) (next g₀)) e
+    floors-fail h e = sym (s .still g₀ h) ∙ own ∙ ap (λ (b : Bool). b && run tag (getD gaps g₀ 0) (tag q + q .cost * getD gaps g₀ 0) (mine g₀ (drop (suc i) w)) (next g₀)) e
 
     -- one that passes is the floor of the next
-    pub floors-next : (v : ℕ) → known ≤ mostGuests → g₀ < known → passes (getD gaps g₀ 0) (getD floors g₀ 0) (tag q) ≡ true → v ≡ tag q + getD gaps g₀ 0 → Floors (set floors g₀ v) (i + 1)
+    pub floors-next : (v : ℕ) → known ≤ mostGuests → g₀ < known → passes (getD gaps g₀ 0) (getD floors g₀ 0) (tag q) ≡ true → v ≡ tag q + q .cost * getD gaps g₀ 0 → Floors (set floors g₀ v) (i + 1)
     floors-next v few h e f =
         record {
           long = length-set floors g₀ v ∙ s .long;
@@ -74,7 +74,7 @@ module _ (tag : Request → ℕ) (w : List Request) (gaps : List ℕ) (next : �
         at-own : left (set floors g₀ v) (suc i) g₀ ≡ whole g₀
         at-own =
             ap (λ (f : ℕ). run tag (getD gaps g₀ 0) f (mine g₀ (drop (suc i) w)) (next g₀)) (getD-set-same floors g₀ v 0 (omega (arith, s .long)) ∙ f)
-            ∙ sym (ap (λ (b : Bool). b && run tag (getD gaps g₀ 0) (tag q + getD gaps g₀ 0) (mine g₀ (drop (suc i) w)) (next g₀)) e)
+            ∙ sym (ap (λ (b : Bool). b && run tag (getD gaps g₀ 0) (tag q + q .cost * getD gaps g₀ 0) (mine g₀ (drop (suc i) w)) (next g₀)) e)
             ∙ sym own ∙ s .still g₀ h
 
         go : (g : ℕ) → g < known → (b : Bool) → eqb g g₀ ≡ b → left (set floors g₀ v) (suc i) g ≡ whole g

@@ -1,6 +1,7 @@
 -- What the tests before that of order say of each row: settings are small, guests exist, tags are at most the ceiling. Assumes nothing.
 use Prim.Native.Nat.{ℕ, zero, suc, _+_, _≤_, _<_}
 use mathlib.Core.Path.{_≡_, sym, ap, _∙_}
+use mathlib.Core.Bool.{true}
 use mathlib.Core.List.{List, []}
 use native.Mathlib.Omega.{arith}
 use lib.Dec.{ltb}
@@ -8,15 +9,16 @@ use lib.ListN.{getD}
 use borrow.Author.Tests.{ltb-true}
 use Rattle.lists.specs.WordsLaws.{both, all-at}
 use Rattle.lists.specs.RowsLaws.{row-at, length-rows}
-use Rattle.rules.specs.Numbers.{ceiling}
+use Rattle.rules.specs.Numbers.{ceiling, mostCost}
 use Rattle.rules.specs.Tables.{Request, name}
-use Rattle.rules.specs.Sound.{lawful}
+use Rattle.rules.specs.Sound.{lawful, priced}
 use Rattle.rules.specs.Refused.{Good}
 use Rattle.rules.proofs.Facts.{Lawful, lawful-is}
+use Rattle.rules.proofs.Spacings.{fair-is}
 use Rattle.rules.proofs.Conditions.{settled-good}
-use Rattle.table.specs.Columns.{RESERVATION, LIMIT, SHARES, CREDIT, GUEST, ID, RTAG, guestAt, waitingAt}
+use Rattle.table.specs.Columns.{RESERVATION, LIMIT, SHARES, CREDIT, GUEST, ID, COST, RTAG, guestAt, waitingAt}
 use Rattle.table.specs.View.{guestForm, requestForm, guestsOf, waitingOf}
-use Rattle.entries.specs.Tests.{settingsAre, settledGuest, named}
+use Rattle.entries.specs.Tests.{settingsAre, settledGuest, named, fits}
 use Rattle.entries.specs.Kinds.{Tested}
 
 -- the tag of a kind of a request
@@ -41,6 +43,10 @@ tag-is ws count (suc (suc (suc n))) i k h = absurd (omega arith)
 pub owner-is : (ws : List ℕ) (count i : ℕ) → i < count → (getD (waitingOf ws count) i (requestForm .read [])) .guest ≡ waitingAt ws i GUEST
 owner-is ws count i h = ap Request.guest (row-at requestForm ws count i h)
 
+-- and its cost
+pub cost-is : (ws : List ℕ) (count i : ℕ) → i < count → (getD (waitingOf ws count) i (requestForm .read [])) .cost ≡ waitingAt ws i COST
+cost-is ws count i h = ap Request.cost (row-at requestForm ws count i h)
+
 module _ (gs : List ℕ) (known : ℕ) (ws : List ℕ) (count : ℕ) (t : Tested gs known ws count) where
   -- a guest's settings lie in their ranges
   pub in-range : (g : ℕ) → g < known → Good (settingsAre (guestAt gs g RESERVATION) (guestAt gs g LIMIT) (guestAt gs g SHARES) (guestAt gs g CREDIT))
@@ -63,9 +69,21 @@ module _ (gs : List ℕ) (known : ℕ) (ws : List ℕ) (count : ℕ) (t : Tested
       (sym (ap (λ (q : Request). named known (name q)) (row-at requestForm ws count i h)) ∙ all-at (λ q. named known (name q)) (waitingOf ws count) (requestForm .read []) (t .isNamed) i (omega (arith, length-rows requestForm ws count)))
       .0)
 
+  -- what is tested of it alone
+  fit : (i : ℕ) → i < count → (lawful (getD (waitingOf ws count) i (requestForm .read [])) ≡ true) × (priced (getD (waitingOf ws count) i (requestForm .read [])) ≡ true)
+  fit i h =
+      let q = getD (waitingOf ws count) i (requestForm .read []) in
+      both (lawful q) (priced q) (all-at fits (waitingOf ws count) (requestForm .read []) (t .isFit) i (omega (arith, length-rows requestForm ws count)))
+
   -- its tags are at most the ceiling
   pub tag-low : (kind i : ℕ) → kind ≤ SHARES → i < count → waitingAt ws i (RTAG + kind) ≤ ceiling
   tag-low kind i k h =
       let q = getD (waitingOf ws count) i (requestForm .read []) in
-      let s = lawful-is q (all-at lawful (waitingOf ws count) (requestForm .read []) (t .isLawful) i (omega (arith, length-rows requestForm ws count))) in
+      let s = lawful-is q (fit i h .0) in
       rw (tag-is ws count kind i k h) at (lawful-tag kind q s k)
+
+  -- and its cost at most 64
+  pub cost-low : (i : ℕ) → i < count → waitingAt ws i COST ≤ mostCost
+  cost-low i h =
+      let q = getD (waitingOf ws count) i (requestForm .read []) in
+      rw (cost-is ws count i h) at (fair-is (q .cost) (fit i h .1) .1)

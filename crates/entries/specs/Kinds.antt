@@ -9,10 +9,10 @@ use Rattle.lists.specs.Words.{if_then_else_, all}
 use Rattle.rules.specs.Numbers.{down, up, idleBound}
 use Rattle.rules.specs.Tables.{Request, reserved, limited, rspacing, lspacing, sspacing, owner, mine, name}
 use Rattle.rules.specs.declared.Guest.{Guest}
-use Rattle.rules.specs.Sound.{lawful, kept}
+use Rattle.rules.specs.Sound.{kept}
 use Rattle.table.specs.Columns.{LIMIT, SHARES, RNEXT, guestWide, waitingWide, mostGuests, guestAt}
 use Rattle.table.specs.View.{guestsOf, waitingOf}
-use Rattle.entries.specs.Tests.{settledGuest, named}
+use Rattle.entries.specs.Tests.{settledGuest, named, fits}
 
 -- the tag x may stand where the gap is d, which is 0 where the guest lacks the kind, and the tag before it asks for at least f
 abbrev pub passes : (d f x : ℕ) → Bool
@@ -22,7 +22,7 @@ passes d f x = if eqb d 0 then eqb x 0 else leb f x
 abbrev pub ends : (d f n : ℕ) → Bool
 ends d f n = if eqb d 0 then eqb n 0 else (if eqb f 0 then leb n idleBound else eqb n f)
 
--- how far apart the tags of a kind stand, by the guest's setting n of that kind
+-- how far apart the tags of a kind stand at cost 1, by the guest's setting n of that kind
 abbrev pub gapOf : (kind setting : ℕ) → ℕ
 gapOf k n = if eqb k LIMIT then up n else down n
 
@@ -59,7 +59,7 @@ pub record Tested (gs : List ℕ) (known : ℕ) (ws : List ℕ) (count : ℕ) : 
   pub waitingRoom : count * waitingWide ≤ length ws
   pub isSettled : all settledGuest (guestsOf gs known) ≡ true
   pub isNamed : all (λ q. named known (name q)) (waitingOf ws count) ≡ true
-  pub isLawful : all lawful (waitingOf ws count) ≡ true
+  pub isFit : all fits (waitingOf ws count) ≡ true
 
 -- one kind of guest g is in order, by the numbers of both tables
 abbrev pub keptAll : (gs : List ℕ) (known : ℕ) (ws : List ℕ) (count kind : ℕ) → ℕ → Bool

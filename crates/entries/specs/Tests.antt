@@ -2,10 +2,11 @@
 use Prim.Native.Nat.{ℕ}
 use mathlib.Core.Bool.{Bool, _&&_}
 use lib.Dec.{ltb}
+use Rattle.rules.specs.Tables.{Request}
 use Rattle.rules.specs.declared.Settings.{Settings}
 use Rattle.rules.specs.declared.Guest.{Guest}
 use Rattle.rules.specs.declared.Flight.{Flight}
-use Rattle.rules.specs.Sound.{settled}
+use Rattle.rules.specs.Sound.{settled, lawful, priced}
 
 -- settings from four numbers
 abbrev pub settingsAre : ℕ → ℕ → ℕ → ℕ → Settings
@@ -14,6 +15,14 @@ settingsAre r l s c = record { reservation = r; limit = l; shares = s; credit = 
 -- the guest's settings lie in the ranges
 abbrev pub settledGuest : Guest → Bool
 settledGuest h = settled (h .settings)
+
+-- its tags are at most the ceiling, and its cost is fair
+abbrev pub fits : Request → Bool
+fits q = lawful q && priced q
+
+-- a request with these tags and this cost
+abbrev pub stampedAs : (rtag ltag stag cost : ℕ) → Request
+stampedAs r l s c = record { guest = 0; id = 0; rtag = r; ltag = l; stag = s; cost = c }
 
 -- of n guests the name's guest exists, and its id has 32 bits
 abbrev pub named : ℕ → Flight → Bool

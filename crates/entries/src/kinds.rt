@@ -1,5 +1,6 @@
 // One kind of tag at a time: the spacing within each guest, and the next numbers. A kind is told by the column of its setting: RESERVATION, LIMIT
 // or SHARES; its tags and its next numbers stand in the same order.
+use table::columns::COST;
 use table::columns::GUEST;
 use table::columns::GUEST_WIDE;
 use table::columns::LIMIT;
@@ -22,10 +23,10 @@ ghost use Rattle.table.specs.Columns.{SHARES, guestWide, mostGuests};
 ghost use Rattle.table.specs.View.{guestsOf, waitingOf};
 ghost use Rattle.entries.specs.Kinds.{passes, ends, gapOf, Gaps, Low, Tested, endsAt, keptAll};
 
-// The most that an idle guest's next number may be: the ceiling plus 1,000,000,000.
-const IDLE: u64 = CEILING + 1000000000;
+// The most that an idle guest's next number may be: the ceiling plus 64,000,000,000.
+const IDLE: u64 = CEILING + 64000000000;
 
-// How far apart the tags of a kind stand, by the guest's setting of that kind; 0 where the guest lacks it.
+// How far apart the tags of a kind stand at cost 1, by the guest's setting of that kind; 0 where the guest lacks it.
 fn gap_of(kind: usize, n: u64) -> u64
     requires { ⌜ n ≤ 1000000 ⌝ }
     ensures { λ d. ⌜ d ≡ gapOf kind n ⌝ }
@@ -105,12 +106,13 @@ fn is_kept(guests: &[u64], known: usize, waiting: &[u64], count: usize, kind: us
     while i < count {
         let g = waiting[i * WAITING_WIDE + GUEST] as usize;
         let tag = waiting[i * WAITING_WIDE + (RTAG + kind)];
+        let cost = waiting[i * WAITING_WIDE + COST];
         let gap = gaps[g];
         let floor = floors[g];
         if !is_passed(gap, floor, tag) {
             return false;
         }
-        floors[g] = tag + gap;
+        floors[g] = tag + cost * gap;
         i += 1;
     }
     all_end(guests, known, kind, gaps, floors)

@@ -1,4 +1,5 @@
-// Whether each request, by itself, is one: its guest exists, its id has 32 bits, its tags are at most the ceiling.
+// Whether each request, by itself, is one: its guest exists, its id has 32 bits, its tags are at most the ceiling, its cost is from 1 to 64.
+use table::columns::COST;
 use table::columns::FLIGHT_WIDE;
 use table::columns::GUEST;
 use table::columns::ID;
@@ -7,15 +8,15 @@ use table::columns::RTAG;
 use table::columns::STAG;
 use table::columns::WAITING_WIDE;
 use table::numbers::stamp_fits;
+use table::ranges::is_fair;
 ghost use mathlib.Core.Path.{_≡_};
 ghost use Prim.Native.Nat.{_*_, _≤_};
 ghost use lib.ListN.{length};
 ghost use Rattle.lists.specs.Words.{all};
 ghost use Rattle.rules.specs.Tables.{name};
-ghost use Rattle.rules.specs.Sound.{lawful};
 ghost use Rattle.table.specs.Columns.{flightWide, waitingWide};
 ghost use Rattle.table.specs.View.{waitingOf, flightsOf, nameIs};
-ghost use Rattle.entries.specs.Tests.{named};
+ghost use Rattle.entries.specs.Tests.{named, fits, stampedAs};
 
 // One request's name: of `known` guests its guest exists, and its id has 32 bits.
 fn is_named(guest: u64, id: u64, known: u64) -> bool
@@ -61,10 +62,20 @@ pub fn all_flown(flight: &[u64], count: usize, known: u64) -> bool
     true
 }
 
-// Every waiting request's tags are at most the ceiling.
-pub fn all_lawful(waiting: &[u64], count: usize) -> bool
+// One request's tags are at most the ceiling, and its cost is fair.
+fn is_fit(rtag: u64, ltag: u64, stag: u64, cost: u64) -> bool
+    ensures { λ b. ⌜ b ≡ fits (stampedAs rtag ltag stag cost) ⌝ }
+{
+    if !stamp_fits(rtag, ltag, stag) {
+        return false;
+    }
+    is_fair(cost)
+}
+
+// Every waiting request's tags are at most the ceiling, and its cost is fair.
+pub fn all_fit(waiting: &[u64], count: usize) -> bool
     requires { ⌜ count * waitingWide ≤ length (now waiting) ⌝ }
-    ensures { λ b. ⌜ b ≡ all lawful (waitingOf (now (waiting .entry)) count) ⌝ }
+    ensures { λ b. ⌜ b ≡ all fits (waitingOf (now (waiting .entry)) count) ⌝ }
 {
     let mut i: usize = count;
     while 0 < i {
@@ -72,7 +83,8 @@ pub fn all_lawful(waiting: &[u64], count: usize) -> bool
         let r = waiting[i * WAITING_WIDE + RTAG];
         let l = waiting[i * WAITING_WIDE + LTAG];
         let s = waiting[i * WAITING_WIDE + STAG];
-        if !stamp_fits(r, l, s) {
+        let c = waiting[i * WAITING_WIDE + COST];
+        if !is_fit(r, l, s, c) {
             return false;
         }
     }

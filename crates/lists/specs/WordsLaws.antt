@@ -56,6 +56,23 @@ pub all-append : {A : Type 0} (f : A → Bool) (a b : List A) → all f a ≡ tr
 all-append f [] b p q = q
 all-append f (x ∷ a) b p q = let h = both (f x) (all f a) p in join (h .0) (all-append f a b (h .1) q)
 
+-- all pass two tests
+pub all-both : {A : Type 0} (f g : A → Bool) (l : List A) → all f l ≡ true → all g l ≡ true → all (λ x. f x && g x) l ≡ true
+all-both f g [] p q = refl
+all-both f g (x ∷ l) p q =
+    let a = both (f x) (all f l) p in
+    let b = both (g x) (all g l) q in
+    join (join (a .0) (b .0)) (all-both f g l (a .1) (b .1))
+
+-- and each of the two apart
+pub both-all : {A : Type 0} (f g : A → Bool) (l : List A) → all (λ x. f x && g x) l ≡ true → (all f l ≡ true) × (all g l ≡ true)
+both-all f g [] h = (refl, refl)
+both-all f g (x ∷ l) h =
+    let a = both (f x && g x) (all (λ x. f x && g x) l) h in
+    let b = both (f x) (g x) (a .0) in
+    let d = both-all f g l (a .1) in
+    (join (b .0) (d .0), join (b .1) (d .1))
+
 -- a test that each entry passes after a change
 pub all-map : {A B : Type 0} (f : A → Bool) (g : B → Bool) (k : A → B) → ((x : A) → f x ≡ true → g (k x) ≡ true) → (l : List A) → all f l ≡ true → all g (map k l) ≡ true
 all-map f g k h [] p = refl

@@ -2,22 +2,22 @@
 use Prim.Native.Nat.{ℕ, _≤_}
 use mathlib.Core.Path.{_≡_, refl, sym, _∙_}
 use mathlib.Core.Bool.{Bool, true, false, _&&_, true≢false}
-use mathlib.Core.List.{List, [], _∷_, map}
+use mathlib.Core.List.{List, map}
 use native.Mathlib.Omega.{arith}
 use lib.Dec.{ltb}
 use lib.ListN.{length}
 use Rattle.lists.specs.Words.{all, below}
-use Rattle.lists.specs.WordsLaws.{both, join, all-append, all-parts, all-of-map, at-below, below-at}
+use Rattle.lists.specs.WordsLaws.{both, join, all-both, both-all, all-append, all-parts, all-of-map, at-below, below-at}
 use Rattle.lists.specs.RowsLaws.{length-rows}
 use Rattle.rules.specs.Numbers.{ceiling}
 use Rattle.rules.specs.Tables.{Table, name, names, owner, mine}
 use Rattle.rules.specs.declared.Flight.{Flight}
-use Rattle.rules.specs.Sound.{counted, ranges, ruled, lawful, distinct, orderly, sound}
+use Rattle.rules.specs.Sound.{counted, ranges, ruled, lawful, priced, distinct, orderly, sound}
 use Rattle.rules.specs.declared.Gate.{Gate}
 use Rattle.rules.proofs.Facts.{sound-is, is-sound}
 use Rattle.table.specs.Columns.{flightWide, waitingWide}
 use Rattle.table.specs.View.{guestForm, requestForm, flightForm, guestsOf, waitingOf, flightsOf, tableOf, countable, identified, zeroed, soundNumbers}
-use Rattle.entries.specs.Tests.{settledGuest, named}
+use Rattle.entries.specs.Tests.{settledGuest, named, fits}
 use Rattle.sound.specs.Names.{namesOf}
 
 -- the order of guest g
@@ -35,26 +35,16 @@ pub record Judged (gate : Gate) (gs ws fs : List ℕ) : Type 0 where
   pub isNamed : all (λ q. named (gate .guests) (name q)) (waitingOf ws (gate .waiting)) ≡ true
   pub isFlown : all (named (gate .guests)) (flightsOf fs (gate .flight)) ≡ true
   pub once : distinct (namesOf ws (gate .waiting) fs (gate .flight)) ≡ true
-  pub isLawful : all lawful (waitingOf ws (gate .waiting)) ≡ true
+  pub isFit : all fits (waitingOf ws (gate .waiting)) ≡ true
   pub isOrderly : below (gate .guests) (inOrder gate gs ws) ≡ true
   pub isClear : zeroed waitingWide (gate .setup .capacity) (gate .waiting) ws && zeroed flightWide (gate .setup .depth) (gate .flight) fs ≡ true
 
--- a name's guest exists and its id has 32 bits
-named-is : (n : ℕ) (l : List Flight) → all (λ f. ltb (f .guest) n) l ≡ true → all (λ f. ltb (f .id) 4294967296) l ≡ true → all (named n) l ≡ true
-named-is n [] p q = refl
-named-is n (f ∷ l) p q =
-    let a = both (ltb (f .guest) n) (all (λ f. ltb (f .guest) n) l) p in
-    let b = both (ltb (f .id) 4294967296) (all (λ f. ltb (f .id) 4294967296) l) q in
-    join (join (a .0) (b .0)) (named-is n l (a .1) (b .1))
+-- a name's guest exists, and its id has 32 bits
+abbrev there : ℕ → Flight → Bool
+there n f = ltb (f .guest) n
 
--- and the two apart
-named-parts : (n : ℕ) (l : List Flight) → all (named n) l ≡ true → (all (λ f. ltb (f .guest) n) l ≡ true) × (all (λ f. ltb (f .id) 4294967296) l ≡ true)
-named-parts n [] h = (refl, refl)
-named-parts n (f ∷ l) h =
-    let a = both (named n f) (all (named n) l) h in
-    let b = both (ltb (f .guest) n) (ltb (f .id) 4294967296) (a .0) in
-    let d = named-parts n l (a .1) in
-    (join (b .0) (d .0), join (b .1) (d .1))
+abbrev short : Flight → Bool
+short f = ltb (f .id) 4294967296
 
 module _ (gate : Gate) (gs ws fs : List ℕ) where
   abbrev t : Table
@@ -73,7 +63,7 @@ module _ (gate : Gate) (gs ws fs : List ℕ) where
       let h2 = both (sound t) (identified t) (h3 .0) in
       let s = sound-is t (h2 .0) in
       let r = both (counted (gate .setup .depth) (length (t .guests)) (gate .setup .capacity)) (all settledGuest (t .guests)) (s .in-range) in
-      let n = named-is (gate .guests) (names t) (rw size at (s .guests-known)) (h2 .1) in
+      let n = all-both (there (gate .guests)) short (names t) (rw size at (s .guests-known)) (h2 .1) in
       let m = all-parts (named (gate .guests)) (map name (t .waiting)) (t .flight) n in
       record {
         isCounted = rw size at (r .0);
@@ -85,7 +75,7 @@ module _ (gate : Gate) (gs ws fs : List ℕ) where
         isNamed = sym (all-of-map (named (gate .guests)) name (t .waiting)) ∙ m .0;
         isFlown = m .1;
         once = s .names-once;
-        isLawful = s .tags-fit;
+        isFit = all-both lawful priced (t .waiting) (s .tags-fit) (s .costs-fit);
         isOrderly = at-below (gate .guests) (inOrder gate gs ws) (λ g k. s .guests-orderly g (rw size k));
         isClear = join (h3 .1) (h4 .1);
       }
@@ -95,7 +85,8 @@ module _ (gate : Gate) (gs ws fs : List ℕ) where
   unfolding soundNumbers ranges
   is-judged j =
       let n = all-append (named (gate .guests)) (map name (t .waiting)) (t .flight) (all-of-map (named (gate .guests)) name (t .waiting) ∙ j .isNamed) (j .isFlown) in
-      let m = named-parts (gate .guests) (names t) n in
+      let fit = both-all lawful priced (t .waiting) (j .isFit) in
+      let m = both-all (there (gate .guests)) short (names t) n in
       let e : counted (gate .setup .depth) (length (t .guests)) (gate .setup .capacity) ≡ true = rw size (j .isCounted) in
       let s =
       is-sound t
@@ -107,7 +98,8 @@ module _ (gate : Gate) (gs ws fs : List ℕ) where
         time-fits = j .timed;
         guests-known = rw size (m .0);
         names-once = j .once;
-        tags-fit = j .isLawful;
+        tags-fit = fit .0;
+        costs-fit = fit .1;
         guests-orderly = λ g k. below-at (gate .guests) (inOrder gate gs ws) (j .isOrderly) g (rw size at k);
       })
       in

@@ -21,7 +21,7 @@ use Rattle.rules.specs.declared.Settings.{Settings}
 use Rattle.rules.specs.declared.Guest.{Guest}
 use Rattle.rules.specs.declared.Flight.{Flight}
 use Rattle.rules.specs.Sound.{sound}
-use Rattle.rules.specs.Refused.{Good}
+use Rattle.rules.specs.Refused.{Good, Fair}
 use Rattle.rules.specs.Chosen.{blank, at}
 use Rattle.rules.specs.declared.Gate.{Gate}
 use Rattle.rules.proofs.Soundness.{Kept, Once, SoundTable, sound-exactly}
@@ -201,6 +201,8 @@ module _ (g : Gate) (gs ws fs : List ℕ) where
         tags-fit = λ i k.
             subst (λ (q : Request). (q .rtag ≤ ceiling) × (q .ltag ≤ ceiling) × (q .stag ≤ ceiling)) (waiting-is i k)
             (s .tags-fit (at (t .waiting) i) (place-mem (t .waiting) i blank (omega (arith, long))));
+        costs-fit = λ i k.
+            subst (λ (q : Request). Fair (q .cost)) (waiting-is i k) (s .costs-fit (at (t .waiting) i) (place-mem (t .waiting) i blank (omega (arith, long))));
         reservations = λ h k. to-rows reserved Request.rtag rspacing Guest.rnext h k (s .reservations h (omega (arith, many)));
         limits = λ h k. to-rows limited Request.ltag lspacing Guest.lnext h k (s .limits h (omega (arith, many)));
         shares = λ h k. to-rows (λ x. true) Request.stag sspacing Guest.snext h k (s .shares h (omega (arith, many)));
@@ -228,6 +230,10 @@ module _ (g : Gate) (gs ws fs : List ℕ) where
             let (i, k, e) = mem-place q (t .waiting) blank m in
             let l : i < g .waiting = omega (arith, long) in
             subst (λ (q : Request). (q .rtag ≤ ceiling) × (q .ltag ≤ ceiling) × (q .stag ≤ ceiling)) (sym (waiting-is i l) ∙ e) (s .tags-fit i l);
+        costs-fit = λ q m.
+            let (i, k, e) = mem-place q (t .waiting) blank m in
+            let l : i < g .waiting = omega (arith, long) in
+            subst (λ (q : Request). Fair (q .cost)) (sym (waiting-is i l) ∙ e) (s .costs-fit i l);
         reservations = λ h k. let l : h < g .guests = omega (arith, many) in of-rows reserved Request.rtag rspacing Guest.rnext h l (s .reservations h l);
         limits = λ h k. let l : h < g .guests = omega (arith, many) in of-rows limited Request.ltag lspacing Guest.lnext h l (s .limits h l);
         shares = λ h k. let l : h < g .guests = omega (arith, many) in of-rows (λ x. true) Request.stag sspacing Guest.snext h l (s .shares h l);

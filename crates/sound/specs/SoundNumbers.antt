@@ -6,11 +6,11 @@ use mathlib.Core.Bool.{Bool, true, false}
 use mathlib.Core.List.{List}
 use lib.ListN.{getD}
 use Rattle.lists.specs.Lines.{lineAt}
-use Rattle.rules.specs.Numbers.{ceiling, second}
+use Rattle.rules.specs.Numbers.{ceiling, second, mostCost}
 use Rattle.rules.specs.Tables.{Request, reserved, limited, rspacing, lspacing, sspacing, name}
 use Rattle.rules.specs.declared.Guest.{Guest}
 use Rattle.rules.specs.declared.Flight.{Flight}
-use Rattle.rules.specs.Refused.{Countable, Ruled, Good}
+use Rattle.rules.specs.Refused.{Countable, Ruled, Good, Fair}
 use Rattle.rules.specs.declared.Gate.{Gate}
 use Rattle.table.specs.View.{guestForm, requestForm, flightForm}
 
@@ -36,8 +36,8 @@ pub record KeptAt (has : Bool) (tag spacing : Request → ℕ) (row : ℕ → Re
   pub spaced : has ≡ true → (i j : ℕ) → i < j → j < count → (row i) .guest ≡ h → (row j) .guest ≡ h → tag (row i) + spacing (row i) ≤ tag (row j)
   -- "for a guest with something waiting, each next number it has is its last waiting tag plus the spacing"
   pub next-follows : has ≡ true → (i : ℕ) → i < count → (row i) .guest ≡ h → NoneFrom row (suc i) count h → next ≡ tag (row i) + spacing (row i)
-  -- "for an idle guest it is at most the ceiling plus 1,000,000,000"
-  pub idle-fits : has ≡ true → NoneFrom row 0 count h → next ≤ ceiling + second
+  -- document 02, K8: "an idle guest's next number is at most the ceiling plus 64,000,000,000"
+  pub idle-fits : has ≡ true → NoneFrom row 0 count h → next ≤ ceiling + mostCost * second
   -- "meaningless numbers .. are zero"
   pub no-next : has ≡ false → next ≡ 0
   pub no-tags : has ≡ false → (i : ℕ) → i < count → (row i) .guest ≡ h → tag (row i) ≡ 0
@@ -62,6 +62,8 @@ pub record SoundNumbers (g : Gate) (gs ws fs : List ℕ) : Type 0 where
   pub once-in-both : (i j : ℕ) → i < g .waiting → j < g .flight → name (waitingRow ws i) ≡ flightRow fs j → ⊥
   -- "tags are at most the ceiling"
   pub tags-fit : (i : ℕ) → i < g .waiting → ((waitingRow ws i) .rtag ≤ ceiling) × ((waitingRow ws i) .ltag ≤ ceiling) × ((waitingRow ws i) .stag ≤ ceiling)
+  -- document 02, K8: "a cost outside 1 to 64 is 18 .. one kept in a table is 3"
+  pub costs-fit : (i : ℕ) → i < g .waiting → Fair ((waitingRow ws i) .cost)
   -- "within a guest", each kind it has, and those it lacks
   pub reservations : (h : ℕ) → h < g .guests
       → KeptAt (reserved ((guestRow gs h) .settings)) Request.rtag (rspacing ((guestRow gs h) .settings)) (waitingRow ws) (g .waiting) h ((guestRow gs h) .rnext)

@@ -4,8 +4,8 @@ pub mod pairs; // no request twice
 pub mod unused; // the places past the counts
 
 use entries::kinds::all_orderly;
+use entries::requests::all_fit;
 use entries::requests::all_flown;
-use entries::requests::all_lawful;
 use entries::requests::all_named;
 use entries::settings::all_settled;
 use pairs::all_once;
@@ -51,7 +51,7 @@ pub fn is_sound(gate: Gate, guests: &[u64], waiting: &[u64], flight: &[u64]) -> 
     if !all_once(waiting, count, flight, sent) {
         return false;
     }
-    if !all_lawful(waiting, count) {
+    if !all_fit(waiting, count) {
         return false;
     }
     if !all_orderly(guests, known, waiting, count) {

@@ -68,13 +68,13 @@ returns-8 c =
     let a = c .before .before .before .before .before .before .before .before .before .before .before .before .before .before .before .before .before .args in
     unsound (a .gate) (a .guests .now) (a .waiting .now) (a .flight .now) (λ j. clash (sym (c .before .all-once .ensures) ∙ not-true _ (c .if8 .taken)) (j .once))
 
-all-lawful-requires : tie.Need-all-lawful-requires
-all-lawful-requires c κs = search needs
+all-fit-requires : tie.Need-all-fit-requires
+all-fit-requires c κs = search needs
 
 returns-9 : tie.Need-returns-9
 returns-9 c =
     let a = c .before .before .before .before .before .before .before .before .before .before .before .before .before .before .before .before .before .before .before .args in
-    unsound (a .gate) (a .guests .now) (a .waiting .now) (a .flight .now) (λ j. clash (sym (c .before .all-lawful .ensures) ∙ not-true _ (c .if9 .taken)) (j .isLawful))
+    unsound (a .gate) (a .guests .now) (a .waiting .now) (a .flight .now) (λ j. clash (sym (c .before .all-fit .ensures) ∙ not-true _ (c .if9 .taken)) (j .isFit))
 
 all-orderly-requires : tie.Need-all-orderly-requires
 all-orderly-requires c κs =
@@ -85,7 +85,7 @@ all-orderly-requires c κs =
       waitingRoom = omega (arith, f .waitingRoom, c .before .before .before .before .before .before .before .before .before .before .before .if3 .left);
       isSettled = sym (c .before .before .before .before .before .before .before .before .before .before .before .before .before .all-settled .ensures) ∙ not-false _ (c .before .before .before .before .before .before .before .before .before .before .before .before .if2 .left);
       isNamed = sym (c .before .before .before .before .before .before .before .all-named .ensures) ∙ not-false _ (c .before .before .before .before .before .before .if6 .left);
-      isLawful = sym (c .before .all-lawful .ensures) ∙ not-false _ (c .if9 .left);
+      isFit = sym (c .before .all-fit .ensures) ∙ not-false _ (c .if9 .left);
     }
 
 returns-10 : tie.Need-returns-10
@@ -111,7 +111,7 @@ returns-11 c =
       isNamed = sym (c .before .before .before .before .before .before .before .before .before .before .all-named .ensures) ∙ not-false _ (c .before .before .before .before .before .before .before .before .before .if6 .left);
       isFlown = sym (c .before .before .before .before .before .before .before .before .all-flown .ensures) ∙ not-false _ (c .before .before .before .before .before .before .before .if7 .left);
       once = sym (c .before .before .before .before .before .before .all-once .ensures) ∙ not-false _ (c .before .before .before .before .before .if8 .left);
-      isLawful = sym (c .before .before .before .before .all-lawful .ensures) ∙ not-false _ (c .before .before .before .if9 .left);
+      isFit = sym (c .before .before .before .before .all-fit .ensures) ∙ not-false _ (c .before .before .before .if9 .left);
       isOrderly = sym (c .before .before .all-orderly .ensures) ∙ not-false _ (c .before .if10 .left);
       isClear = sym (c .is-clear .ensures) ∙ e;
     })
@@ -134,7 +134,7 @@ is-sound-spec =
     returns-7
     all-once-requires
     returns-8
-    all-lawful-requires
+    all-fit-requires
     returns-9
     all-orderly-requires
     returns-10

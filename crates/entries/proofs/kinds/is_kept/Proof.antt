@@ -3,7 +3,6 @@ use Prim.Native.Nat.{_≤_, _-_}
 use mathlib.Core.Path.{refl, sym, _∙_}
 use native.Mathlib.Omega.{arith}
 use borrow.Author.Tests.{not-true, not-false}
-use Rattle.table.specs.Columns.{GUEST, waitingAt}
 use borrow.Author.Needs.{needs}
 use Rattle.entries.proofs.RowFacts.{setting-low, guest-known, tag-low}
 use Rattle.entries.proofs.OneKind.{Walked, walk-start, gap-fits, kind-fails, kind-next, kind-ends}
@@ -54,48 +53,71 @@ mul-tag-2 c = omega arith
 shared-slice-read-tag : tie.Need-shared-slice-read-tag Inv-loop μ-loop
 shared-slice-read-tag c = omega arith
 
+mul-cost : tie.Need-mul-cost Inv-loop μ-loop
+mul-cost c = omega arith
+
+add-cost : tie.Need-add-cost Inv-loop μ-loop
+add-cost c = omega arith
+
+mul-cost-2 : tie.Need-mul-cost-2 Inv-loop μ-loop
+mul-cost-2 c = omega arith
+
+shared-slice-read-cost : tie.Need-shared-slice-read-cost Inv-loop μ-loop
+shared-slice-read-cost c = omega arith
+
 mul-gap : tie.Need-mul-gap Inv-loop μ-loop
-mul-gap c = let a = c .before .before .before .before .before .before .before .args in let p = c .before .before .before .before .before .before .before .pre in omega (arith, guest-known (a .guests .now) (a .known) (a .waiting .now) (a .count) (p .0) (c .before .before .before .loop .i) (c .before .before .loop-test .taken))
+mul-gap c = let a = c .before .before .before .before .before .before .before .before .args in let p = c .before .before .before .before .before .before .before .before .pre in omega (arith, guest-known (a .guests .now) (a .known) (a .waiting .now) (a .count) (p .0) (c .before .before .before .before .loop .i) (c .before .before .before .loop-test .taken))
 
 array-read-gap : tie.Need-array-read-gap Inv-loop μ-loop
-array-read-gap c = let a = c .before .before .before .before .before .before .before .args in let p = c .before .before .before .before .before .before .before .pre in omega (arith, guest-known (a .guests .now) (a .known) (a .waiting .now) (a .count) (p .0) (c .before .before .before .loop .i) (c .before .before .loop-test .taken))
+array-read-gap c = let a = c .before .before .before .before .before .before .before .before .args in let p = c .before .before .before .before .before .before .before .before .pre in omega (arith, guest-known (a .guests .now) (a .known) (a .waiting .now) (a .count) (p .0) (c .before .before .before .before .loop .i) (c .before .before .before .loop-test .taken))
 
 mul-floor : tie.Need-mul-floor Inv-loop μ-loop
-mul-floor c = let a = c .before .before .before .before .before .before .before .args in let p = c .before .before .before .before .before .before .before .pre in omega (arith, guest-known (a .guests .now) (a .known) (a .waiting .now) (a .count) (p .0) (c .before .before .before .loop .i) (c .before .before .loop-test .taken))
+mul-floor c = let a = c .before .before .before .before .before .before .before .before .args in let p = c .before .before .before .before .before .before .before .before .pre in omega (arith, guest-known (a .guests .now) (a .known) (a .waiting .now) (a .count) (p .0) (c .before .before .before .before .loop .i) (c .before .before .before .loop-test .taken))
 
 array-read-floor : tie.Need-array-read-floor Inv-loop μ-loop
-array-read-floor c = let a = c .before .before .before .before .before .before .before .args in let p = c .before .before .before .before .before .before .before .pre in omega (arith, guest-known (a .guests .now) (a .known) (a .waiting .now) (a .count) (p .0) (c .before .before .before .loop .i) (c .before .before .loop-test .taken))
+array-read-floor c = let a = c .before .before .before .before .before .before .before .before .args in let p = c .before .before .before .before .before .before .before .before .pre in omega (arith, guest-known (a .guests .now) (a .known) (a .waiting .now) (a .count) (p .0) (c .before .before .before .before .loop .i) (c .before .before .before .loop-test .taken))
 
 is-passed-requires : tie.Need-is-passed-requires Inv-loop μ-loop
 is-passed-requires c κs = tt
 
 returns : tie.Need-returns Inv-loop μ-loop
 returns c =
-    let a = c .before .before .before .before .before .before .before .before .before .args in
-    let p = c .before .before .before .before .before .before .before .before .before .pre in
-    let s = c .before .before .before .before .before .loop in
-    let d = c .before .before .before .before .before .before .gaps-of in
-    sym (kind-fails (a .guests .now) (a .known) (a .waiting .now) (a .count) (p .0) (a .kind) (p .1) (d .result) (d .ensures) (s .floors) (s .i) (s .inv .1) (c .before .before .before .before .loop-test .taken) (sym (c .before .is-passed .ensures) ∙ not-true _ (c .if1 .taken)))
+    let a = c .before .before .before .before .before .before .before .before .before .before .args in
+    let p = c .before .before .before .before .before .before .before .before .before .before .pre in
+    let s = c .before .before .before .before .before .before .loop in
+    let d = c .before .before .before .before .before .before .before .gaps-of in
+    sym (kind-fails (a .guests .now) (a .known) (a .waiting .now) (a .count) (p .0) (a .kind) (p .1) (d .result) (d .ensures) (s .floors) (s .i) (s .inv .1) (c .before .before .before .before .before .loop-test .taken) (sym (c .before .is-passed .ensures) ∙ not-true _ (c .if1 .taken)))
+
+mul-floors : tie.Need-mul-floors Inv-loop μ-loop
+mul-floors c =
+    let a = c .before .before .before .before .before .before .before .before .before .before .args in
+    let p = c .before .before .before .before .before .before .before .before .before .before .pre in
+    let s = c .before .before .before .before .before .before .loop in
+    let d = c .before .before .before .before .before .before .before .gaps-of in
+    let h = c .before .before .before .before .before .loop-test .taken in
+    omega (
+      arith,
+      gap-fits (a .guests .now) (a .known) (a .waiting .now) (a .count) (p .0) (a .kind) (p .1) (d .result) (d .ensures) (s .floors) (s .i) (s .inv .1) h,
+    )
 
 add-floors : tie.Need-add-floors Inv-loop μ-loop
 add-floors c =
-    let a = c .before .before .before .before .before .before .before .before .before .args in
-    let p = c .before .before .before .before .before .before .before .before .before .pre in
-    let s = c .before .before .before .before .before .loop in
-    let d = c .before .before .before .before .before .before .gaps-of in
-    let h = c .before .before .before .before .loop-test .taken in
+    let a = c .before .before .before .before .before .before .before .before .before .before .args in
+    let p = c .before .before .before .before .before .before .before .before .before .before .pre in
+    let s = c .before .before .before .before .before .before .loop in
+    let d = c .before .before .before .before .before .before .before .gaps-of in
+    let h = c .before .before .before .before .before .loop-test .taken in
     omega (
       arith,
       tag-low (a .guests .now) (a .known) (a .waiting .now) (a .count) (p .0) (a .kind) (s .i) (p .1) h,
-      gap-fits (a .guests .now) (a .known) (a .waiting .now) (a .count) (p .0) (a .kind) (p .1) (d .result) (d .ensures) (waitingAt (a .waiting .now) (s .i) GUEST)
-          (guest-known (a .guests .now) (a .known) (a .waiting .now) (a .count) (p .0) (s .i) h),
+      gap-fits (a .guests .now) (a .known) (a .waiting .now) (a .count) (p .0) (a .kind) (p .1) (d .result) (d .ensures) (s .floors) (s .i) (s .inv .1) h,
     )
 
-mul-floors : tie.Need-mul-floors Inv-loop μ-loop
-mul-floors c = let a = c .before .before .before .before .before .before .before .before .before .args in let p = c .before .before .before .before .before .before .before .before .before .pre in omega (arith, guest-known (a .guests .now) (a .known) (a .waiting .now) (a .count) (p .0) (c .before .before .before .before .before .loop .i) (c .before .before .before .before .loop-test .taken))
+mul-floors-2 : tie.Need-mul-floors-2 Inv-loop μ-loop
+mul-floors-2 c = let a = c .before .before .before .before .before .before .before .before .before .before .args in let p = c .before .before .before .before .before .before .before .before .before .before .pre in omega (arith, guest-known (a .guests .now) (a .known) (a .waiting .now) (a .count) (p .0) (c .before .before .before .before .before .before .loop .i) (c .before .before .before .before .before .loop-test .taken))
 
 array-write-floors : tie.Need-array-write-floors Inv-loop μ-loop
-array-write-floors c = let a = c .before .before .before .before .before .before .before .before .before .args in let p = c .before .before .before .before .before .before .before .before .before .pre in omega (arith, guest-known (a .guests .now) (a .known) (a .waiting .now) (a .count) (p .0) (c .before .before .before .before .before .loop .i) (c .before .before .before .before .loop-test .taken))
+array-write-floors c = let a = c .before .before .before .before .before .before .before .before .before .before .args in let p = c .before .before .before .before .before .before .before .before .before .before .pre in omega (arith, guest-known (a .guests .now) (a .known) (a .waiting .now) (a .count) (p .0) (c .before .before .before .before .before .before .loop .i) (c .before .before .before .before .before .loop-test .taken))
 
 add-i : tie.Need-add-i Inv-loop μ-loop
 add-i c = omega arith
@@ -105,12 +127,12 @@ loop-less c = omega arith
 
 loop-again : tie.Need-loop-again Inv-loop μ-loop
 loop-again c =
-    let a = c .before .before .before .before .before .before .before .before .before .args in
-    let p = c .before .before .before .before .before .before .before .before .before .pre in
-    let s = c .before .before .before .before .before .loop in
-    let d = c .before .before .before .before .before .before .gaps-of in (
+    let a = c .before .before .before .before .before .before .before .before .before .before .args in
+    let p = c .before .before .before .before .before .before .before .before .before .before .pre in
+    let s = c .before .before .before .before .before .before .loop in
+    let d = c .before .before .before .before .before .before .before .gaps-of in (
       omega arith,
-      kind-next (a .guests .now) (a .known) (a .waiting .now) (a .count) (p .0) (a .kind) (p .1) (d .result) (d .ensures) (s .floors) (s .i) (s .inv .1) (c .before .before .before .before .loop-test .taken) _ (sym (c .before .is-passed .ensures) ∙ not-false _ (c .if1 .left)) refl,
+      kind-next (a .guests .now) (a .known) (a .waiting .now) (a .count) (p .0) (a .kind) (p .1) (d .result) (d .ensures) (s .floors) (s .i) (s .inv .1) (c .before .before .before .before .before .loop-test .taken) _ (sym (c .before .is-passed .ensures) ∙ not-false _ (c .if1 .left)) refl,
     )
 
 all-end-requires : tie.Need-all-end-requires Inv-loop μ-loop
@@ -141,14 +163,19 @@ is-kept-spec =
     add-tag-2
     mul-tag-2
     shared-slice-read-tag
+    mul-cost
+    add-cost
+    mul-cost-2
+    shared-slice-read-cost
     mul-gap
     array-read-gap
     mul-floor
     array-read-floor
     is-passed-requires
     returns
-    add-floors
     mul-floors
+    add-floors
+    mul-floors-2
     array-write-floors
     add-i
     loop-less

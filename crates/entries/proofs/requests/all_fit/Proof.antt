@@ -2,20 +2,21 @@
 use mathlib.Core.Path.{sym, _∙_}
 use native.Mathlib.Omega.{arith}
 use borrow.Author.Tests.{not-true, not-false}
-use Rattle.rules.specs.Sound.{lawful}
 use Rattle.table.specs.View.{requestForm}
+use Rattle.rules.specs.Sound.{lawful}
+use Rattle.entries.specs.Tests.{fits}
 use Rattle.entries.proofs.AllRows.{Passed, rows-start, rows-next, rows-fail, rows-end}
-use Rattle.entries.proofs.requests.all_lawful.Statement.{statement}
-use Rattle.entries.proofs.requests.all_lawful.Tie as tie
+use Rattle.entries.proofs.requests.all_fit.Statement.{statement}
+use Rattle.entries.proofs.requests.all_fit.Tie as tie
 
 abbrev Inv-loop : tie.InvT-loop
-Inv-loop waiting count i₀ i = Passed requestForm lawful waiting count i
+Inv-loop waiting count i₀ i = Passed requestForm fits waiting count i
 
 abbrev μ-loop : tie.MeasureT-loop
 μ-loop waiting count i₀ i = i
 
 loop-holds : tie.Need-loop-holds Inv-loop μ-loop
-loop-holds c = let a = c .before .args in rows-start requestForm lawful (a .waiting .now) (a .count)
+loop-holds c = let a = c .before .args in rows-start requestForm fits (a .waiting .now) (a .count)
 
 sub-i : tie.Need-sub-i Inv-loop μ-loop
 sub-i c = omega arith
@@ -56,15 +57,27 @@ mul-s-2 c = omega arith
 shared-slice-read-s : tie.Need-shared-slice-read-s Inv-loop μ-loop
 shared-slice-read-s c = omega arith
 
-stamp-fits-requires : tie.Need-stamp-fits-requires Inv-loop μ-loop
-stamp-fits-requires c κs = tt
+mul-c : tie.Need-mul-c Inv-loop μ-loop
+mul-c c = omega arith
+
+add-c : tie.Need-add-c Inv-loop μ-loop
+add-c c = omega arith
+
+mul-c-2 : tie.Need-mul-c-2 Inv-loop μ-loop
+mul-c-2 c = omega arith
+
+shared-slice-read-c : tie.Need-shared-slice-read-c Inv-loop μ-loop
+shared-slice-read-c c = omega arith
+
+is-fit-requires : tie.Need-is-fit-requires Inv-loop μ-loop
+is-fit-requires c κs = tt
 
 returns : tie.Need-returns Inv-loop μ-loop
 unfolding lawful
 returns c =
-    let a = c .before .before .before .before .before .before .before .before .args in
-    let s = c .before .before .before .before .before .before .loop in
-    rows-fail requestForm lawful (a .waiting .now) (a .count) (s .i) (s .inv) (c .before .before .before .before .before .loop-test .taken) (sym (c .before .stamp-fits .ensures) ∙ not-true _ (c .if1 .taken))
+    let a = c .before .before .before .before .before .before .before .before .before .args in
+    let s = c .before .before .before .before .before .before .before .loop in
+    rows-fail requestForm fits (a .waiting .now) (a .count) (s .i) (s .inv) (c .before .before .before .before .before .before .loop-test .taken) (sym (c .before .is-fit .ensures) ∙ not-true _ (c .if1 .taken))
 
 loop-less : tie.Need-loop-less Inv-loop μ-loop
 loop-less c = omega arith
@@ -72,18 +85,18 @@ loop-less c = omega arith
 loop-again : tie.Need-loop-again Inv-loop μ-loop
 unfolding lawful
 loop-again c =
-    let a = c .before .before .before .before .before .before .before .before .args in
-    let s = c .before .before .before .before .before .before .loop in
-    rows-next requestForm lawful (a .waiting .now) (a .count) (s .i) (s .inv) (c .before .before .before .before .before .loop-test .taken) (sym (c .before .stamp-fits .ensures) ∙ not-false _ (c .if1 .left))
+    let a = c .before .before .before .before .before .before .before .before .before .args in
+    let s = c .before .before .before .before .before .before .before .loop in
+    rows-next requestForm fits (a .waiting .now) (a .count) (s .i) (s .inv) (c .before .before .before .before .before .before .loop-test .taken) (sym (c .before .is-fit .ensures) ∙ not-false _ (c .if1 .left))
 
 returns-2 : tie.Need-returns-2 Inv-loop μ-loop
 returns-2 c =
     let a = c .before .before .before .args in
     let s = c .before .loop in
-    rows-end requestForm lawful (a .waiting .now) (a .count) (s .i) (s .inv) (c .loop-test .left)
+    rows-end requestForm fits (a .waiting .now) (a .count) (s .i) (s .inv) (c .loop-test .left)
 
-pub all-lawful-spec : {M : Type 1} → statement M
-all-lawful-spec =
+pub all-fit-spec : {M : Type 1} → statement M
+all-fit-spec =
     tie.close
     (tie.spec
     Inv-loop
@@ -102,7 +115,11 @@ all-lawful-spec =
     add-s
     mul-s-2
     shared-slice-read-s
-    stamp-fits-requires
+    mul-c
+    add-c
+    mul-c-2
+    shared-slice-read-c
+    is-fit-requires
     returns
     loop-less
     loop-again
