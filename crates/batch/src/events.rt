@@ -1,4 +1,4 @@
-// A lent list of events, a row of numbers each: kind (0 arrival, 1 completion, 2 tick), guest, id, time.
+// A lent list of events, a row of numbers each: kind (0 arrival, 1 completion, 2 tick), guest, id, time, cost.
 use rules::Arriving;
 use rules::Event;
 use rules::Flight;
@@ -7,7 +7,7 @@ ghost use Prim.Native.Nat.{_<_};
 ghost use Rattle.batch.specs.Rows.{countOf, eventFrom, eventAt};
 
 // How many numbers a row has, and where each stands in it.
-pub const EVENT_WIDE: usize = 4;
+pub const EVENT_WIDE: usize = 5;
 
 pub const EVENT_KIND: usize = 0;
 
@@ -16,6 +16,8 @@ pub const EVENT_GUEST: usize = 1;
 pub const EVENT_ID: usize = 2;
 
 pub const EVENT_TIME: usize = 3;
+
+pub const EVENT_COST: usize = 4;
 
 // The most events of one call.
 pub const MOST_EVENTS: usize = 256;
@@ -26,16 +28,19 @@ pub enum Read {
     Bad,
 }
 
-// The event that four numbers are.
-fn event_from(kind: u64, guest: u64, id: u64, time: u64) -> Read
-    ensures { λ r. ⌜ r ≡ eventFrom kind guest id time ⌝ }
+// The event that five numbers are.
+fn event_from(kind: u64, guest: u64, id: u64, time: u64, cost: u64) -> Read
+    ensures { λ r. ⌜ r ≡ eventFrom kind guest id time cost ⌝ }
 {
     if 4294967296 <= id {
         return Read::Bad;
     }
     let id = id as u32;
     if kind == 0 {
-        return Read::Good(Event::Arrival(Arriving { guest, id }, time));
+        return Read::Good(Event::Arrival(Arriving { guest, id, cost }, time));
+    }
+    if cost != 0 {
+        return Read::Bad;
     }
     if kind == 1 {
         return Read::Good(Event::Completion(Flight { guest, id }, time));
@@ -61,5 +66,6 @@ pub fn event_at(events: &[u64], k: usize) -> Read
         events[from + EVENT_GUEST],
         events[from + EVENT_ID],
         events[from + EVENT_TIME],
+        events[from + EVENT_COST],
     )
 }

@@ -23,14 +23,14 @@ use Rattle.gate.proofs.Runs.{calls-run}
 abbrev lent : List ℕ
 lent = 100 ∷ 250 ∷ 1 ∷ 0 ∷ []
 
-module _ (gs ws fs : List ℕ) (g : 7 ≤ length gs) (w : 40 ≤ length ws) (f : 8 ≤ length fs) where
+module _ (gs ws fs : List ℕ) (g : 7 ≤ length gs) (w : 48 ≤ length ws) (f : 8 ≤ length fs) where
   -- "depth 4 .. capacity 8", under document 01's own rule
   abbrev host : Host numbers
   host = holds numbers (opened 4 1 8 1 lent gs ws fs)
 
   accepts : taken (opened 4 1 8 1 lent gs ws fs .0 .answer) ≡ true
   unfolding openedIn openingIn openTests openShortIn counted settled ruled rowsOf linesOf handedIn
-  accepts = rw (le-ltb (length gs) 7 g, le-ltb (length ws) 40 w, le-ltb (length fs) 8 f) refl
+  accepts = rw (le-ltb (length gs) 7 g, le-ltb (length ws) 48 w, le-ltb (length fs) 8 f) refl
 
   starts : shows numbers host ≡ one
   unfolding rowsOf linesOf

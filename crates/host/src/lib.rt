@@ -91,7 +91,7 @@ pub extern "C" fn sgq_open(
     hand_back(seven, outcome)
 }
 
-// An arrival at the gate that the seven numbers are.
+// An arrival at the gate that the seven numbers are, at a cost that is judged like the rest.
 #[no_mangle]
 pub extern "C" fn sgq_arrive(
     seven: &mut [u64; 7],
@@ -101,8 +101,9 @@ pub extern "C" fn sgq_arrive(
     guest: u64,
     id: u32,
     time: u64,
+    cost: u64,
 ) -> Reply
-    ensures { λ r. ⌜ (r, now (seven .exit), now (guests .exit), now (waiting .exit), now (flight .exit)) ≡ hosted (now (seven .entry)) (called (Arrival (record { guest = guest; id = id }) time) (gateIn (now (seven .entry))) (now (guests .entry)) (now (waiting .entry)) (now (flight .entry))) ⌝ }
+    ensures { λ r. ⌜ (r, now (seven .exit), now (guests .exit), now (waiting .exit), now (flight .exit)) ≡ hosted (now (seven .entry)) (called (Arrival (record { guest = guest; id = id; cost = cost }) time) (gateIn (now (seven .entry))) (now (guests .entry)) (now (waiting .entry)) (now (flight .entry))) ⌝ }
 {
     let gate = gate_in(seven);
     let outcome = gate::numbers::arrive(
@@ -110,7 +111,7 @@ pub extern "C" fn sgq_arrive(
         guests,
         waiting,
         flight,
-        Arriving { guest, id },
+        Arriving { guest, id, cost },
         time,
     );
     hand_back(seven, outcome)
@@ -172,7 +173,7 @@ fn hand_over(seven: &mut [u64; 7], done: Batched) -> u64
     }
 }
 
-// Up to 256 events, four numbers each, at the gate that the seven numbers are; each answer goes into its place of `answers`, five numbers each. Gives 0, or 16
+// Up to 256 events, five numbers each, at the gate that the seven numbers are; each answer goes into its place of `answers`, five numbers each. Gives 0, or 16
 // or 17 with nothing done.
 #[no_mangle]
 pub extern "C" fn sgq_batch(

@@ -1,4 +1,4 @@
--- Four reads of a row. Assumes nothing.
+-- Five reads of a row. Assumes nothing.
 use Rattle.batch.specs.Rows.{eventAt}
 use borrow.Author.Needs.{needs}
 use Rattle.batch.proofs.events.event_at.Statement.{statement}
@@ -43,6 +43,15 @@ mul-event-from-4 c = search needs
 shared-slice-read-event-from-4 : tie.Need-shared-slice-read-event-from-4
 shared-slice-read-event-from-4 c = search needs
 
+add-event-from-5 : tie.Need-add-event-from-5
+add-event-from-5 c = search needs
+
+mul-event-from-5 : tie.Need-mul-event-from-5
+mul-event-from-5 c = search needs
+
+shared-slice-read-event-from-5 : tie.Need-shared-slice-read-event-from-5
+shared-slice-read-event-from-5 c = search needs
+
 event-from-requires : tie.Need-event-from-requires
 event-from-requires c κs = search needs
 
@@ -67,5 +76,8 @@ event-at-spec =
     add-event-from-4
     mul-event-from-4
     shared-slice-read-event-from-4
+    add-event-from-5
+    mul-event-from-5
+    shared-slice-read-event-from-5
     event-from-requires
     returns)
