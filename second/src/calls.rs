@@ -55,8 +55,8 @@ impl Reply {
     }
 }
 
-/// Opens a gate under a rule for limits. The settings are reservation, limit, shares and credit of
-/// each guest. Nothing waits in a fresh table, so there is no time to wake.
+/// Opens a gate under a rule for limits. The settings are reservation, limit,
+/// shares and credit of each guest. Nothing waits in a fresh table, so there is no time to wake.
 pub fn open(
     depth: u64,
     guests: u64,
@@ -85,8 +85,8 @@ pub fn open(
     }
 }
 
-pub fn arrive(lent: &mut Tables, guest: u64, id: u32, time: u64) -> Reply {
-    play(lent, |state| state.arrive(guest, id, time))
+pub fn arrive(lent: &mut Tables, guest: u64, id: u32, time: u64, cost: u64) -> Reply {
+    play(lent, |state| state.arrive(guest, id, time, cost))
 }
 
 pub fn complete(lent: &mut Tables, guest: u64, id: u32, time: u64) -> Reply {

@@ -13,6 +13,10 @@ pub const MOST_CAPACITY: u64 = 1_024;
 pub const MOST_RATE: u64 = 1_000_000;
 /// The largest credit, in requests.
 pub const MOST_CREDIT: u64 = 256;
+/// The largest cost of a request; the smallest is 1.
+pub const MOST_COST: u64 = 64;
+/// How far a next number may lie behind the last tag.
+pub const MOST_STEP: u64 = MOST_COST * SECOND;
 
 /// Are depth, guests and capacity in their ranges?
 pub fn counts_good(depth: u64, guests: u64, capacity: u64) -> bool {
@@ -28,6 +32,10 @@ pub const RULE_2: u64 = 2;
 
 pub fn rule_good(rule: u64) -> bool {
     rule == RULE_1 || rule == RULE_2
+}
+
+pub fn cost_good(cost: u64) -> bool {
+    (1..=MOST_COST).contains(&cost)
 }
 
 /// What a guest is opened with. Reservation 0 is none, limit 0 is unlimited.

@@ -2,9 +2,9 @@
 //! the adjustment, the stamping, the choice and the drop.
 //!
 //! Soundness is not tested here. In a sound state every sum below fits 64
-//! bits: a tag is below 2^62, a next number below 2^62 + 10^9.
+//! bits: a tag is below 2^62, a next number below 2^62 + 64 * 10^9.
 
-use crate::numbers::{Settings, CEILING, RULE_1, RULE_2};
+use crate::numbers::{cost_good, Settings, CEILING, RULE_1, RULE_2};
 use crate::tables::{Flight, Guest, Waiting};
 
 #[derive(Clone, Copy, Debug, PartialEq, Eq)]
@@ -61,8 +61,8 @@ impl State {
         }
     }
 
-    pub fn arrive(&mut self, guest: u64, id: u32, t: u64) -> Answer {
-        match self.take_arrival(guest, id, t) {
+    pub fn arrive(&mut self, guest: u64, id: u32, t: u64, cost: u64) -> Answer {
+        match self.take_arrival(guest, id, t, cost) {
             Ok(()) => self.choose(),
             Err(number) => Answer::Refused(number),
         }
@@ -83,9 +83,9 @@ impl State {
     }
 
     /// An arrival up to the choice, or its refusal.
-    pub fn take_arrival(&mut self, guest: u64, id: u32, t: u64) -> Result<(), u8> {
+    pub fn take_arrival(&mut self, guest: u64, id: u32, t: u64, cost: u64) -> Result<(), u8> {
         let id = id as u64;
-        if let Some(number) = self.arrival_refusal(guest, id, t) {
+        if let Some(number) = self.arrival_refusal(guest, id, t, cost) {
             return Err(number);
         }
         // Judged before anything is changed: 9 is the last refusal.
@@ -97,7 +97,7 @@ impl State {
         if let Some(m) = from {
             self.adjust(m, t);
         }
-        self.accept(guest, id, tags);
+        self.accept(guest, id, tags, cost);
         self.time = t;
         Ok(())
     }
@@ -146,10 +146,12 @@ impl State {
         }
     }
 
-    /// 4, 5, 6, 7, 8.
-    fn arrival_refusal(&self, guest: u64, id: u64, t: u64) -> Option<u8> {
+    /// 4, 5, 6, 18, 7, 8.
+    fn arrival_refusal(&self, guest: u64, id: u64, t: u64, cost: u64) -> Option<u8> {
         if let Some(number) = self.named_refusal(guest, t) {
             Some(number)
+        } else if !cost_good(cost) {
+            Some(18)
         } else if self.holds(guest, id) {
             Some(7)
         } else if self.waiting.len() == self.capacity {
@@ -202,24 +204,26 @@ impl State {
         }
     }
 
-    /// Sets the next numbers and places the request last.
-    fn accept(&mut self, guest: u64, id: u64, tags: Tags) {
+    /// Sets the next numbers, which lie as many spacings on as the request
+    /// costs, and places it last.
+    fn accept(&mut self, guest: u64, id: u64, tags: Tags, cost: u64) {
         let Tags { rtag, ltag, stag } = tags;
         let record = &mut self.guests[guest as usize];
         let s = record.settings;
         if s.has_reservation() {
-            record.rnext = rtag + s.reservation_spacing();
+            record.rnext = rtag + cost * s.reservation_spacing();
         }
         if s.has_limit() {
-            record.lnext = ltag + s.limit_spacing();
+            record.lnext = ltag + cost * s.limit_spacing();
         }
-        record.snext = stag + s.share_spacing();
+        record.snext = stag + cost * s.share_spacing();
         self.waiting.push(Waiting {
             guest,
             id,
             rtag,
             ltag,
             stag,
+            cost,
         });
     }
 
@@ -232,8 +236,9 @@ impl State {
             return self.send(place, Phase::Reservation);
         }
         if let Some(place) = self.due_by_weight() {
+            let Waiting { guest, cost, .. } = self.waiting[place];
             let answer = self.send(place, Phase::Weight);
-            self.drop_reservation(self.flight[self.flight.len() - 1].guest);
+            self.drop_reservation(guest, cost);
             return answer;
         }
         Answer::Nothing
@@ -274,19 +279,20 @@ impl State {
         Answer::Sent { phase, guest, id }
     }
 
-    /// After a weight send: the guest does not pay its reservation for
-    /// spare service. The sent one was its first, and open, so under either
-    /// rule its reservation tag was not due: what is left stays above the
-    /// time and cannot fall below 0.
-    fn drop_reservation(&mut self, guest: u64) {
+    /// After a weight send of this cost: the guest does not pay its
+    /// reservation for spare service. The sent one was its first, and open,
+    /// so under either rule its reservation tag was not due, and what is left
+    /// lay the cost further on: it stays above the time and cannot fall below
+    /// 0.
+    fn drop_reservation(&mut self, guest: u64, cost: u64) {
         let record = &mut self.guests[guest as usize];
         if !record.settings.has_reservation() {
             return;
         }
-        let spacing = record.settings.reservation_spacing();
-        record.rnext -= spacing;
+        let drop = cost * record.settings.reservation_spacing();
+        record.rnext -= drop;
         for w in self.waiting.iter_mut().filter(|w| w.guest == guest) {
-            w.rtag -= spacing;
+            w.rtag -= drop;
         }
     }
 }

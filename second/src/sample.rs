@@ -3,7 +3,9 @@
 
 use crate::batch::{ANSWER_NUMBERS, EVENT_NUMBERS, MOST_EVENTS};
 use crate::calls::{read, table_refusal};
-use crate::numbers::{Settings, CEILING, MOST_CREDIT, MOST_RATE, RULE_1, RULE_2, SECOND};
+use crate::numbers::{
+    Settings, CEILING, MOST_COST, MOST_CREDIT, MOST_RATE, MOST_STEP, RULE_1, RULE_2, SECOND,
+};
 use crate::rules::State;
 use crate::tables::{Flight, Gate, Guest, Tables, View, Waiting, FLIGHT_NUMBERS, WAITING_NUMBERS};
 use crate::trace::{ARRIVAL, COMPLETION, TICK};
@@ -66,6 +68,35 @@ fn any_credit(rng: &mut Prng) -> u64 {
         0 => 0,
         1 => rng.pick(&[1, 2, 3, 30, MOST_CREDIT - 1, MOST_CREDIT]),
         _ => rng.between(1, MOST_CREDIT),
+    }
+}
+
+/// A cost from 1 to 64, both ends often.
+pub fn good_cost(rng: &mut Prng) -> u64 {
+    match rng.below(6) {
+        0..=2 => 1,
+        3 => MOST_COST,
+        _ => rng.between(1, MOST_COST),
+    }
+}
+
+/// A cost that is none: 0, 65, huge.
+pub fn bad_cost(rng: &mut Prng) -> u64 {
+    let large = 65 | rng.sized(64);
+    let huge = [256, 257, 1 << 32, (1 << 32) + 1, 1 << 58, u64::MAX, large];
+    match rng.below(3) {
+        0 => 0,
+        1 => MOST_COST + 1,
+        _ => rng.pick(&huge),
+    }
+}
+
+/// A cost of any kind, most often a good one.
+pub fn any_cost(rng: &mut Prng) -> u64 {
+    if rng.chance(4) {
+        bad_cost(rng)
+    } else {
+        good_cost(rng)
     }
 }
 
@@ -198,7 +229,7 @@ fn near(rng: &mut Prng, time: u64) -> u64 {
 
 fn idle_guest(rng: &mut Prng, time: u64) -> Guest {
     let settings = any_settings(rng);
-    let mut next = || near(rng, time) + rng.sized(30).min(SECOND);
+    let mut next = || near(rng, time) + rng.sized(36).min(MOST_STEP);
     let (rnext, lnext, snext) = (next(), next(), next());
     Guest {
         settings,
@@ -253,6 +284,7 @@ fn waiting_request(rng: &mut Prng, number: u64, guest: &Guest, first: bool, time
         ltag: tag(s.has_limit(), guest.lnext),
         stag: tag(true, guest.snext),
         id: some_id(rng),
+        cost: good_cost(rng),
     }
 }
 
@@ -269,16 +301,16 @@ fn followed(guest: Guest, last: &Waiting) -> Guest {
     Guest {
         settings: s,
         rnext: if s.has_reservation() {
-            last.rtag + s.reservation_spacing()
+            last.rtag + last.cost * s.reservation_spacing()
         } else {
             0
         },
         lnext: if s.has_limit() {
-            last.ltag + s.limit_spacing()
+            last.ltag + last.cost * s.limit_spacing()
         } else {
             0
         },
-        snext: last.stag + s.share_spacing(),
+        snext: last.stag + last.cost * s.share_spacing(),
     }
 }
 
@@ -317,11 +349,15 @@ fn with_rest(rng: &mut Prng, mut numbers: Vec<u64>) -> Vec<u64> {
 }
 
 /// Numbers at the ends of ranges, and next to them.
-const EDGES: [u64; 6] = [
+const EDGES: [u64; 10] = [
     CEILING,
     CEILING + 1,
     CEILING + SECOND,
     CEILING + SECOND + 1,
+    CEILING + MOST_STEP,
+    CEILING + MOST_STEP + 1,
+    MOST_COST,
+    MOST_COST + 1,
     MOST_CREDIT,
     MOST_CREDIT + 1,
 ];
@@ -414,11 +450,11 @@ fn batch_events(rng: &mut Prng, tables: &Owned, count: u64) -> Vec<u64> {
     let mut events = Vec::new();
     for _ in 0..count {
         let mut event = batch_event(rng, &state);
-        let [kind, guest, id, time] = event;
+        let [kind, guest, id, time, cost] = event;
         if rng.chance(damaged) {
             damage(rng, &mut event);
         } else if kind == ARRIVAL as u64 {
-            state.arrive(guest, id as u32, time);
+            state.arrive(guest, id as u32, time, cost);
         } else if kind == COMPLETION as u64 {
             state.complete(guest, id as u32, time);
         } else {
@@ -439,13 +475,13 @@ fn batch_event(rng: &mut Prng, state: &State) -> [u64; EVENT_NUMBERS] {
     };
     let (arrival, completion) = (ARRIVAL as u64, COMPLETION as u64);
     match rng.below(10) {
-        0..=4 => [arrival, guest, some_id(rng), time],
+        0..=4 => [arrival, guest, some_id(rng), time, any_cost(rng)],
         5..=7 if !state.flight.is_empty() => {
             let f = rng.pick(&state.flight);
-            [completion, f.guest, f.id, time]
+            [completion, f.guest, f.id, time, 0]
         }
-        8 => [completion, guest, some_id(rng), time],
-        _ => [TICK as u64, 0, 0, time],
+        8 => [completion, guest, some_id(rng), time, 0],
+        _ => [TICK as u64, 0, 0, time, 0],
     }
 }
 
@@ -467,13 +503,16 @@ fn batch_time(rng: &mut Prng, state: &State) -> u64 {
 /// An event that is often none.
 fn damage(rng: &mut Prng, event: &mut [u64; EVENT_NUMBERS]) {
     let tick = TICK as u64;
-    let time = event[3];
-    match rng.below(6) {
+    let [_, _, _, time, cost] = *event;
+    match rng.below(8) {
         0 => event[0] = rng.pick(&[3, 4, 255, 256, 257, 258, 1 << 32, u64::MAX]),
         1 => event[2] |= 1 << 32,
         2 => event[2] = rng.pick(&[1 << 32, (1 << 32) + 1, u64::MAX]),
-        3 => *event = [tick, rng.pick(&[1, 64, 256, 1 << 32]), 0, time],
-        4 => *event = [tick, 0, rng.pick(&[1, 256, 1 << 32, u64::MAX]), time],
-        _ => *event = [rng.sized(3), rng.sized(64), rng.sized(64), rng.sized(64)],
+        3 => *event = [tick, rng.pick(&[1, 64, 256, 1 << 32]), 0, time, cost],
+        4 => *event = [tick, 0, rng.pick(&[1, 256, 1 << 32, u64::MAX]), time, 0],
+        // A cost where none may be, a bad one in an arrival.
+        5 => event[4] = bad_cost(rng),
+        6 => *event = [tick, 0, 0, time, any_cost(rng)],
+        _ => *event = [3, 64, 64, 64, 64].map(|bits| rng.sized(bits)),
     }
 }

@@ -1,7 +1,7 @@
 //! When a table is sound: document 01's rules, in its order. The numbers
 //! may be anything here, so sums are made in 128 bits.
 
-use crate::numbers::{counts_good, rule_good, CEILING, MOST_GUESTS, SECOND};
+use crate::numbers::{cost_good, counts_good, rule_good, CEILING, MOST_GUESTS, MOST_STEP};
 use crate::tables::{Guest, View, Waiting, FLIGHT_NUMBERS, WAITING_NUMBERS};
 
 /// The rules, in the order in which they are tested.
@@ -13,6 +13,7 @@ pub enum Rule {
     GuestsExist,
     IdsFit,
     NoIdTwice,
+    CostsInRange,
     TagsAtMostCeiling,
     TagsSpaced,
     NextFollowsLast,
@@ -27,13 +28,14 @@ type Test = fn(&View) -> bool;
 /// The first broken rule, or none: then the table is sound. To be asked
 /// only when the lengths have been judged, as `table_refusal` does.
 pub fn first_broken(t: &View) -> Option<Rule> {
-    let tests: [(Rule, Test); 12] = [
+    let tests: [(Rule, Test); 13] = [
         (Rule::SettingsInRange, settings_in_range),
         (Rule::CountsFit, counts_fit),
         (Rule::TimeAtMostCeiling, time_at_most_ceiling),
         (Rule::GuestsExist, guests_exist),
         (Rule::IdsFit, ids_fit),
         (Rule::NoIdTwice, no_id_twice),
+        (Rule::CostsInRange, costs_in_range),
         (Rule::TagsAtMostCeiling, tags_at_most_ceiling),
         (Rule::TagsSpaced, tags_spaced),
         (Rule::NextFollowsLast, next_follows_last),
@@ -87,6 +89,10 @@ fn no_id_twice(t: &View) -> bool {
     true
 }
 
+fn costs_in_range(t: &View) -> bool {
+    waiting(t).all(|w| cost_good(w.cost))
+}
+
 fn tags_at_most_ceiling(t: &View) -> bool {
     waiting(t).all(|w| w.rtag <= CEILING && w.ltag <= CEILING && w.stag <= CEILING)
 }
@@ -109,9 +115,10 @@ fn tags_spaced(t: &View) -> bool {
 
 fn spaced(guest: &Guest, earlier: &Waiting, later: &Waiting) -> bool {
     let s = guest.settings;
-    (!s.has_reservation() || sum(earlier.rtag, s.reservation_spacing()) <= wide(later.rtag))
-        && (!s.has_limit() || sum(earlier.ltag, s.limit_spacing()) <= wide(later.ltag))
-        && sum(earlier.stag, s.share_spacing()) <= wide(later.stag)
+    let apart = |tag, spacing| after(tag, earlier.cost, spacing);
+    (!s.has_reservation() || apart(earlier.rtag, s.reservation_spacing()) <= wide(later.rtag))
+        && (!s.has_limit() || apart(earlier.ltag, s.limit_spacing()) <= wide(later.ltag))
+        && apart(earlier.stag, s.share_spacing()) <= wide(later.stag)
 }
 
 fn next_follows_last(t: &View) -> bool {
@@ -123,9 +130,10 @@ fn next_follows_last(t: &View) -> bool {
 
 fn follows(guest: &Guest, last: &Waiting) -> bool {
     let s = guest.settings;
-    (!s.has_reservation() || wide(guest.rnext) == sum(last.rtag, s.reservation_spacing()))
-        && (!s.has_limit() || wide(guest.lnext) == sum(last.ltag, s.limit_spacing()))
-        && wide(guest.snext) == sum(last.stag, s.share_spacing())
+    let next = |tag, spacing| after(tag, last.cost, spacing);
+    (!s.has_reservation() || wide(guest.rnext) == next(last.rtag, s.reservation_spacing()))
+        && (!s.has_limit() || wide(guest.lnext) == next(last.ltag, s.limit_spacing()))
+        && wide(guest.snext) == next(last.stag, s.share_spacing())
 }
 
 fn idle_next_bounded(t: &View) -> bool {
@@ -133,7 +141,7 @@ fn idle_next_bounded(t: &View) -> bool {
 }
 
 fn bounded(guest: &Guest) -> bool {
-    let most = CEILING + SECOND;
+    let most = CEILING + MOST_STEP;
     (!guest.settings.has_reservation() || guest.rnext <= most)
         && (!guest.settings.has_limit() || guest.lnext <= most)
         && guest.snext <= most
@@ -185,6 +193,7 @@ fn wide(n: u64) -> u128 {
     n as u128
 }
 
-fn sum(a: u64, b: u64) -> u128 {
-    a as u128 + b as u128
+/// So many spacings behind a tag.
+fn after(tag: u64, cost: u64, spacing: u64) -> u128 {
+    wide(tag) + wide(cost) * wide(spacing)
 }

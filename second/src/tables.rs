@@ -33,10 +33,11 @@ pub const CREDIT: usize = 6;
 pub const GUEST: usize = 0;
 pub const ID: usize = 1;
 
-pub const WAITING_NUMBERS: usize = 5;
+pub const WAITING_NUMBERS: usize = 6;
 pub const RTAG: usize = 2;
 pub const LTAG: usize = 3;
 pub const STAG: usize = 4;
+pub const COST: usize = 5;
 
 pub const FLIGHT_NUMBERS: usize = 2;
 
@@ -49,7 +50,7 @@ pub struct Guest {
     pub snext: u64,
 }
 
-/// A waiting request with its reservation, limit and share tag.
+/// A waiting request with its reservation, limit and share tag and its cost.
 #[derive(Clone, Copy, Debug, PartialEq, Eq)]
 pub struct Waiting {
     pub guest: u64,
@@ -57,6 +58,7 @@ pub struct Waiting {
     pub rtag: u64,
     pub ltag: u64,
     pub stag: u64,
+    pub cost: u64,
 }
 
 /// A request in flight.
@@ -92,7 +94,9 @@ impl Guest {
 
 impl Waiting {
     pub fn numbers(self) -> [u64; WAITING_NUMBERS] {
-        [self.guest, self.id, self.rtag, self.ltag, self.stag]
+        [
+            self.guest, self.id, self.rtag, self.ltag, self.stag, self.cost,
+        ]
     }
 }
 
@@ -189,6 +193,7 @@ impl View<'_> {
             rtag: n[RTAG],
             ltag: n[LTAG],
             stag: n[STAG],
+            cost: n[COST],
         }
     }
 

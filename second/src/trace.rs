@@ -47,7 +47,7 @@ impl Event {
 }
 
 /// Plays one event up to the choice; 14 is judged before all other
-/// refusals.
+/// refusals. A trace says no costs: each is 1.
 pub fn take(state: &mut State, event: Event) -> Result<(), u8> {
     let Event {
         kind,
@@ -56,7 +56,7 @@ pub fn take(state: &mut State, event: Event) -> Result<(), u8> {
         time,
     } = event;
     match kind {
-        ARRIVAL => state.take_arrival(guest as u64, id, time),
+        ARRIVAL => state.take_arrival(guest as u64, id, time, 1),
         COMPLETION => state.take_completion(guest as u64, id, time),
         TICK if guest == 0 && id == 0 => state.take_tick(time),
         _ => Err(14),

@@ -4,7 +4,7 @@
 mod common;
 use common::*;
 use second::numbers::SECOND;
-use second::sample::{sound_tables, spoil, Owned, Prng};
+use second::sample::{any_cost, sound_tables, spoil, Owned, Prng};
 use second::tables::*;
 use second::Answer::{Nothing, Refused};
 use second::{first_broken, Answer, Tables, CEILING, NEVER};
@@ -111,7 +111,7 @@ fn opening_reads_no_settings_beyond_the_guests() {
 
 fn calls(guest: u64, id: u32, time: u64) -> [Call; 3] {
     [
-        Call::Arrive(guest, id, time),
+        Call::Arrive(guest, id, time, 1),
         Call::Complete(guest, id, time),
         Call::Tick(time),
     ]
@@ -173,8 +173,8 @@ fn short_tables_and_counts_out_of_range() {
 /// One guest waits with id 1 and has id 0 in flight; capacity 1.
 fn busy() -> Owned {
     let mut t = opened(1, 1, &[guest(0, 0, 1), guest(0, 1, 1)]);
-    call(&mut t.lend(), Call::Arrive(0, 0, 10));
-    call(&mut t.lend(), Call::Arrive(0, 1, 10));
+    call(&mut t.lend(), Call::Arrive(0, 0, 10, 1));
+    call(&mut t.lend(), Call::Arrive(0, 1, 10, 1));
     t
 }
 
@@ -198,27 +198,39 @@ fn refusals_come_in_order() {
     for c in calls(2, 0, past) {
         assert_eq!(answer_of(&unsound, c), Refused(3));
     }
-    assert_eq!(answer_of(&high, Call::Arrive(2, 0, past)), Refused(4));
+    assert_eq!(answer_of(&high, Call::Arrive(2, 0, past, 1)), Refused(4));
     assert_eq!(answer_of(&high, Call::Complete(2, 9, 0)), Refused(4));
-    assert_eq!(answer_of(&high, Call::Arrive(0, 0, past)), Refused(5));
+    assert_eq!(answer_of(&high, Call::Arrive(0, 0, past, 1)), Refused(5));
     assert_eq!(answer_of(&high, Call::Complete(0, 9, past)), Refused(5));
     assert_eq!(answer_of(&high, Call::Tick(past)), Refused(5));
-    assert_eq!(answer_of(&high, Call::Arrive(0, 0, 9)), Refused(6));
+    assert_eq!(answer_of(&high, Call::Arrive(0, 0, 9, 1)), Refused(6));
     assert_eq!(answer_of(&high, Call::Complete(0, 9, 9)), Refused(6));
     assert_eq!(answer_of(&high, Call::Tick(9)), Refused(6));
+    // A bad cost comes before a repeated id and a full table.
+    for cost in [0, 65, 256 + 1, u64::MAX] {
+        assert_eq!(answer_of(&high, Call::Arrive(2, 0, past, cost)), Refused(4));
+        assert_eq!(answer_of(&high, Call::Arrive(0, 0, past, cost)), Refused(5));
+        assert_eq!(answer_of(&high, Call::Arrive(0, 0, 9, cost)), Refused(6));
+        assert_eq!(answer_of(&high, Call::Arrive(0, 0, 10, cost)), Refused(18));
+        assert_eq!(answer_of(&high, Call::Arrive(1, 0, 10, cost)), Refused(18));
+        assert_eq!(
+            answer_of(&unsound, Call::Arrive(1, 0, 10, cost)),
+            Refused(3)
+        );
+    }
     // In flight and waiting; the table is full.
-    assert_eq!(answer_of(&high, Call::Arrive(0, 0, 10)), Refused(7));
-    assert_eq!(answer_of(&high, Call::Arrive(0, 1, 10)), Refused(7));
+    assert_eq!(answer_of(&high, Call::Arrive(0, 0, 10, 1)), Refused(7));
+    assert_eq!(answer_of(&high, Call::Arrive(0, 1, 10, 1)), Refused(7));
     // Full, and it would pass the ceiling.
-    assert_eq!(answer_of(&high, Call::Arrive(1, 0, 10)), Refused(8));
+    assert_eq!(answer_of(&high, Call::Arrive(1, 0, 10, 1)), Refused(8));
     // Waiting is not in flight; another guest's id is not one's own.
     assert_eq!(answer_of(&high, Call::Complete(0, 1, 10)), Refused(10));
     assert_eq!(answer_of(&high, Call::Complete(1, 0, 10)), Refused(10));
     assert_eq!(answer_of(&high, Call::Complete(0, 0, 10)), weight(0, 1));
     let mut freed = high.clone();
     call(&mut freed.lend(), Call::Complete(0, 0, 10));
-    assert_eq!(answer_of(&freed, Call::Arrive(1, 0, 10)), Refused(9));
-    assert_eq!(answer_of(&freed, Call::Arrive(0, 0, 10)), Nothing);
+    assert_eq!(answer_of(&freed, Call::Arrive(1, 0, 10, 1)), Refused(9));
+    assert_eq!(answer_of(&freed, Call::Arrive(0, 0, 10, 1)), Nothing);
 }
 
 #[test]
@@ -227,27 +239,27 @@ fn a_send_closes_up_and_leaves_zeros() {
     t.waiting.push(5);
     t.flight.push(6);
     for id in 1..=4 {
-        call(&mut t.lend(), Call::Arrive(0, id, 0));
+        call(&mut t.lend(), Call::Arrive(0, id, 0, 1));
     }
-    call(&mut t.lend(), Call::Arrive(1, 1, 0));
+    call(&mut t.lend(), Call::Arrive(1, 1, 0, 1));
     assert_eq!(t.gate, [2, 2, 3, 0, 3, 2, 1]);
     assert_eq!(t.flight, [0, 1, 0, 2, 6]);
     assert_eq!(
         t.waiting,
-        [0, 3, 0, 0, 0, 0, 4, 0, 0, SECOND, 1, 1, 0, 0, 0, 5]
+        [0, 3, 0, 0, 0, 1, 0, 4, 0, 0, SECOND, 1, 1, 1, 0, 0, 0, 1, 5]
     );
     assert_eq!(call(&mut t.lend(), Call::Complete(0, 1, 0)), weight(0, 3));
     assert_eq!(t.gate, [2, 2, 3, 0, 2, 2, 1]);
     assert_eq!(t.flight, [0, 2, 0, 3, 6]);
     assert_eq!(
         t.waiting,
-        [0, 4, 0, 0, SECOND, 1, 1, 0, 0, 0, 0, 0, 0, 0, 0, 5]
+        [0, 4, 0, 0, SECOND, 1, 1, 1, 0, 0, 0, 1, 0, 0, 0, 0, 0, 0, 5]
     );
     // A later one is sent and those before it stay.
     assert_eq!(call(&mut t.lend(), Call::Complete(0, 2, 0)), weight(1, 1));
     assert_eq!(
         t.waiting[..waiting_at(2, 0)],
-        [0, 4, 0, 0, SECOND, 0, 0, 0, 0, 0]
+        [0, 4, 0, 0, SECOND, 1, 0, 0, 0, 0, 0, 0]
     );
     assert_eq!(call(&mut t.lend(), Call::Complete(1, 1, 7)), weight(0, 4));
     assert_eq!(call(&mut t.lend(), Call::Complete(0, 4, 7)), Nothing);
@@ -267,8 +279,9 @@ fn any_call(rng: &mut Prng) -> Call {
         _ => rng.pick(&[0, CEILING, CEILING + 1, u64::MAX]),
     };
     let id = rng.sized(32) as u32;
+    let cost = any_cost(rng);
     rng.pick(&[
-        Call::Arrive(guest, id, time),
+        Call::Arrive(guest, id, time, cost),
         Call::Complete(guest, id, time),
         Call::Tick(time),
     ])

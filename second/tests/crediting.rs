@@ -24,12 +24,13 @@ fn wait(state: &mut State, stag: u64) {
         rtag: 0,
         ltag: 0,
         stag,
+        cost: 1,
     });
 }
 
 /// The share tag of an arrival, whose next number follows it.
 fn tag_given(mut state: State, t: u64) -> u64 {
-    assert_eq!(state.arrive(0, 1, t), Nothing);
+    assert_eq!(state.arrive(0, 1, t, 1), Nothing);
     let tag = state.waiting[state.waiting.len() - 1].stag;
     assert_eq!(state.guests[0].snext, tag + MS);
     tag
@@ -83,7 +84,7 @@ fn b_does_not_fall_below_0() {
     }
     // The largest credit of the largest spacing.
     let mut state = State::fresh(1, 4, &[credited(256, guest(0, 0, 1))]);
-    assert_eq!(state.arrive(0, 1, 256 * SECOND + 3), weight(0, 1));
+    assert_eq!(state.arrive(0, 1, 256 * SECOND + 3, 1), weight(0, 1));
     assert_eq!(state.guests[0].snext, SECOND + 3);
 }
 
@@ -93,8 +94,8 @@ fn reservations_and_limits_do_not_read_it() {
     let mut state = State::fresh(1, 4, &[settings]);
     state.flight.push(Flight { guest: 0, id: 99 });
     let t = 1_000 * MS;
-    state.arrive(0, 1, t);
-    state.arrive(0, 2, t);
+    state.arrive(0, 1, t, 1);
+    state.arrive(0, 2, t, 1);
     let tags: Vec<_> = state.waiting.iter().map(|w| [w.rtag, w.ltag]).collect();
     assert_eq!(tags, [[t, t], [t + 10 * MS, t + 5 * MS]]);
     assert_eq!(share_tags(&state), [t - 256 * MS, t - 255 * MS]);
@@ -107,10 +108,10 @@ fn desk(credit: u64) -> usize {
     let mut state = State::fresh(1, 200, &settings);
     let t = 120 * SECOND;
     for id in 0..100 {
-        state.arrive(1, id, t);
+        state.arrive(1, id, t, 1);
     }
     for id in 0..30 {
-        state.arrive(0, id, t);
+        state.arrive(0, id, t, 1);
     }
     // How many bids go before the archive has another turn but one.
     let mut flies = state.flight[0];
@@ -141,10 +142,10 @@ fn others_move_to_the_time_and_not_to_b() {
     let settings = [credited(5, guest(0, 0, 1_000)), guest(0, 0, 1_000)];
     let mut state = State::fresh(1, 8, &settings);
     state.flight.push(Flight { guest: 0, id: 99 });
-    state.arrive(1, 1, 0);
-    state.arrive(1, 2, 0);
+    state.arrive(1, 1, 0, 1);
+    state.arrive(1, 2, 0, 1);
     let t = 100 * MS;
-    state.arrive(0, 1, t);
+    state.arrive(0, 1, t, 1);
     assert_eq!(share_tags(&state), [t, t + MS, t - 5 * MS]);
     assert_eq!(state.guests[1].snext, t + 2 * MS);
 }
@@ -155,10 +156,10 @@ fn a_move_starts_from_a_tag_that_lies_back() {
     let mut state = State::fresh(1, 8, &settings);
     state.flight.push(Flight { guest: 0, id: 99 });
     let t = 100 * MS;
-    state.arrive(0, 1, t);
-    state.arrive(0, 2, t);
+    state.arrive(0, 1, t, 1);
+    state.arrive(0, 2, t, 1);
     assert_eq!(share_tags(&state), [t - 5 * MS, t - 4 * MS]);
-    state.arrive(1, 1, t);
+    state.arrive(1, 1, t, 1);
     assert_eq!(share_tags(&state), [t, t + MS, t]);
     assert_eq!(state.guests[0].snext, t + 2 * MS);
 }
@@ -169,8 +170,8 @@ fn at_the_ceiling() {
     let second_waits = |settings: Settings| {
         let mut state = State::fresh(1, 4, &[settings]);
         state.flight.push(Flight { guest: 0, id: 99 });
-        assert_eq!(state.arrive(0, 1, CEILING), Nothing);
-        state.arrive(0, 2, CEILING)
+        assert_eq!(state.arrive(0, 1, CEILING, 1), Nothing);
+        state.arrive(0, 2, CEILING, 1)
     };
     assert_eq!(second_waits(guest(0, 0, 1)), Refused(9));
     assert_eq!(second_waits(credited(1, guest(0, 0, 1))), Nothing);
@@ -191,7 +192,7 @@ fn credit_0_is_the_old_rule() {
         let snext = record.snext;
         let waits = state.waiting.iter().any(|w| w.guest == number);
         let t = (state.time + rng.sized(34)).min(CEILING);
-        if state.take_arrival(number, 1 << 20, t).is_err() {
+        if state.take_arrival(number, 1 << 20, t, 1).is_err() {
             continue;
         }
         let tag = state.waiting[state.waiting.len() - 1].stag;
@@ -216,7 +217,7 @@ fn every_case_comes_up() {
         } = state.guests[number as usize];
         let waits = state.waiting.iter().any(|w| w.guest == number);
         let t = (state.time + rng.sized(34)).min(CEILING);
-        if settings.credit == 0 || state.take_arrival(number, 1 << 20, t).is_err() {
+        if settings.credit == 0 || state.take_arrival(number, 1 << 20, t, 1).is_err() {
             continue;
         }
         let b = t as i128 - settings.credit as i128 * settings.share_spacing() as i128;

@@ -4,7 +4,7 @@
 mod common;
 use common::*;
 use second::calls::read;
-use second::sample::{sound_tables, Prng};
+use second::sample::{any_cost, sound_tables, Prng};
 use second::tables::WAITING_NUMBERS;
 use second::{Answer, State};
 use std::collections::VecDeque;
@@ -16,6 +16,7 @@ struct Request {
     turn: u64,
     id: u64,
     tags: [Option<i128>; 3],
+    cost: i128,
 }
 
 /// A guest: spacing and next number of each kind it has, how far before the
@@ -80,6 +81,7 @@ impl Mirror {
                 turn,
                 id: w.id,
                 tags,
+                cost: w.cost as i128,
             });
             mirror.turn += 1;
         }
@@ -92,7 +94,8 @@ impl Mirror {
         for (number, lane) in self.lanes.iter().enumerate() {
             for q in &lane.queue {
                 let tag = |kind: usize| q.tags[kind].unwrap_or(0) as u64;
-                all.push((q.turn, [number as u64, q.id, tag(R), tag(L), tag(S)]));
+                let (guest, cost) = (number as u64, q.cost as u64);
+                all.push((q.turn, [guest, q.id, tag(R), tag(L), tag(S), cost]));
             }
         }
         all.sort();
@@ -117,7 +120,7 @@ impl Mirror {
     fn play(&mut self, c: Call) -> Answer {
         let kept = self.clone();
         let played = match c {
-            Call::Arrive(guest, id, t) => self.arrive(guest, id as u64, t as i128),
+            Call::Arrive(guest, id, t, cost) => self.arrive(guest, id as u64, t as i128, cost),
             Call::Complete(guest, id, t) => self.complete(guest, id as u64, t as i128),
             Call::Tick(t) => self.clock(t as i128),
         };
@@ -149,9 +152,13 @@ impl Mirror {
         }
     }
 
-    fn arrive(&mut self, guest: u64, id: u64, t: i128) -> Result<(), u8> {
+    fn arrive(&mut self, guest: u64, id: u64, t: i128, cost: u64) -> Result<(), u8> {
         self.known(guest)?;
         self.clock(t)?;
+        if cost == 0 || cost > 64 {
+            return Err(18);
+        }
+        let cost = cost as i128;
         let number = guest as usize;
         let waits = self.lanes[number].queue.iter().any(|q| q.id == id);
         if waits || self.flight.contains(&(guest, id)) {
@@ -177,13 +184,14 @@ impl Mirror {
                     return Err(9);
                 }
                 tags[kind] = Some(tag);
-                lane.next[kind] = tag + spacing;
+                lane.next[kind] = tag + cost * spacing;
             }
         }
         lane.queue.push_back(Request {
             turn: self.turn,
             id,
             tags,
+            cost,
         });
         self.turn += 1;
         Ok(())
@@ -242,29 +250,30 @@ impl Mirror {
         let due = |q: &Request| q.tags[R].is_some_and(|tag| tag <= t);
         let may = |q: &Request| due(q) && (!self.billed || in_limit(q));
         if let Some((_, turn, number)) = self.first(R, may) {
-            let id = self.send(number, turn);
+            let id = self.send(number, turn).id;
             return reservation(number as u64, id);
         }
         if let Some((_, turn, number)) = self.first(S, in_limit) {
-            let id = self.send(number, turn);
+            let sent = self.send(number, turn);
             let lane = &mut self.lanes[number];
             if let Some(spacing) = lane.spacing[R] {
-                lane.next[R] -= spacing;
+                let paid = sent.cost * spacing;
+                lane.next[R] -= paid;
                 for q in &mut lane.queue {
-                    q.tags[R] = q.tags[R].map(|tag| tag - spacing);
+                    q.tags[R] = q.tags[R].map(|tag| tag - paid);
                 }
             }
-            return weight(number as u64, id);
+            return weight(number as u64, sent.id);
         }
         Answer::Nothing
     }
 
-    fn send(&mut self, number: usize, turn: u64) -> u64 {
+    fn send(&mut self, number: usize, turn: u64) -> Request {
         let queue = &mut self.lanes[number].queue;
         let place = queue.iter().position(|q| q.turn == turn).unwrap();
-        let id = queue.remove(place).unwrap().id;
-        self.flight.push((number as u64, id));
-        id
+        let sent = queue.remove(place).unwrap();
+        self.flight.push((number as u64, sent.id));
+        sent
     }
 }
 
@@ -282,7 +291,7 @@ fn any_call(rng: &mut Prng, state: &State) -> Call {
     };
     let guest = rng.below(state.guests.len() as u64 + 1);
     match rng.below(10) {
-        0..=4 => Call::Arrive(guest, rng.sized(9) as u32, time),
+        0..=4 => Call::Arrive(guest, rng.sized(9) as u32, time, any_cost(rng)),
         5..=7 if !state.flight.is_empty() => {
             let f = rng.pick(&state.flight);
             Call::Complete(f.guest, f.id as u32, time)
@@ -302,7 +311,7 @@ fn the_gate_and_its_mirror_agree() {
         for _ in 0..80 {
             let c = any_call(&mut rng, &state);
             let answer = match c {
-                Call::Arrive(guest, id, t) => state.arrive(guest, id, t),
+                Call::Arrive(guest, id, t, cost) => state.arrive(guest, id, t, cost),
                 Call::Complete(guest, id, t) => state.complete(guest, id, t),
                 Call::Tick(t) => state.tick(t),
             };

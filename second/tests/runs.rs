@@ -4,7 +4,7 @@ mod common;
 use common::*;
 use second::calls::read;
 use second::kinds::trace;
-use second::sample::{any_settings, sound_tables, Owned, Prng};
+use second::sample::{any_cost, any_settings, sound_tables, Owned, Prng};
 use second::tables::*;
 use second::trace::{play, Event};
 use second::{first_broken, Answer, Phase, Settings, State, CEILING};
@@ -27,7 +27,7 @@ fn likely_call(rng: &mut Prng, t: &Owned) -> Call {
     let time = likely_time(rng, &state);
     let guest = rng.below(state.guests.len() as u64);
     match rng.below(10) {
-        0..=4 => Call::Arrive(guest, rng.sized(12) as u32, time),
+        0..=4 => Call::Arrive(guest, rng.sized(12) as u32, time, any_cost(rng)),
         5..=7 if !state.flight.is_empty() => {
             let f = rng.pick(&state.flight);
             Call::Complete(f.guest, f.id as u32, time)
@@ -83,7 +83,7 @@ fn accepted_events_keep_soundness_and_refused_ones_everything() {
         assert_eq!(first_broken(&after.view()), None, "{c:?} {answer:?}");
         assert!(after.gate[FLIGHT] <= after.gate[DEPTH]);
         let time = match c {
-            Call::Arrive(_, _, time) | Call::Complete(_, _, time) | Call::Tick(time) => time,
+            Call::Arrive(_, _, time, _) | Call::Complete(_, _, time) | Call::Tick(time) => time,
         };
         assert_eq!(after.gate[TIME], time);
     });
@@ -133,7 +133,7 @@ fn requests_of_one_guest_leave_in_order_of_acceptance() {
             Some(w) => assert_eq!(w.id, id),
             // Nothing of it waited: it is the one that just arrived.
             None => match c {
-                Call::Arrive(g, i, _) => assert_eq!((g, i as u64), (guest, id)),
+                Call::Arrive(g, i, _, _) => assert_eq!((g, i as u64), (guest, id)),
                 _ => panic!("sent from nowhere"),
             },
         }
@@ -252,7 +252,7 @@ fn calls_and_program_agree() {
             for b in bytes[start..].chunks(14) {
                 let e = Event::from_bytes(b.try_into().unwrap());
                 let c = match e.kind {
-                    0 => Call::Arrive(e.guest as u64, e.id, e.time),
+                    0 => Call::Arrive(e.guest as u64, e.id, e.time, 1),
                     1 => Call::Complete(e.guest as u64, e.id, e.time),
                     _ => Call::Tick(e.time),
                 };

@@ -8,28 +8,29 @@ use second::sample::{sound_tables, spoil, Owned, Prng};
 use second::tables::*;
 use second::{first_broken, Rule, CEILING};
 
-/// Depth 2, capacity 4. Guest 0 has all three tags and two waiting, guest
-/// 1 has shares only and one waiting, guest 2 is idle with all three. One
-/// request is in flight.
+/// Depth 2, capacity 4. Guest 0 has all three tags and two waiting of costs
+/// 2 and 3, guest 1 has shares only and one waiting of cost 64, guest 2 is
+/// idle with all three. One request is in flight.
 fn table() -> Owned {
     let settings = [guest(10, 10, 10), guest(0, 0, 1), guest(3, 3, 3)];
     let mut t = opened(2, 4, &settings);
     let tenth = SECOND / 10;
     t.gate[TIME..=FLIGHT].copy_from_slice(&[500, 3, 1]);
-    t.guests[RNEXT..=SNEXT].copy_from_slice(&[tenth * 3, tenth * 4, tenth * 5]);
-    t.guests[guest_at(1, SNEXT)] = SECOND + 7;
+    t.guests[RNEXT..=SNEXT].copy_from_slice(&[tenth * 6, tenth * 7, tenth * 8]);
+    t.guests[guest_at(1, SNEXT)] = 64 * SECOND + 7;
     let waits = [
-        (0, 1, [tenth, tenth * 2, tenth * 3]),
-        (1, 1, [0, 0, 7]),
-        (0, 2, [tenth * 2, tenth * 3, tenth * 4]),
+        (0, 1, [tenth, tenth * 2, tenth * 3], 2),
+        (1, 1, [0, 0, 7], 64),
+        (0, 2, [tenth * 3, tenth * 4, tenth * 5], 3),
     ];
-    for (place, (guest, id, [rtag, ltag, stag])) in waits.into_iter().enumerate() {
+    for (place, (guest, id, [rtag, ltag, stag], cost)) in waits.into_iter().enumerate() {
         let w = Waiting {
             guest,
             id,
             rtag,
             ltag,
             stag,
+            cost,
         };
         put(&mut t.waiting, place, w.numbers());
     }
@@ -132,6 +133,22 @@ fn no_guest_has_one_id_twice() {
 }
 
 #[test]
+fn costs_lie_between_1_and_64() {
+    let rule = Some(Rule::CostsInRange);
+    for place in [0, 1, 2].map(|place| waiting_at(place, COST)) {
+        for cost in [0, 65, 1 << 32, u64::MAX] {
+            assert_eq!(broken(|t| t.waiting[place] = cost), rule);
+        }
+    }
+    // Its spacing times any cost, and a tag on top, is no small number.
+    let far = |t: &mut Owned| {
+        t.waiting[waiting_at(0, COST)] = u64::MAX;
+        t.waiting[waiting_at(0, STAG)] = u64::MAX;
+    };
+    assert_eq!(broken(far), rule);
+}
+
+#[test]
 fn tags_are_at_most_the_ceiling() {
     let rule = Some(Rule::TagsAtMostCeiling);
     let first = [RTAG, LTAG, STAG].map(|kind| waiting_at(0, kind));
@@ -143,13 +160,13 @@ fn tags_are_at_most_the_ceiling() {
     }
     let high = |t: &mut Owned| {
         t.waiting[second] = CEILING;
-        t.guests[guest_at(1, SNEXT)] = CEILING + SECOND;
+        t.guests[guest_at(1, SNEXT)] = CEILING + 64 * SECOND;
     };
     assert_eq!(broken(high), None);
 }
 
 #[test]
-fn later_tags_are_at_least_a_spacing_further_on() {
+fn later_tags_are_the_cost_in_spacings_further_on() {
     let rule = Some(Rule::TagsSpaced);
     for kind in [RTAG, LTAG, STAG] {
         let (first, third) = (waiting_at(0, kind), waiting_at(2, kind));
@@ -157,6 +174,11 @@ fn later_tags_are_at_least_a_spacing_further_on() {
         assert_eq!(broken(|t| t.waiting[first] -= 1), None);
         assert_eq!(broken(|t| t.waiting[third] -= 1), rule);
     }
+    // The earlier one's cost counts, and it may be less than the room is.
+    let first = waiting_at(0, COST);
+    assert_eq!(broken(|t| t.waiting[first] = 3), rule);
+    assert_eq!(broken(|t| t.waiting[first] = 64), rule);
+    assert_eq!(broken(|t| t.waiting[first] = 1), None);
 }
 
 #[test]
@@ -168,14 +190,19 @@ fn a_busy_guests_next_numbers_follow_its_last_tags() {
         assert_eq!(broken(|t| t.guests[place] = u64::MAX), rule);
     }
     assert_eq!(broken(|t| t.waiting[waiting_at(2, RTAG)] += 1), rule);
+    for place in [1, 2].map(|place| waiting_at(place, COST)) {
+        assert_eq!(broken(|t| t.waiting[place] -= 1), rule);
+    }
+    assert_eq!(broken(|t| t.waiting[waiting_at(2, COST)] += 1), rule);
 }
 
 #[test]
 fn an_idle_guests_next_numbers_are_bounded() {
     let rule = Some(Rule::IdleNextBounded);
     for place in [RNEXT, LNEXT, SNEXT].map(|next| guest_at(2, next)) {
-        assert_eq!(broken(|t| t.guests[place] = CEILING + SECOND), None);
-        assert_eq!(broken(|t| t.guests[place] = CEILING + SECOND + 1), rule);
+        let most = CEILING + 64 * SECOND;
+        assert_eq!(broken(|t| t.guests[place] = most), None);
+        assert_eq!(broken(|t| t.guests[place] = most + 1), rule);
         assert_eq!(broken(|t| t.guests[place] = u64::MAX), rule);
     }
 }
@@ -261,7 +288,8 @@ fn plainly_sound(t: &Owned) -> bool {
     let mut named: Vec<(u64, u64)> = waits.iter().map(|w| (w[GUEST], w[ID])).collect();
     named.extend(flies.chunks(FLIGHT_NUMBERS).map(|f| (f[GUEST], f[ID])));
     let named_good = |(g, id): &(u64, u64)| *g < t.gate[GUESTS] && *id < 1 << 32;
-    if !named.iter().all(named_good) {
+    let costs_good = waits.iter().all(|w| (1..65).contains(&w[COST]));
+    if !named.iter().all(named_good) || !costs_good {
         return false;
     }
     named.sort();
@@ -276,14 +304,16 @@ fn plainly_sound(t: &Owned) -> bool {
             (SHARES, STAG, SNEXT),
         ] {
             let tags: Vec<i128> = own.iter().map(|w| n(w[tag])).collect();
+            let costs: Vec<i128> = own.iter().map(|w| n(w[COST])).collect();
             let next = n(g[next]);
             let good = match (spacing(g, kind), tags.last()) {
                 (None, _) => next == 0 && tags.iter().all(|tag| *tag == 0),
-                (Some(_), None) => next <= ceiling + n(SECOND),
-                (Some(apart), Some(last)) => {
-                    let spaced =
-                        (0..tags.len()).all(|j| (0..j).all(|i| tags[j] >= tags[i] + apart));
-                    next == last + apart && spaced && tags.iter().all(|tag| *tag <= ceiling)
+                (Some(_), None) => next <= ceiling + 64 * n(SECOND),
+                (Some(apart), Some(_)) => {
+                    let room = |i: usize| tags[i] + costs[i] * apart;
+                    let last = tags.len() - 1;
+                    let spaced = (0..=last).all(|j| (0..j).all(|i| tags[j] >= room(i)));
+                    next == room(last) && spaced && tags.iter().all(|tag| *tag <= ceiling)
                 }
             };
             if !good {

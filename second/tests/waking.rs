@@ -19,7 +19,7 @@ fn the_example_is_woken_for_each_send() {
     let mut wakes = Vec::new();
     let mut told = |c| wakes.push(reply(&mut t.lend(), c).wake_number());
     for id in 1..=4 {
-        told(Call::Arrive(0, id, 0));
+        told(Call::Arrive(0, id, 0, 1));
     }
     for ms in [4, 8, 10, 9] {
         told(Call::Tick(ms * MS));
@@ -39,10 +39,10 @@ fn the_example_is_woken_for_each_send() {
 fn none_when_nothing_waits_or_no_place_is_free() {
     let mut state = State::fresh(1, 4, &[guest(0, 0, 1), guest(10, 10, 1)]);
     assert_eq!(wake(&state), None);
-    state.arrive(0, 1, 7);
+    state.arrive(0, 1, 7, 1);
     assert_eq!(wake(&state), None);
-    state.arrive(0, 2, 7);
-    state.arrive(1, 1, 7);
+    state.arrive(0, 2, 7, 1);
+    state.arrive(1, 1, 7, 1);
     assert_eq!(state.flight.len(), 1);
     assert_eq!(wake(&state), None);
     state.flight.clear();
@@ -54,7 +54,7 @@ fn now_where_more_is_due_than_one_event_sends() {
     let mut state = State::fresh(4, 8, &[guest(0, 0, 1), guest(0, 1_000, 1)]);
     state.flight = (10..14).map(|id| Flight { guest: 0, id }).collect();
     for id in 1..=3 {
-        state.arrive(0, id, 5);
+        state.arrive(0, id, 5, 1);
     }
     assert_eq!(state.complete(0, 10, 5), weight(0, 1));
     assert_eq!(wake(&state), None);
@@ -72,14 +72,14 @@ fn the_earlier_of_reservation_and_limit_tags_of_all_guests() {
     let settings = [guest(1, 4, 1), guest(3, 3, 1), guest(2, 2, 1)];
     let mut state = State::fresh(8, 8, &settings);
     for number in 0..3 {
-        state.arrive(number, 1, 0);
+        state.arrive(number, 1, 0, 1);
     }
-    state.arrive(2, 2, 0);
+    state.arrive(2, 2, 0, 1);
     assert_eq!(wake(&state), Some(SECOND / 2));
     // Its reservation tag, which is one before its limit tag.
-    state.arrive(1, 2, 0);
+    state.arrive(1, 2, 0, 1);
     assert_eq!(wake(&state), Some(333_333_333));
-    state.arrive(0, 2, 0);
+    state.arrive(0, 2, 0, 1);
     assert_eq!(wake(&state), Some(SECOND / 4));
     // The share tags have no say in when.
     for w in &mut state.waiting {
@@ -92,8 +92,8 @@ fn the_earlier_of_reservation_and_limit_tags_of_all_guests() {
 fn tags_that_mean_nothing_wake_nobody() {
     // At time 0 a meaningless 0 looks like a tag that is due.
     let mut state = State::fresh(2, 4, &[guest(0, 1, 1)]);
-    state.arrive(0, 1, 0);
-    state.arrive(0, 2, 0);
+    state.arrive(0, 1, 0, 1);
+    state.arrive(0, 2, 0, 1);
     assert_eq!(state.waiting[0].rtag, 0);
     assert_eq!(wake(&state), Some(SECOND));
 }
@@ -101,8 +101,8 @@ fn tags_that_mean_nothing_wake_nobody() {
 #[test]
 fn at_the_ceiling() {
     let mut state = State::fresh(2, 4, &[guest(0, 1, 1)]);
-    state.arrive(0, 1, CEILING - SECOND);
-    assert_eq!(state.arrive(0, 2, CEILING - SECOND), Answer::Nothing);
+    state.arrive(0, 1, CEILING - SECOND, 1);
+    assert_eq!(state.arrive(0, 2, CEILING - SECOND, 1), Answer::Nothing);
     assert_eq!(wake(&state), Some(CEILING));
     assert_eq!(state.tick(CEILING), weight(0, 2));
 }
@@ -138,7 +138,7 @@ fn close_tags(rng: &mut Prng) -> State {
     state.flight.push(Flight { guest: 0, id: 9 });
     for id in 1..=rng.between(1, 3) as u32 {
         let time = state.time;
-        state.arrive(rng.below(guests), id, time);
+        state.arrive(rng.below(guests), id, time, 1);
     }
     state.flight.clear();
     state
@@ -194,7 +194,7 @@ fn each_accepted_call_carries_it() {
             for b in events.chunks_exact(EVENT_BYTES) {
                 let e = Event::from_bytes(b.try_into().unwrap());
                 let c = match e.kind {
-                    0 => Call::Arrive(e.guest as u64, e.id, e.time),
+                    0 => Call::Arrive(e.guest as u64, e.id, e.time, 1),
                     1 => Call::Complete(e.guest as u64, e.id, e.time),
                     _ => Call::Tick(e.time),
                 };
@@ -257,7 +257,7 @@ fn whole_microseconds(rng: &mut Prng) -> State {
         .collect();
     let mut state = State::fresh(32, 32, &settings);
     for id in 0..rng.between(5, 25) as u32 {
-        state.arrive(rng.below(3), id, 0);
+        state.arrive(rng.below(3), id, 0, 1);
     }
     state
 }

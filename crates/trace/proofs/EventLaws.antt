@@ -22,7 +22,11 @@ event-by bs g i l h t o p q r s = rw (o, p, s, q, r)
 abbrev pub isBad : (kind guest id : ℕ) → Bool
 isBad kind guest id = ltb 2 kind || (eqb kind 2 && not (eqb guest 0 && eqb id 0))
 
-from-shown : (k g i t : ℕ) → readShown (eventFrom k g i t) ≡ (if isBad k g i then 14 ∷ [] else k ∷ g ∷ i ∷ t ∷ [])
+-- what is shown of the cost: 1 of an arrival, none of another event
+abbrev pub costShown : (kind : ℕ) → ℕ
+costShown kind = if eqb kind 0 then 1 else 0
+
+from-shown : (k g i t : ℕ) → readShown (eventFrom k g i t) ≡ (if isBad k g i then 14 ∷ [] else k ∷ g ∷ i ∷ t ∷ costShown k ∷ [])
 unfolding eventFrom
 from-shown zero g i t = refl
 from-shown (suc zero) g i t = refl
@@ -34,7 +38,7 @@ from-shown (suc (suc (suc k))) g i t =
     simp (ne-eqb n 0 (λ e. omega arith), ne-eqb n 1 (λ e. omega arith), ne-eqb n 2 (λ e. omega arith), lt-ltb 2 n (omega arith))
 
 -- an event is what its bytes say, field by field, or it is bad
-pub event-shown : (bs : List ℕ) → readShown (eventOf bs) ≡ (if isBad (byteAt bs 0) (byteAt bs 1) (fourAt bs 2) then 14 ∷ [] else byteAt bs 0 ∷ byteAt bs 1 ∷ fourAt bs 2 ∷ eightAt bs 6 ∷ [])
+pub event-shown : (bs : List ℕ) → readShown (eventOf bs) ≡ (if isBad (byteAt bs 0) (byteAt bs 1) (fourAt bs 2) then 14 ∷ [] else byteAt bs 0 ∷ byteAt bs 1 ∷ fourAt bs 2 ∷ eightAt bs 6 ∷ costShown (byteAt bs 0) ∷ [])
 unfolding eventOf
 event-shown bs = from-shown (byteAt bs 0) (byteAt bs 1) (fourAt bs 2) (eightAt bs 6)
 

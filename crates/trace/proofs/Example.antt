@@ -5,7 +5,7 @@ use mathlib.Core.List.{List, [], _∷_, _++_}
 use Rattle.lists.specs.Words.{lowest}
 use Rattle.rules.specs.Numbers.{down, up}
 use Rattle.rules.specs.Tables.{idle}
-use Rattle.rules.specs.Sound.{counted, settled, ranges, distinct, lawful, kept, orderly, ruled, sound}
+use Rattle.rules.specs.Sound.{counted, settled, ranges, distinct, lawful, fair, kept, orderly, ruled, sound}
 use Rattle.rules.specs.Choice.{dueAt, openAt, passesAt, sending, earlier, sooner, dropped, byWeight, byReservation, room, choice}
 use Rattle.rules.specs.Events.{shifted, shiftedNext, adjusted, back, shareTag, stamped, following, placed, arriveAs, arrive, complete, wait, enter}
 use Rattle.rules.specs.Refusals.{eventTests}
@@ -49,7 +49,7 @@ text =
 
 -- document 01's example, byte by byte
 pub example-printed : printed example ≡ text
-unfolding lowest down up idle counted settled ranges distinct lawful kept orderly sound ruled dueAt openAt passesAt sending earlier sooner dropped byWeight byReservation room choice shifted shiftedNext adjusted back shareTag stamped following placed arriveAs arrive complete wait enter eventTests decided step fresh same headerTests eventFrom eventOf eventsOf decimalIn lineOf answered answersTo tableAfter linesFrom lines left cut finished printed
+unfolding lowest down up idle counted settled ranges distinct lawful fair kept orderly sound ruled dueAt openAt passesAt sending earlier sooner dropped byWeight byReservation room choice shifted shiftedNext adjusted back shareTag stamped following placed arriveAs arrive complete wait enter eventTests decided step fresh same headerTests eventFrom eventOf eventsOf decimalIn lineOf answered answersTo tableAfter linesFrom lines left cut finished printed
 example-printed = refl
 
 -- HEADERS AND EVENTS THAT ARE REFUSED

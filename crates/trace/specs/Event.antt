@@ -13,17 +13,17 @@ use Rattle.trace.specs.Little.{byteAt, fourAt, eightAt}
 use Rattle.trace.specs.declared.Read.{Read}
 use Rattle.trace.specs.declared.Read.the-variants.{Good, Bad}
 
--- the paper's number and values of an event: its kind, guest, id and time as they stand in the bytes, or 14 where it is bad
+-- the paper's number and values of an event: its kind, guest, id and time as they stand in the bytes, and the cost of an arrival, or 14 where it is bad
 abbrev pub readShown : Read → List ℕ
-readShown (Good (Arrival a time)) = 0 ∷ a .guest ∷ a .id ∷ time ∷ []
-readShown (Good (Completion f time)) = 1 ∷ f .guest ∷ f .id ∷ time ∷ []
-readShown (Good (Tick time)) = 2 ∷ 0 ∷ 0 ∷ time ∷ []
+readShown (Good (Arrival a time)) = 0 ∷ a .guest ∷ a .id ∷ time ∷ a .cost ∷ []
+readShown (Good (Completion f time)) = 1 ∷ f .guest ∷ f .id ∷ time ∷ 0 ∷ []
+readShown (Good (Tick time)) = 2 ∷ 0 ∷ 0 ∷ time ∷ 0 ∷ []
 readShown Bad = numberOf BadEvent ∷ []
 
--- an event of this kind, guest, id and time
+-- an event of this kind, guest, id and time. Document 02, K9: "from version 1 to 2 (rule 1, credit 0, cost 1)": a trace of version 1 cannot say a cost
 unfoldable pub eventFrom : (kind guest id time : ℕ) → Read
 eventFrom kind guest id time =
-    if eqb kind 0 then Good (Arrival (record { guest = guest; id = id }) time)
+    if eqb kind 0 then Good (Arrival (record { guest = guest; id = id; cost = 1 }) time)
     else if eqb kind 1 then Good (Completion (record { guest = guest; id = id }) time)
     else if eqb kind 2 && eqb guest 0 && eqb id 0 then Good (Tick time)
     else Bad

@@ -18,12 +18,12 @@ fn eight(low: u32, high: u32) -> u64
     low as u64 + 4294967296 * (high as u64)
 }
 
-// The event that its four fields make.
+// The event that its four fields make: in a trace of version 1 every cost is 1.
 fn event_from(kind: u8, guest: u64, id: u32, time: u64) -> Read
     ensures { λ r. ⌜ r ≡ eventFrom kind guest id time ⌝ }
 {
     if kind == 0 {
-        return Read::Good(Event::Arrival(Arriving { guest, id }, time));
+        return Read::Good(Event::Arrival(Arriving { guest, id, cost: 1 }, time));
     }
     if kind == 1 {
         return Read::Good(Event::Completion(Flight { guest, id }, time));

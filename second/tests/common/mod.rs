@@ -94,7 +94,7 @@ pub fn opened_under(rule: u64, depth: u64, capacity: u64, settings: &[Settings])
 
 #[derive(Clone, Copy, Debug)]
 pub enum Call {
-    Arrive(u64, u32, u64),
+    Arrive(u64, u32, u64, u64),
     Complete(u64, u32, u64),
     Tick(u64),
 }
@@ -106,7 +106,7 @@ pub fn call(lent: &mut Tables, call: Call) -> Answer {
 
 pub fn reply(lent: &mut Tables, call: Call) -> Reply {
     match call {
-        Call::Arrive(guest, id, time) => second::arrive(lent, guest, id, time),
+        Call::Arrive(guest, id, time, cost) => second::arrive(lent, guest, id, time, cost),
         Call::Complete(guest, id, time) => second::complete(lent, guest, id, time),
         Call::Tick(time) => second::tick(lent, time),
     }
