@@ -1,4 +1,5 @@
--- Readings of document 02, K8: what a cost does to tags, next numbers, the drop and soundness, and when it is refused. Assumes nothing.
+-- Readings of document 02, K8: what a cost does to tags, next numbers, the drop and soundness, and when it is refused. Words in quotes are K8's.
+-- Assumes nothing.
 use mathlib.Core.Path.{_≡_, refl}
 use mathlib.Core.Bool.{true, false}
 use mathlib.Core.List.{List, [], _∷_}

@@ -1,4 +1,4 @@
--- Document 02, K8, "Cost 1 is the old gate", over any run: from a table that is sound by the old rule and in which every cost is 1, arrivals of cost 1
+-- Document 02, K8: "Cost 1 is the old gate", over any run: from a table that is sound by the old rule and in which every cost is 1, arrivals of cost 1
 -- give the same answers and the same tables by the gate with costs and by the gate without, refused ones among them. Assumes nothing.
 use mathlib.Core.Path.{_≡_, refl, sym, ap, _∙_}
 use mathlib.Core.Bool.{Bool, true, false, not, _&&_, true≢false}

@@ -81,8 +81,8 @@ timeCases now t cs =
 abbrev pub guestCases : (g now : ℕ) → Table → List Case → List Case
 guestCases g now t cs = record { number = 4; condition = length (t .guests) ≤ g } ∷ timeCases now t cs
 
--- an event's own cases. Document 02, K8: "a cost outside 1 to 64 is 18, after 6 and before 7". 7, "arrival: guest has this id waiting or in flight"; 8, "arrival: waiting count equals capacity"; 9, "arrival: a tag
--- given, or a share tag moved, would pass the ceiling"; 10, "completion: guest has no such id in flight"
+-- an event's own cases. 7, "arrival: guest has this id waiting or in flight"; 8, "arrival: waiting count equals capacity"; 9, "arrival: a tag
+-- given, or a share tag moved, would pass the ceiling"; 10, "completion: guest has no such id in flight". Document 02, K8: "a cost outside 1 to 64 is 18, after 6 and before 7"
 unfoldable pub eventCases : Table → Event → List Case
 eventCases t (Arrival a now) =
     guestCases (a .guest) now t
