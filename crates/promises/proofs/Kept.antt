@@ -9,6 +9,7 @@ use Rattle.rules.proofs.Credit.{credit-0}
 use Rattle.rules.proofs.Bursts.{bursts}
 use Rattle.rules.proofs.WakeFits.{accepted-wakes, accepted-none, wakes-once}
 use Rattle.worth.proofs.Worth.{limit-worth}
+use Rattle.worth.proofs.Counted.{none-missed}
 use Rattle.gate.specs.Promise.{Lending, numbers}
 use Rattle.gate.proofs.Lending.{Lawful, numbers-lawful}
 use Rattle.gate.proofs.Refusing.{called-exactly, open-exactly, refusal-keeps, opening-keeps}
@@ -60,6 +61,7 @@ rules-kept =
       wakes-none = accepted-none;
       wakes-once = wakes-once;
       worth = limit-worth;
+      none-missed = none-missed;
       credit-0 = credit-0;
       readings = readings;
       bursts = bursts;

@@ -6,9 +6,9 @@ use mathlib.Core.Bool.{Bool, true, false, not}
 use mathlib.Core.List.{List, [], _++_, map}
 use mathlib.Core.Logic.{_↔_, _⊎_}
 use lib.ListN.{length, take, drop}
-use Rattle.lists.specs.Words.{if_then_else_, all}
+use Rattle.lists.specs.Words.{if_then_else_, all, filter}
 use Rattle.rules.specs.Numbers.{tagAt}
-use Rattle.rules.specs.Tables.{Request, Table, owner}
+use Rattle.rules.specs.Tables.{Request, Table, owner, idle}
 use Rattle.rules.specs.Sound.{sound}
 use Rattle.rules.specs.Answers.{shown, taken}
 use Rattle.rules.specs.Choice.{Result, due, open?}
@@ -37,7 +37,9 @@ use Rattle.rules.specs.declared.Wake.the-variants.{Never}
 use Rattle.rules.proofs.Readings.{Readings}
 use Rattle.rules.proofs.Bursts.{Bursts}
 use Rattle.rules.proofs.Trials.{X}
+use Rattle.worth.specs.Passages.{passages}
 use Rattle.worth.specs.Worth.{Worth}
+use Rattle.worth.proofs.Counted.{own}
 use Rattle.table.specs.Columns.{settingsWide}
 use Rattle.gate.specs.Promise.{Lending, numbers, HandedIn, tableIn, seenIn, shortIn, soundIn, unchangedIn, calledIn, settingsIn, openShortIn, unopened, openedIn, opened}
 use Rattle.gate.specs.Needs.{Beyond, Alike, Same}
@@ -89,6 +91,7 @@ pub record OnTheRules : Type 0 where
       → (told (step t e) ≡ Never) ↔ ((step t e .table .setup .depth ≤ length (step t e .table .flight)) ⊎ (step t e .table .waiting ≡ []))
   pub wakes-once : (t : Table) → sound t ≡ true → (w x : Wake) → Wakes t w → Wakes t x → w ≡ x
   pub worth : (t : Table) (es : List Event) → sound t ≡ true → Worth t es (answers t es)
+  pub none-missed : (g : ℕ) (t : Table) (es : List Event) → sound t ≡ true → idle t g ≡ true → length (filter (own g) (passages es (answers t es))) ≡ length (left g (answers t es))
   pub credit-0 : (now : ℕ) (h : Guest) → h .settings .credit ≡ 0 → (idle : Bool) → shareTag idle now h ≡ (if idle then now else tagAt now (h .snext))
   pub readings : Readings
   pub bursts : Bursts

@@ -90,7 +90,7 @@ not-true true e = absurd (false≢true e)
 not-true false e = refl
 
 -- a note under another name changes nothing of what is noted under theirs
-other-note : (f : Request → List Note → Bool) (x : Note) (h : List Note) (l : List Request) → Lack x l
+pub other-note : (f : Request → List Note → Bool) (x : Note) (h : List Note) (l : List Request) → Lack x l
     → all (λ q. f q (latest (name q) (x ∷ h))) l ≡ all (λ q. f q (latest (name q) h)) l
 other-note f x h [] n = refl
 other-note f x h (q ∷ l) n =

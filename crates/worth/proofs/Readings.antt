@@ -1,20 +1,20 @@
 -- Readings of what a limit is worth, as one table under a single statement: that the bound is met, what it does not bound, and that under rule 1 it is
 -- not one of all sends. Assumes nothing.
 use mathlib.Core.Path.{_≡_, refl}
-use mathlib.Core.Bool.{true, false}
+use mathlib.Core.Bool.{true}
 use mathlib.Core.List.{List, [], _∷_}
 use Prim.Native.Nat.{ℕ}
 use lib.Dec.{leb}
-use Rattle.rules.specs.Tables.{Request, Table}
+use Rattle.rules.specs.Tables.{Table}
 use Rattle.rules.specs.Run.{answers, fresh}
 use Rattle.rules.specs.declared.Phase.{Phase}
-use Rattle.rules.specs.declared.Phase.the-variants.{Reservation, Weight}
+use Rattle.rules.specs.declared.Phase.the-variants.{Weight}
 use Rattle.rules.specs.declared.Event.{Event}
 use Rattle.rules.specs.declared.Event.the-variants.{Tick}
-use Rattle.rules.proofs.Trials.{ms, settings, comesFor, comes, ends, -, R, W, X, lines}
+use Rattle.rules.proofs.Trials.{ms, settings, comesFor, comes, ends, -, W, X, lines}
 use Rattle.rules.proofs.Readings.{oneBy, ten}
 use Rattle.worth.specs.Passages.{Passage, passagesFrom, passages}
-use Rattle.worth.specs.Worth.{between, byWeight, costButLast, takes}
+use Rattle.worth.specs.Worth.{between, byWeight, takes}
 
 -- the passages of a run from t
 abbrev through : Table → List Event → List Passage

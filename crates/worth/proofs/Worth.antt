@@ -1,7 +1,7 @@
 -- What a limit is worth, over any run from a sound table: document 02, K11. Assumes nothing.
 use mathlib.Core.Path.{_≡_, refl, sym, ap, subst, _∙_}
 use mathlib.Core.Bool.{Bool, true, false, not, _&&_, false≢true}
-use mathlib.Core.List.{List, [], _∷_, _++_, map, append-nil}
+use mathlib.Core.List.{List, [], _∷_, map, append-nil}
 use mathlib.Core.Logic.{_⊎_, inl, inr, ⊎-elim}
 use Prim.Native.Nat.{ℕ, _≤_, _<_, _+_, _-_, _*_, max}
 use native.Mathlib.Omega.{arith}
@@ -15,7 +15,7 @@ use Rattle.rules.specs.Tables.{Request, Table, limited, lplain, lspacing, nobod
 use Rattle.rules.specs.Answers.{taken}
 use Rattle.rules.specs.Sound.{sound}
 use Rattle.rules.specs.Events.{moment, calledBy, smallest, shifted, shiftedNext, adjusted, stamped, following, placed, stampedFor, arriveAs, arrive, complete, wait, enter}
-use Rattle.rules.specs.Choice.{Result, picked, least, due, open?, dueAt, openAt, passesAt, passes, sending, earlier, sooner, dropOf, dropped, choice}
+use Rattle.rules.specs.Choice.{Result, picked, due, open?, dueAt, openAt, passesAt, passes, sending, earlier, sooner, dropOf, dropped, choice}
 use Rattle.rules.specs.Refusals.{Verdict, accept, refuse, isAccept, verdict, tests, eventTests, accepted}
 use Rattle.rules.specs.Run.{decided, step, answers}
 use Rattle.rules.specs.declared.Settings.{Settings}
@@ -27,12 +27,11 @@ use Rattle.rules.specs.declared.Phase.the-variants.{Reservation, Weight}
 use Rattle.rules.specs.declared.Arriving.{Arriving}
 use Rattle.rules.specs.declared.Event.{Event}
 use Rattle.rules.specs.declared.Event.the-variants.{Arrival, Completion, Tick}
-use Rattle.rules.specs.declared.Answer.{Answer}
 use Rattle.rules.specs.declared.Answer.the-variants.{Sent}
 use Rattle.rules.proofs.Judged.{condition, passed}
 use Rattle.rules.proofs.Chains.{kept-above}
-use Rattle.rules.proofs.SameSettings.{SameSettings, same-owner, same-count, adjusted-settings, enter-settings, step-settings}
-use Rattle.rules.proofs.Facts.{Sound, sound-is, orderly-is, any-orderly}
+use Rattle.rules.proofs.SameSettings.{same-owner, same-count, adjusted-settings, enter-settings, step-settings}
+use Rattle.rules.proofs.Facts.{Sound, orderly-is, any-orderly}
 use Rattle.rules.proofs.Firsts.{First, first-due, first-open}
 use Rattle.rules.proofs.ArriveSound.{adjusted-names}
 use Rattle.rules.proofs.EnterSound.{accepted-later, enter-time, enter-sound}
@@ -41,7 +40,7 @@ use Rattle.rules.proofs.Bounds.{choice-time}
 use Rattle.rules.proofs.Answered.{unrefused}
 use Rattle.rules.proofs.Cases.{choice-by}
 use Rattle.worth.specs.Passages.{Note, called, noted, latest, Passage, gone, ended, passagesFrom, passages}
-use Rattle.worth.specs.Worth.{between, isWeight, byWeight, costButLast, settingsAt, takes, Worth}
+use Rattle.worth.specs.Worth.{between, isWeight, byWeight, settingsAt, takes, Worth}
 use Rattle.worth.proofs.Notes.{Kept, kept-begins, kept-later, kept-like, Lack, kept-noted, kept-comes, Pays, Left, Counts, other-unpaid, kept-goes, Room, room-more, room-of}
 
 -- the next limit number of a guest, where those of all are the same
@@ -50,13 +49,25 @@ same-lnext us ts e g =
     sym (List·getD-map Guest.lnext us g nobodys) ∙ ap (λ (l : List ℕ). getD l g 0) e ∙ List·getD-map Guest.lnext ts g nobodys
 
 -- a refused event is not taken
-refused-taken : (t : Table) (e : Event) → accepted t e ≡ false → taken (step t e .answer) ≡ false
+pub refused-taken : (t : Table) (e : Event) → accepted t e ≡ false → taken (step t e .answer) ≡ false
 unfolding step decided
 refused-taken t e = go (verdict t e)
   where
     go : (v : Verdict) → isAccept v ≡ false → taken (decided v t e .answer) ≡ false
     go accept h = absurd (false≢true (sym h))
     go (refuse r) h = refl
+
+-- nothing that waits has the name of an arrival that is accepted, the shares settled or not
+pub arrival-lacks : (t : Table) (x : Arriving) (now : ℕ) → accepted t (Arrival x now) ≡ true → (b : Bool) (g : ℕ)
+    → Lack (record { guest = x .guest; id = x .id; cost = x .cost; time = now }) (mine g ((adjusted b now t) .waiting))
+unfolding eventTests
+arrival-lacks t x now y b g =
+    let u = adjusted b now t in
+    let f : Flight → Bool = λ f. not (same (calledBy x) f) in
+    let found : all f (names t) ≡ true = not-false (all f (names t)) (passed (tests false (not (sound t)) t (Arrival x now)) y 7) in
+    let still : all f (names u) ≡ true = rw (adjusted-names t now b) found in
+    all-filter (λ q. not (same (calledBy x) (name q))) (of g) (u .waiting)
+    (sym (all-of-map f name (u .waiting)) ∙ all-parts f (map name (u .waiting)) (u .flight) still .0)
 
 module _ (g a : ℕ) where
   -- what waits of guest g in the table t, beside the notes h
@@ -139,11 +150,7 @@ module _ (g a : ℕ) where
         cs = passed (tests false (not (sound t)) t (Arrival x now)) y
 
         lack : Lack n (mine g (u .waiting))
-        lack =
-            let f : Flight → Bool = λ f. not (same (calledBy x) f) in
-            let all-lack : all f (names u) ≡ true = rw (adjusted-names t now b) (not-false (all f (names t)) (cs 7)) in
-            all-filter (λ q. not (same (calledBy x) (name q))) (of g) (u .waiting)
-            (sym (all-of-map f name (u .waiting)) ∙ all-parts f (map name (u .waiting)) (u .flight) all-lack .0)
+        lack = arrival-lacks t x now y b g
 
         at-time : u .time ≤ now
         at-time = rw (adjusted-time b now t) (accepted-later t (Arrival x now) y)
