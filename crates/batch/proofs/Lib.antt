@@ -6,4 +6,5 @@ pub mod Kept
 pub mod Exactly
 pub mod OneByOne
 pub mod Demand3
+pub mod Worth
 pub mod Beyond

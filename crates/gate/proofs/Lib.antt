@@ -8,6 +8,7 @@ pub mod Written
 pub mod Runs
 pub mod Order
 pub mod Demand3
+pub mod Worth
 pub mod Opened
 pub mod Returns
 pub mod OpenReturns

@@ -1,24 +1,27 @@
 -- Batches through C: what `sgq_batch` hands back is the batch over numbers, so 16 and 17 are exact, any two outcomes are equal, a refused batch leaves the seven
--- numbers, and a host in C holds after a run of batches what a host over numbers holds; demand 3 then stands through it. Assumes nothing.
+-- numbers, and a host in C holds after a run of batches what a host over numbers holds; demand 3 and what a limit is worth then stand through it. Assumes nothing.
 use Prim.Native.Nat.{ℕ}
 use mathlib.Core.Path.{_≡_, refl, sym, ap, _∙_}
 use mathlib.Core.Bool.{true}
-use mathlib.Core.List.{List, [], _∷_}
+use mathlib.Core.List.{List, [], _∷_, map}
 use lib.ListN.{length}
 use Rattle.rules.specs.Refused.{RefusedExactly}
 use Rattle.rules.specs.TurnAt.{TurnKept}
 use Rattle.rules.specs.declared.Gate.{Gate}
+use Rattle.rules.specs.declared.Outcome.{Outcome}
+use Rattle.worth.specs.Worth.{Worth}
 use Rattle.gate.specs.Promise.{numbers}
 use Rattle.gate.specs.Calls.{Host, firm}
 use Rattle.gate.specs.declared.numbers.Judged.{Judged}
 use Rattle.gate.specs.declared.numbers.Judged.the-variants.{Good, Bad}
 use Rattle.gate.proofs.Lending.{numbers-lawful}
-use Rattle.batch.specs.Promise.{foundOf, BatchIn, seenBatch, batched}
-use Rattle.batch.specs.Batches.{batchCases, Batch, batch, leaves, heldBatches, allDone, freeAnswers}
+use Rattle.batch.specs.Promise.{foundOf, BatchIn, seenBatch, batched, outcomes}
+use Rattle.batch.specs.Batches.{batchCases, goods, good, Batch, batch, leaves, heldBatches, allDone, freeAnswers}
 use Rattle.batch.proofs.Once.{seen-batch-once}
 use Rattle.batch.proofs.Kept.{batch-refusal-keeps}
 use Rattle.batch.proofs.Exactly.{batch-exactly}
 use Rattle.batch.proofs.Demand3.{batches-firm, batches-demand-3}
+use Rattle.batch.proofs.Worth.{batches-worth}
 use Rattle.host.specs.Host.{gateIn, foundWritten, batchHosted}
 use Rattle.host.specs.Calls.{Lent, inside, shownBy, BackBatch, throughBatch, keptBatch, heldByBatches, RefusesBatch, TakesBatch}
 use Rattle.host.proofs.Runs.{gate-back, seven-over}
@@ -78,3 +81,8 @@ through-batches-firm bs h seven f = ap (firm numbers) (batches-back bs h seven) 
 pub through-batches-demand-3 : (h : Lent) (bs : List Batch) → firm numbers (inside h) ≡ true → (i : ℕ)
     → TurnKept (shownBy h) i (freeAnswers numbers (inside h) (allDone bs))
 through-batches-demand-3 h bs f i = batches-demand-3 numbers numbers-lawful (inside h) bs f i
+
+-- what a limit is worth, of the answers to their events
+pub through-batches-worth : (h : Lent) (bs : List Batch) → firm numbers (inside h) ≡ true
+    → Worth (shownBy h) (goods (allDone bs)) (map Outcome.answer (good (allDone bs) (outcomes numbers (inside h) (allDone bs))))
+through-batches-worth h bs f = batches-worth numbers numbers-lawful (inside h) bs f

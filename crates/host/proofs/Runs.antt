@@ -1,5 +1,5 @@
 -- The demands through C, over the gate's seven numbers and the three tables as a host holds them: each refusal number exactly, a run of calls is a run
--- of steps of document 01, order of acceptance, demand 3, and tables that stay sound. What is written over the seven numbers reads back as that
+-- of steps of document 01, order of acceptance, demand 3, what a limit is worth, and tables that stay sound. What is written over the seven numbers reads back as that
 -- gate, so the calls through C are those of crate gate. Assumes nothing.
 use Prim.Native.Nat.{ℕ}
 use mathlib.Core.Path.{_≡_, refl, sym, ap, _∙_}
@@ -22,6 +22,7 @@ use Rattle.rules.specs.declared.Phase.the-variants.{Reservation, Weight}
 use Rattle.rules.specs.declared.Answer.{Answer}
 use Rattle.rules.specs.declared.Answer.the-variants.{Nothing, Sent, Refused}
 use Rattle.rules.specs.declared.Wake.{Wake}
+use Rattle.worth.specs.Worth.{Worth}
 use Rattle.gate.specs.Promise.{numbers, called, opened, settingsIn, tableIn, shortIn, soundIn, openShortIn, HandedIn}
 use Rattle.gate.specs.Calls.{Host, holds, call, held, replies, wakings, firm, narrow, took, finds, freeReplies}
 use Rattle.gate.proofs.Lending.{numbers-lawful}
@@ -29,6 +30,7 @@ use Rattle.gate.proofs.Runs.{calls-run}
 use Rattle.gate.proofs.Opened.{opened-firm}
 use Rattle.gate.proofs.Order.{calls-in-order}
 use Rattle.gate.proofs.Demand3.{calls-demand-3-places}
+use Rattle.gate.proofs.Worth.{calls-worth}
 use Rattle.gate.proofs.Refusing.{refusal-keeps, called-exactly, open-exactly}
 use Rattle.gate.specs.Replies.{fourOf, fifthOf, four, replyOf}
 use Rattle.host.specs.Host.{gateIn, gateOver, written, hosted}
@@ -172,6 +174,13 @@ free-back (e ∷ es) h seven =
 pub through-demand-3 : (h : Lent) (es : List Event) → length (h .seven) ≡ 7 → firm numbers (inside h) ≡ true → all narrow es ≡ true → (i : ℕ)
     → (got : List Answer) × (freeFours h es ≡ map fourOf got) × TurnKept (shownBy h) i got
 through-demand-3 h es seven f n i = (freeReplies numbers (inside h) es, free-back es h seven, calls-demand-3-places numbers numbers-lawful (inside h) es f n i)
+
+-- WHAT A LIMIT IS WORTH
+
+-- Document 02, K11, of the events and their answers; the answers are those whose four numbers the calls gave.
+pub through-worth : (h : Lent) (es : List Event) → length (h .seven) ≡ 7 → firm numbers (inside h) ≡ true → all narrow es ≡ true
+    → (got : List Answer) × (fours h es ≡ map fourOf got) × Worth (shownBy h) es got
+through-worth h es seven f n = (replies numbers (inside h) es, fours-back es h seven, calls-worth numbers numbers-lawful (inside h) es f n)
 
 -- REFUSED EXACTLY
 

@@ -8,6 +8,8 @@ use Rattle.rules.proofs.Readings.{readings}
 use Rattle.rules.proofs.Credit.{credit-0}
 use Rattle.rules.proofs.Bursts.{bursts}
 use Rattle.rules.proofs.WakeFits.{accepted-wakes, accepted-none, wakes-once}
+use Rattle.worth.proofs.Worth.{limit-worth}
+use Rattle.worth.proofs.Counted.{none-missed}
 use Rattle.gate.specs.Promise.{Lending, numbers}
 use Rattle.gate.proofs.Lending.{Lawful, numbers-lawful}
 use Rattle.gate.proofs.Refusing.{called-exactly, open-exactly, refusal-keeps, opening-keeps}
@@ -18,11 +20,12 @@ use Rattle.gate.proofs.Beyond.{called-beyond, opened-beyond}
 use Rattle.gate.proofs.Unread.{called-unread, opened-unread}
 use Rattle.gate.proofs.Order.{calls-in-order}
 use Rattle.gate.proofs.Demand3.{calls-demand-3-places, calls-no-place}
+use Rattle.gate.proofs.Worth.{calls-worth}
 use Rattle.gate.proofs.Wakes.{calls-wake, opening-wakes}
 use Rattle.records.specs.Promise.{records}
 use Rattle.records.proofs.Lawful.{records-lawful}
 use Rattle.host.proofs.Once.{four-once, fifth-once, open-once}
-use Rattle.host.proofs.Runs.{through-exactly, through-open-exactly, through-opened, through-run, through-in-order, through-demand-3}
+use Rattle.host.proofs.Runs.{through-exactly, through-open-exactly, through-opened, through-run, through-in-order, through-demand-3, through-worth}
 use Rattle.host.proofs.Wakes.{through-wakes, through-refused-wakes, through-opening-wakes, through-refused-opening-wakes}
 use Rattle.trace.proofs.HeaderExactly.{header-exactly}
 use Rattle.trace.proofs.LineExactly.{line-exactly, line-numbers, table-sound}
@@ -30,11 +33,13 @@ use Rattle.trace.proofs.NoCredit.{no-credit}
 use Rattle.trace.proofs.RuleOne.{rule-1}
 use Rattle.trace.proofs.Order.{trace-in-order}
 use Rattle.trace.proofs.Demand3.{trace-demand-3-places}
+use Rattle.trace.proofs.Worth.{trace-worth}
 use Rattle.batch.proofs.Exactly.{batch-exactly}
 use Rattle.batch.proofs.Kept.{batch-refusal-keeps, answers-past}
 use Rattle.batch.proofs.Once.{batch-once}
 use Rattle.batch.proofs.OneByOne.{batch-as-calls}
 use Rattle.batch.proofs.Demand3.{batches-firm, batches-demand-3}
+use Rattle.batch.proofs.Worth.{batches-worth}
 use Rattle.batch.proofs.Beyond.{batch-beyond, batch-unread}
 use Rattle.book.proofs.Balance.{balance, fresh-arrivals, fresh-covered}
 use Rattle.book.proofs.Waits.{fresh-book, sent-waited}
@@ -55,6 +60,8 @@ rules-kept =
       wakes = accepted-wakes;
       wakes-none = accepted-none;
       wakes-once = wakes-once;
+      worth = limit-worth;
+      none-missed = none-missed;
       credit-0 = credit-0;
       readings = readings;
       bursts = bursts;
@@ -78,6 +85,7 @@ lent-kept v lawful =
       in-order = calls-in-order v lawful;
       demand-3 = calls-demand-3-places v lawful;
       no-place-no-send = calls-no-place v lawful;
+      worth = calls-worth v lawful;
       wakes = calls-wake v lawful;
       opening-wakes = opening-wakes v lawful;
     }
@@ -94,6 +102,7 @@ batch-kept v lawful =
       as-calls = batch-as-calls v;
       stays-firm = batches-firm v lawful;
       demand-3 = batches-demand-3 v lawful;
+      worth = batches-worth v lawful;
     }
 
 c-kept : ThroughC
@@ -109,6 +118,7 @@ c-kept =
       fifth-once = fifth-once;
       in-order = through-in-order;
       demand-3 = through-demand-3;
+      worth = through-worth;
       wakes = through-wakes;
       refused-wakes = through-refused-wakes;
       opening-wakes = through-opening-wakes;
@@ -126,6 +136,7 @@ trace-kept =
       no-credit = no-credit;
       in-order = trace-in-order;
       demand-3 = trace-demand-3-places;
+      worth = trace-worth;
     }
 
 sheet-kept : OfTheSheet

@@ -6,9 +6,9 @@ use mathlib.Core.Bool.{Bool, true, false, not}
 use mathlib.Core.List.{List, [], _++_, map}
 use mathlib.Core.Logic.{_↔_, _⊎_}
 use lib.ListN.{length, take, drop}
-use Rattle.lists.specs.Words.{if_then_else_, all}
+use Rattle.lists.specs.Words.{if_then_else_, all, filter}
 use Rattle.rules.specs.Numbers.{tagAt}
-use Rattle.rules.specs.Tables.{Request, Table, owner}
+use Rattle.rules.specs.Tables.{Request, Table, owner, idle}
 use Rattle.rules.specs.Sound.{sound}
 use Rattle.rules.specs.Answers.{shown, taken}
 use Rattle.rules.specs.Choice.{Result, due, open?}
@@ -18,7 +18,7 @@ use Rattle.rules.specs.Arrived.{Entered}
 use Rattle.rules.specs.Refusals.{accept, judged, accepted}
 use Rattle.rules.specs.Refused.{RefusedExactly, NoneHolds, callCases, openCases}
 use Rattle.rules.specs.Order.{waits, left}
-use Rattle.rules.specs.Run.{fresh, step, after}
+use Rattle.rules.specs.Run.{fresh, step, after, answers}
 use Rattle.rules.specs.Turn.{findsRoom, atFree}
 use Rattle.rules.specs.TurnAt.{DueAt, InTurnAt, TurnKept}
 use Rattle.rules.specs.Waking.{told}
@@ -37,6 +37,9 @@ use Rattle.rules.specs.declared.Wake.the-variants.{Never}
 use Rattle.rules.proofs.Readings.{Readings}
 use Rattle.rules.proofs.Bursts.{Bursts}
 use Rattle.rules.proofs.Trials.{X}
+use Rattle.worth.specs.Passages.{passages}
+use Rattle.worth.specs.Worth.{Worth}
+use Rattle.worth.proofs.Counted.{own}
 use Rattle.table.specs.Columns.{settingsWide}
 use Rattle.gate.specs.Promise.{Lending, numbers, HandedIn, tableIn, seenIn, shortIn, soundIn, unchangedIn, calledIn, settingsIn, openShortIn, unopened, openedIn, opened}
 use Rattle.gate.specs.Needs.{Beyond, Alike, Same}
@@ -54,11 +57,12 @@ use Rattle.host.proofs.Once.{Timely, Back}
 use Rattle.lines.specs.Line.{titleLine, refusedWith}
 use Rattle.trace.specs.Printed.{linesFrom, printed}
 use Rattle.trace.specs.Event.{whole}
-use Rattle.trace.specs.Answers.{eventBytes, bytesAt, tableAt, readsOf, answersOf, answerAt, acceptedIds, freeFrom}
+use Rattle.trace.specs.Answers.{eventBytes, bytesAt, tableAt, readsOf, answersOf, answerAt, acceptedIds, freeFrom, answersAfter}
 use Rattle.trace.specs.Cases.{headerCases, lineCases}
+use Rattle.trace.proofs.Runs.{run}
 use Rattle.batch.specs.Rows.{countOf, answerWide}
-use Rattle.batch.specs.Promise.{BatchIn, batchTests, batchedIn, seenBatchIn}
-use Rattle.batch.specs.Batches.{Batch, batchCases, Refuses as RefusesAll, Takes as TakesAll, allDone, heldBatches, freeAnswers}
+use Rattle.batch.specs.Promise.{BatchIn, outcomes, batchTests, batchedIn, seenBatchIn}
+use Rattle.batch.specs.Batches.{Batch, batchCases, Refuses as RefusesAll, Takes as TakesAll, goods, good, allDone, heldBatches, freeAnswers}
 use Rattle.batch.proofs.OneByOne.{AsCalls}
 use Rattle.gate.specs.declared.numbers.Judged.the-variants.{Bad as Barred}
 use Rattle.book.specs.Book.{noted}
@@ -72,7 +76,7 @@ use Rattle.book.proofs.Sums.{WaitsAre}
 
 -- ON THE RULES
 
--- an accepted event in plain facts, which fit one outcome only, demand 3 under either rule for limits, and when to wake, in plain facts that fit one value only; document 02, K6: "Credit
+-- an accepted event in plain facts, which fit one outcome only, demand 3 under either rule for limits, what a limit is worth, and when to wake, in plain facts that fit one value only; document 02, K6: "Credit
 -- 0 is the rule of K3"
 pub record OnTheRules : Type 0 where
   pub described : (t : Table) (e : Event) → accepted t e ≡ true → (u : Table) × Entered t e u × Chosen u (step t e)
@@ -86,6 +90,8 @@ pub record OnTheRules : Type 0 where
   pub wakes-none : (t : Table) (e : Event) → accepted t e ≡ true
       → (told (step t e) ≡ Never) ↔ ((step t e .table .setup .depth ≤ length (step t e .table .flight)) ⊎ (step t e .table .waiting ≡ []))
   pub wakes-once : (t : Table) → sound t ≡ true → (w x : Wake) → Wakes t w → Wakes t x → w ≡ x
+  pub worth : (t : Table) (es : List Event) → sound t ≡ true → Worth t es (answers t es)
+  pub none-missed : (g : ℕ) (t : Table) (es : List Event) → sound t ≡ true → idle t g ≡ true → length (filter (own g) (passages es (answers t es))) ≡ length (left g (answers t es))
   pub credit-0 : (now : ℕ) (h : Guest) → h .settings .credit ≡ 0 → (idle : Bool) → shareTag idle now h ≡ (if idle then now else tagAt now (h .snext))
   pub readings : Readings
   pub bursts : Bursts
@@ -122,6 +128,8 @@ pub record OverLent (v : Lending) (lawful : Lawful v) : Type 0 where
   -- demand 3, under the gate's rule for limits
   pub demand-3 : (h : Host v) (es : List Event) → firm v h ≡ true → all narrow es ≡ true → (i : ℕ) → TurnKept (shows v h) i (freeReplies v h es)
   pub no-place-no-send : (h : Host v) (e : Event) → firm v h ≡ true → taken (call v e h .0 .answer) ≡ true → finds e (h .gate) ≡ false → call v e h .0 .answer ≡ Nothing
+  -- document 02, K11: what a limit is worth
+  pub worth : (h : Host v) (es : List Event) → firm v h ≡ true → all narrow es ≡ true → Worth (shows v h) es (replies v h es)
   -- document 02, K2: an accepted call carries when to wake the gate that it leaves; an accepted opening, in which nothing waits, none
   pub wakes : (h : Host v) (e : Event) → firm v h ≡ true → taken (call v e h .0 .answer) ≡ true → Wakes (shows v (holds v (call v e h))) (call v e h .0 .wake)
   pub opening-wakes : (d n c rule : ℕ) (ss : List ℕ) (gs : List (v .Cell)) (ws fs : List ℕ) → taken (openedIn v d n c rule ss gs ws fs .0 .answer) ≡ true → openedIn v d n c rule ss gs ws fs .0 .wake ≡ Never
@@ -148,6 +156,8 @@ pub record OfABatch (v : Lending) : Type 0 where
   pub as-calls : (es : List ℕ) (h : Host v) (bs : List ℕ) → judged (batchTests es bs) ≡ accept → AsCalls v es h bs
   pub stays-firm : (bs : List Batch) (h : Host v) → firm v h ≡ true → firm v (heldBatches v h bs) ≡ true
   pub demand-3 : (h : Host v) (bs : List Batch) → firm v h ≡ true → (i : ℕ) → TurnKept (shows v h) i (freeAnswers v h (allDone bs))
+  pub worth : (h : Host v) (bs : List Batch) → firm v h ≡ true
+      → Worth (shows v h) (goods (allDone bs)) (map Outcome.answer (good (allDone bs) (outcomes v h (allDone bs))))
 
 -- THROUGH C, over the gate's seven numbers and the three tables as a host holds them. The tables that a call leaves are those over numbers, so what
 -- stands beyond the need is untouched and unread there
@@ -168,6 +178,9 @@ pub record ThroughC : Type 0 where
       → (got : List Answer) × (fours h es ≡ map fourOf got) × (waits n (shownBy h) ++ took n es got ≡ left n got ++ waits n (shownBy (heldBy h es)))
   pub demand-3 : (h : Lent) (es : List Event) → length (h .seven) ≡ 7 → firm numbers (inside h) ≡ true → all narrow es ≡ true → (i : ℕ)
       → (got : List Answer) × (freeFours h es ≡ map fourOf got) × TurnKept (shownBy h) i got
+  -- document 02, K11: what a limit is worth
+  pub worth : (h : Lent) (es : List Event) → length (h .seven) ≡ 7 → firm numbers (inside h) ≡ true → all narrow es ≡ true
+      → (got : List Answer) × (fours h es ≡ map fourOf got) × Worth (shownBy h) es got
   -- document 02, K2: the fifth number, in a refusal 0
   pub wakes : (h : Lent) (e : Event) → length (h .seven) ≡ 7 → firm numbers (inside h) ≡ true → Takes (through e h .0)
       → (w : Wake) × Wakes (shownBy (kept (through e h))) w × Timely w × (through e h .0 .wake ≡ fifthOf w)
@@ -188,6 +201,8 @@ pub record OfATrace : Type 0 where
   pub no-credit : (bs : List ℕ) (k g : ℕ) → (owner ((tableAt bs k) .guests) g) .settings .credit ≡ 0
   pub in-order : (g : ℕ) (bs : List ℕ) → acceptedIds g (readsOf (eventBytes bs)) (answersOf bs) ≡ left g (answersOf bs) ++ waits g (tableAt bs (whole (eventBytes bs)))
   pub demand-3 : (bs : List ℕ) → NoneHolds (headerCases bs) → (k : ℕ) → k ≤ whole (eventBytes bs) → (i : ℕ) → DueAt (tableAt bs k) i → InTurnAt (tableAt bs k) i (freeFrom bs k)
+  -- document 02, K11: what a limit is worth, from any event on
+  pub worth : (bs : List ℕ) → NoneHolds (headerCases bs) → (k : ℕ) → k ≤ whole (eventBytes bs) → Worth (tableAt bs k) (run (readsOf (bytesAt bs k))) (answersAfter bs k)
 
 -- OF THE SHEET
 

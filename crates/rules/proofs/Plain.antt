@@ -1,29 +1,29 @@
 -- Document 02, K8: "Cost 1 is the old gate", over any run: from a table that is sound by the old rule and in which every cost is 1, arrivals of cost 1
 -- give the same answers and the same tables by the gate with costs and by the gate without, refused ones among them. Assumes nothing.
 use mathlib.Core.Path.{_≡_, refl, sym, ap, _∙_}
-use mathlib.Core.Bool.{Bool, true, false, not, _&&_, true≢false}
-use mathlib.Core.List.{List, [], _∷_, _++_, map}
+use mathlib.Core.Bool.{Bool, true, false, _&&_, true≢false}
+use mathlib.Core.List.{List, [], _∷_, _++_}
 use Prim.Native.Nat.{ℕ, _≤_, _<_, _+_, _*_}
 use native.Mathlib.Omega.{arith}
-use native.Mathlib.Nat.{zero-add, one-mul}
-use lib.Dec.{leb, eqb}
+use native.Mathlib.Nat.{one-mul}
+use lib.Dec.{eqb}
 use lib.ListN.{length, getD, set, List·getD-map}
 use lib.Seq.{getD-set-other}
 use borrow.Author.Tests.{leb-true, le-leb, eqb-true, eqb-false}
 use Rattle.lists.specs.Words.{if_then_else_, all, empty}
-use Rattle.lists.specs.WordsLaws.{both, join, below-at, at-below, all-append, all-filter, all-mid, filter-append, getD-each}
-use Rattle.rules.specs.Numbers.{ceiling, second, down, up}
-use Rattle.rules.specs.Tables.{Settings, Guest, Request, Table, reserved, limited, rplain, lplain, splain, rspacing, lspacing, sspacing, nobodys, owner, of, mine, idle, names}
+use Rattle.lists.specs.WordsLaws.{both, join, below-at, at-below, all-append, all-filter, all-mid, filter-append}
+use Rattle.rules.specs.Numbers.{ceiling, second}
+use Rattle.rules.specs.Tables.{Settings, Guest, Request, Table, reserved, limited, rplain, lplain, splain, nobodys, owner, of, mine, idle, names}
 use Rattle.rules.specs.Sound.{ranges, ruled, roomy, timely, known, distinct, lawful, fair, priced, apart, follows, kept, orderly, sound}
-use Rattle.rules.specs.Events.{Arriving, Event, Arrival, Completion, Tick, adjusted, stamped, following, placed, stampedFor, arriveAs, arrive, complete, wait, enter}
-use Rattle.rules.specs.Choice.{Result, Pick, nobody, picked, least, due, open?, sending, sooner, dropped, byWeight, byReservation, room, choice}
+use Rattle.rules.specs.Events.{Event, Arrival, Completion, Tick, adjusted, stamped, following, placed, stampedFor, arriveAs, arrive, complete, wait, enter}
+use Rattle.rules.specs.Choice.{Pick, nobody, picked, least, due, open?, sending, sooner, dropped, byWeight, byReservation, room, choice}
 use Rattle.rules.specs.Refusals.{Verdict, accept, refuse, isAccept, judged, eventTests, openTests, verdict, accepted}
 use Rattle.rules.specs.Run.{decided, step, after, answers, newcomer, fresh}
 use Rattle.rules.specs.Chosen.{unsent}
 use Rattle.rules.specs.Plain.{plainBound, followsPlain, keptPlain, orderlyPlain, soundPlain, followingPlain, placedPlain, enterPlain, droppedPlain, byWeightPlain, byReservationPlain, choicePlain, eventTestsPlain, verdictPlain, decidedPlain, stepPlain, afterPlain, answersPlain, costsOne, bringsOne}
 use Rattle.rules.proofs.Spacings.{down-le, up-le}
 use Rattle.rules.proofs.SameSettings.{same-count, enter-settings, choice-settings}
-use Rattle.rules.proofs.Facts.{Sound, sound-is, is-sound, orderly-is, is-orderly, Lawful, lawful-is}
+use Rattle.rules.proofs.Facts.{Sound, sound-is, is-sound, orderly-is, is-orderly, lawful-is}
 use Rattle.rules.proofs.Picks.{Between, splits, due-goes, open-goes}
 use Rattle.rules.proofs.Drops.{dropped-costs, dropped-owner, dropped-other}
 use Rattle.rules.proofs.ArriveSound.{adjusted-costs, adjusted-idle, adjusted-owner}

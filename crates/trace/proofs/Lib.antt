@@ -15,3 +15,4 @@ pub mod HeaderExactly
 pub mod LineExactly
 pub mod Order
 pub mod Demand3
+pub mod Worth

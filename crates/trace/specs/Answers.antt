@@ -86,3 +86,15 @@ freeAnswers t (r ∷ rs) (a ∷ l) =
 -- of the answers of a trace from event k on, those to these events
 abbrev pub freeFrom : List ℕ → ℕ → List Answer
 freeFrom bs k = freeAnswers (tableAt bs k) (readsOf (bytesAt bs k)) (drop k (answersOf bs))
+
+-- WHAT A LIMIT IS WORTH
+
+-- of the answers to what was read, those to events: what is bad is none
+unfoldable pub toEvents : List Read → List Answer → List Answer
+toEvents [] l = []
+toEvents (r ∷ rs) [] = []
+toEvents (r ∷ rs) (a ∷ l) = byEvent [] (λ e. a ∷ []) r ++ toEvents rs l
+
+-- of the answers of a trace from event k on, those to events
+abbrev pub answersAfter : List ℕ → ℕ → List Answer
+answersAfter bs k = toEvents (readsOf (bytesAt bs k)) (drop k (answersOf bs))

@@ -1,0 +1,4 @@
+pub mod Notes
+pub mod Worth
+pub mod Counted
+pub mod Readings
