@@ -1,4 +1,4 @@
--- Document 02, K13: what a reading of the board's counter does to the clock, and what is told. Times are nanoseconds.
+-- Document 02, K13: what a reading of the board's counter does to the clock, and what is told. Times are nanoseconds. Words in quotes are K13's.
 use mathlib.Core.Bool.{Bool}
 use Prim.Native.Nat.{ℕ, _+_, _-_, _*_, _%_}
 use lib.Dec.{eqb, ltb}
@@ -41,9 +41,13 @@ moved c reading = clockOf (timeAt c reading) reading (if fresh c then 1 else c .
 abbrev pub tells : (refusal time : ℕ) → Told
 tells refusal time = record { refusal = refusal; time = time }
 
--- THE PROMISE: what is told and the clock afterwards. "Refusals: a reading that would pass the ceiling is 5 and leaves the record."
+-- of a clock that was moved on its time is told
+abbrev pub movedTo : Clock → Told × Clock
+movedTo c = (tells 0 (c .time), c)
+
+-- THE PROMISE: what is told, and the clock afterwards. "Refusals: a reading that would pass the ceiling is 5 and leaves the record."
 abbrev pub doing : Clock → ℕ → Told × Clock
 doing c reading =
     if ltb ceiling (timeAt c reading)
     then (tells (numberOf TimeAboveCeiling) 0, c)
-    else (tells 0 (timeAt c reading), moved c reading)
+    else movedTo (moved c reading)

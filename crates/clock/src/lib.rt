@@ -1,9 +1,9 @@
-// The clock of a board that counts microseconds in 32 bits: one record that each reading moves on, and the time in nanoseconds that a gate takes.
-// What a reading does is in specs/Reading.antt. No `requires`: whatever record and whatever reading.
+// The clock of a board that counts microseconds in 32 bits: one record that each reading moves on. It tells the time in nanoseconds, as the gate
+// takes it. What a reading does is in specs/Reading.antt. No `requires`: whatever record, whatever reading.
 use rules::Refusal;
 use table::numbers::CEILING;
 ghost use mathlib.Core.Path.{_≡_};
-ghost use Rattle.clock.specs.Reading.{elapsed as elapsedOf, clockOf, doing};
+ghost use Rattle.clock.specs.Reading.{elapsed as elapsedOf, clockOf, movedTo, doing};
 
 // The clock: its time in nanoseconds, the last reading, and whether one was taken: 0 none yet, any other number taken.
 #[repr(C)]
@@ -37,22 +37,29 @@ fn elapsed(last: u32, reading: u32) -> u64
     between as u64 * MICRO
 }
 
-// A reading of the clock that these three numbers are.
+// The clock moved on to these three numbers, and its time told.
+fn moved_to(time: u64, last: u32, started: u32) -> Turn
+    ensures { λ r. ⌜ (r .told, r .clock) ≡ movedTo (clockOf time last started) ⌝ }
+{
+    Turn {
+        told: Told {
+            refusal: 0,
+            time: time,
+        },
+        clock: Clock {
+            time: time,
+            last: last,
+            started: started,
+        },
+    }
+}
+
+// A reading of the clock that these three numbers are. No sum can wrap: the room up to the ceiling is taken first.
 pub fn advance(time: u64, last: u32, started: u32, reading: u32) -> Turn
     ensures { λ r. ⌜ (r .told, r .clock) ≡ doing (clockOf time last started) reading ⌝ }
 {
     if started == 0 {
-        return Turn {
-            told: Told {
-                refusal: 0,
-                time: 0,
-            },
-            clock: Clock {
-                time: 0,
-                last: reading,
-                started: 1,
-            },
-        };
+        return moved_to(0, reading, 1);
     }
     let since = elapsed(last, reading);
     if CEILING - since < time {
@@ -68,18 +75,7 @@ pub fn advance(time: u64, last: u32, started: u32, reading: u32) -> Turn
             },
         };
     }
-    let later = time + since;
-    Turn {
-        told: Told {
-            refusal: 0,
-            time: later,
-        },
-        clock: Clock {
-            time: later,
-            last: reading,
-            started: started,
-        },
-    }
+    moved_to(time + since, reading, started)
 }
 
 // A reading of a lent clock, which it moves on.
