@@ -89,8 +89,8 @@ module _ {M : Type 1} (𝓤 : URA M) (H : Heap 𝓤) (A : Atoms 𝓤) (W : Given
   pub told-makes : Makes 𝓤 H A ToldR (Is ToldR)
   told-makes = LL.makes S.the-type S′.the-plain 𝓤 H A
 
-  pub told-typed : (s : Told) → Is ToldR s (told-vals s) → T (hasTy S′.mir (told-val s)) × WT (told-val s)
-  told-typed s p = LL.lawful S.the-type S′.the-laws 𝓤 H A W .typed s (told-vals s) p .0
+  pub told-typed : (s : Told) (v : Val) → Is ToldR s (v ∷ []) → T (hasTy S′.mir v) × WT v
+  told-typed s v p = LL.lawful S.the-type S′.the-laws 𝓤 H A W .typed s (v ∷ []) p .0
 
   pub turn-typed : (u : Turn) (v : Val) → Is TurnR u (v ∷ []) → T (hasTy turn-mir v) × WT v
   turn-typed u v p = LL.lawful U.the-type U′.the-laws 𝓤 H A W .typed u (v ∷ []) p .0

@@ -123,7 +123,7 @@ module _ {M : Type 1} (𝓤 : URA M) (H : Heap 𝓤) (A : Atoms 𝓤) (W : Given
         peeks ! TurnR (Is TurnR) (shows 𝓤 H A TurnR) u (v ∷ []) (λ is. drop ! $
         land ! (from ! (stop !)) (init ! 11 refl (turn-typed 𝓤 H A W u v is)) $ rewrite ! 11 (λ (w : Val). ‵ (fat fullShare turn-mir l₃ 0 w)) (ap only (turn-tells u (v ∷ []) is)) refl $
         assigns ! (of-opd ! (load ! (from ! (fld ! refl (stop !))) (look-in ! 11 (sub ! 1 refl (whole !))))) (from ! (hop ! (look ! 15 refl) (stop !))) (store-raw ! 0 refl (clock-typed 𝓤 H A W (u .clock) (turn-parts u (told u v is) .1))) $
-        assigns ! (of-opd ! (load ! (from ! (fld ! refl (stop !))) (look-in ! 11 (sub ! 0 refl (whole !))))) (from ! (stop !)) (init ! 17 refl (told-typed 𝓤 H A W (u .told) (turn-parts u (told u v is) .0))) $
+        assigns ! (of-opd ! (load ! (from ! (fld ! refl (stop !))) (look-in ! 11 (sub ! 0 refl (whole !))))) (from ! (stop !)) (init ! 17 refl (told-typed 𝓤 H A W (u .told) (told-val (u .told)) (turn-parts u (told u v is) .0))) $
         move ! (1 ∷ []) $ drop ! $ owned ! ClockR (Is ClockR) (clock-makes 𝓤 H A W) (u .clock) _ (turn-parts u (told u v is) .1) $ move ! (1 ∷ 0 ∷ []) $ closes ! tt ClockR (u .clock) (clock-vals (u .clock)) b o $
         -- [obs; the borrow; the token; _6; …; _5; …; _4; …; _3; …; _2; …; _1; …; _0; …]
         returns ! (look ! 15 refl) $ move ! (15 ∷ 16 ∷ 13 ∷ 14 ∷ 11 ∷ 12 ∷ 9 ∷ 10 ∷ 7 ∷ 8 ∷ 5 ∷ 6 ∷ 3 ∷ 4 ∷ []) $ gone ! $ gone ! $ gone ! $ gone ! $ gone ! $ gone ! $ gone ! $ free0 ! $
