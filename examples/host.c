@@ -1,7 +1,7 @@
 /* host.c: a small host around the gate. It plays the day of lot 214 (samples/lot214.txt) against an array that is only
  * simulated, and prints what the requests of each guest waited, from arrival to send, and how many calls and ticks the
- * day took. Then it plays thirty bids of the telephone desk after a quiet time, once without credit and once with, and
- * prints what each of them waited.
+ * day took. Then a recorder whose board counts microseconds in 32 bits tells the gate of four bids. Then it plays thirty
+ * bids of the telephone desk after a quiet time, once without credit and once with, and prints what each of them waited.
  *
  *     cc -std=c99 -Iinclude examples/host.c target/staticlib/libhost.a -o host && ./host
  *
@@ -75,6 +75,9 @@ static const struct arrivals burst[] = {
     {180000, PICTURES, 1, 32},
     {180005, TELEPHONE, 1, BIDS},
 };
+
+/* What the recorder's board shows at four bids of the telephone desk: it starts again from zero before the third. */
+static const uint32_t counter[] = {4294900000, 4294960000, 2704, 52704};
 
 /* A request that the host has under way, and when it arrived or, at the array, when it will be done. */
 struct job {
@@ -314,6 +317,29 @@ static void print_ticks(const struct host *host)
            host->ticks);
 }
 
+/* A recorder tells the gate of each bid at the time that the board's clock comes to. */
+static void show_recorder(struct host *host)
+{
+    sgq_clock clock = {0, 0, 0}; /* no reading was taken yet */
+    open_gate(host, 0);
+    host->rows = &burst[1];
+    host->row_count = 1;
+    for (size_t bid = 0; bid < SGQ_COUNT(counter); bid++) {
+        sgq_told told = sgq_clock_read(&clock, counter[bid]);
+        if (told.refusal != 0)
+            stop("a reading", told.refusal);
+        sgq_event event = arrive(host, told.time);
+        sgq_answer answer;
+        uint64_t refusal = sgq_tables_batch(&host->lent, &event, 1, &answer, 1);
+        if (refusal != 0)
+            stop("a bid", refusal);
+        note_answer(host, event, answer);
+        printf("%10" PRIu32, counter[bid]);
+        print_ms(host->gate.time);
+        printf("\n");
+    }
+}
+
 /* The bids of the burst, the desk having this credit: they go in order of acceptance, so their waits stand in it. */
 static void show_burst(struct host *host, uint64_t credit)
 {
@@ -326,11 +352,14 @@ static void show_burst(struct host *host, uint64_t credit)
 
 int main(void)
 {
-    static struct host lot, without, with; /* zeros */
+    static struct host lot, recorder, without, with; /* zeros */
     open_gate(&lot, 0);
     play(&lot, day, SGQ_COUNT(day));
     print_waits(&lot);
     print_ticks(&lot);
+
+    printf("\na board that counts microseconds in 32 bits: what it shows at each bid, and the gate's time in ms\n");
+    show_recorder(&recorder);
 
     printf("\n%d bids of the telephone desk after a quiet time: what each waited, in ms\n", BIDS);
     show_burst(&without, 0);
