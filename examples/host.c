@@ -317,7 +317,16 @@ static void print_ticks(const struct host *host)
            host->ticks);
 }
 
-/* A recorder tells the gate of each bid at the time that the board's clock comes to. */
+/* The time as the gate takes it: a reading of the board moves its clock on. */
+static uint64_t board_time(sgq_clock *clock, uint32_t reading)
+{
+    sgq_told told = sgq_clock_read(clock, reading);
+    if (told.refusal != 0)
+        stop("a reading", told.refusal);
+    return told.time;
+}
+
+/* A recorder tells the gate of each bid, at the time of its board. */
 static void show_recorder(struct host *host)
 {
     sgq_clock clock = {0, 0, 0}; /* no reading was taken yet */
@@ -325,10 +334,7 @@ static void show_recorder(struct host *host)
     host->rows = &burst[1];
     host->row_count = 1;
     for (size_t bid = 0; bid < SGQ_COUNT(counter); bid++) {
-        sgq_told told = sgq_clock_read(&clock, counter[bid]);
-        if (told.refusal != 0)
-            stop("a reading", told.refusal);
-        sgq_event event = arrive(host, told.time);
+        sgq_event event = arrive(host, board_time(&clock, counter[bid]));
         sgq_answer answer;
         uint64_t refusal = sgq_tables_batch(&host->lent, &event, 1, &answer, 1);
         if (refusal != 0)

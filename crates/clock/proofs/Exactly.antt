@@ -13,6 +13,10 @@ use Rattle.clock.specs.Reading.{elapsed, tells, movedTo, doing}
 use Rattle.clock.specs.Runs.{Started, clockCases, Refuses, Takes, run}
 use Rattle.clock.proofs.Cases.{refused, Ends, begun, moves, stops, ends}
 
+-- the number that an outcome tells
+abbrev number-of : Told × Clock → ℕ
+number-of h = h .0 .refusal
+
 module _ (c : Clock) (r : ℕ) where
   abbrev said : Told
   said = doing c r .0
@@ -22,25 +26,22 @@ module _ (c : Clock) (r : ℕ) where
   Past = Started c × (ceiling < c .time + elapsed (c .last) r)
 
   -- the number that is told, and whether the condition holds
-  verdict : ((said .refusal ≡ 5) × Past) ⊎ ((said .refusal ≡ 0) × (Past → ⊥))
-  verdict = of (ends c r)
-    where
-      told : (h : Told × Clock) → doing c r ≡ h → said .refusal ≡ h .0 .refusal
-      told h e = ap (λ (p : Told × Clock). p .0 .refusal) e
+  abbrev Verdict : Type 0
+  Verdict = ((said .refusal ≡ 5) × Past) ⊎ ((said .refusal ≡ 0) × (Past → ⊥))
 
-      of : Ends c r → ((said .refusal ≡ 5) × Past) ⊎ ((said .refusal ≡ 0) × (Past → ⊥))
-      of (begun z e) = inr (told _ e, λ p. p .0 z)
-      of (moves on fits e) = inr (told _ e, λ p. omega (arith, p .1, fits))
-      of (stops on past e) = inl (told _ e, (on, past))
+  verdict : Ends c r → Verdict
+  verdict (begun z e) = inr (ap number-of e, λ p. p .0 z)
+  verdict (moves on fits e) = inr (ap number-of e, λ p. omega (arith, p .1, fits))
+  verdict (stops on past e) = inl (ap number-of e, (on, past))
 
   pub read-exactly : RefusedExactly (clockCases c r) (Refuses said) (Takes said)
-  read-exactly = of verdict
+  read-exactly = of (verdict (ends c r))
     where
       first-of : (n : ℕ) → FirstOf n (clockCases c r) → (5 ≡ n) × Past
       first-of n (inl p) = p
       first-of n (inr p) = absurd (p .1)
 
-      of : ((said .refusal ≡ 5) × Past) ⊎ ((said .refusal ≡ 0) × (Past → ⊥)) → RefusedExactly (clockCases c r) (Refuses said) (Takes said)
+      of : Verdict → RefusedExactly (clockCases c r) (Refuses said) (Takes said)
       of (inl p) = record {
         number = λ n. (λ q. inl (sym (p .0) ∙ q .0, p .1), λ q. (p .0 ∙ first-of n q .0, λ z. omega (arith, first-of n q .0, z)));
         no-number = (λ q. absurd (omega (arith, p .0, q)), λ q. absurd (q .0 (p .1)));
@@ -55,9 +56,9 @@ module _ (c : Clock) (r : ℕ) where
   refusal-keeps n p = of (ends c r)
     where
       of : Ends c r → doing c r ≡ (tells n 0, c)
-      of (begun z e) = absurd (p .1 (sym (p .0) ∙ ap (λ (h : Told × Clock). h .0 .refusal) e))
-      of (moves on fits e) = absurd (p .1 (sym (p .0) ∙ ap (λ (h : Told × Clock). h .0 .refusal) e))
-      of (stops on past e) = e ∙ ap (λ (m : ℕ). (tells m 0, c)) (sym (ap (λ (h : Told × Clock). h .0 .refusal) e) ∙ p .0)
+      of (begun z e) = absurd (p .1 (sym (p .0) ∙ ap number-of e))
+      of (moves on fits e) = absurd (p .1 (sym (p .0) ∙ ap number-of e))
+      of (stops on past e) = e ∙ ap (λ (m : ℕ). (tells m 0, c)) (sym (ap number-of e) ∙ p .0)
 
   -- a reading that is accepted is told the time of the clock after it, which is at most the ceiling: a gate takes it
   pub accepted-tells : Takes said → (doing c r ≡ movedTo (doing c r .1)) × (doing c r .1 .time ≤ ceiling)
@@ -71,7 +72,7 @@ module _ (c : Clock) (r : ℕ) where
       of : Ends c r → (doing c r ≡ movedTo (doing c r .1)) × (doing c r .1 .time ≤ ceiling)
       of (begun z e) = moved-on _ e (omega arith)
       of (moves on fits e) = moved-on _ e fits
-      of (stops on past e) = absurd (omega (arith, p, ap (λ (h : Told × Clock). h .0 .refusal) e))
+      of (stops on past e) = absurd (omega (arith, p, ap number-of e))
 
 -- a clock that is started with a time above the ceiling is told 5 at every reading, and stays
 pub past-ceiling : (c : Clock) → Started c → ceiling < c .time → (rs : List ℕ) → run c rs ≡ map (λ (r : ℕ). (tells 5 0, c)) rs

@@ -21,9 +21,9 @@ pub struct Told {
 }
 
 // What a reading comes to: what is told, and the clock after it.
-pub struct Turn {
-    pub told: Told,
-    pub clock: Clock,
+struct Turn {
+    told: Told,
+    clock: Clock,
 }
 
 // A microsecond in nanoseconds.
@@ -55,7 +55,7 @@ fn moved_to(time: u64, last: u32, started: u32) -> Turn
 }
 
 // A reading of the clock that these three numbers are. No sum can wrap: the room up to the ceiling is taken first.
-pub fn advance(time: u64, last: u32, started: u32, reading: u32) -> Turn
+fn advance(time: u64, last: u32, started: u32, reading: u32) -> Turn
     ensures { λ r. ⌜ (r .told, r .clock) ≡ doing (clockOf time last started) reading ⌝ }
 {
     if started == 0 {
