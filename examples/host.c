@@ -1,8 +1,9 @@
 /* host.c: a small host around the gate. It plays the day of lot 214 (samples/lot214.txt) against an array that is only
  * simulated, and prints what the requests of each guest waited, from arrival to send, and how many calls and ticks the
- * day took. Then it plays thirty bids of the telephone desk after a quiet time, once without credit and once with, and
- * prints what each of them waited. Last it plays an afternoon of large plates, once with every request at cost 1 and
- * once at costs that the driver works out from the sizes, and prints what the room and the pictures waited.
+ * day took. Then a recorder whose board counts microseconds in 32 bits tells the gate of four bids. Then it plays thirty
+ * bids of the telephone desk after a quiet time, once without credit and once with, and prints what each of them waited.
+ * Last it plays an afternoon of large plates, once with every request at cost 1 and once at costs that the driver works
+ * out from the sizes, and prints what the room and the pictures waited.
  *
  *     cc -std=c99 -Iinclude examples/host.c target/staticlib/libhost.a -o host && ./host
  *
@@ -100,6 +101,9 @@ static const struct arrivals afternoon[] = {
     {12000030, ROOM, 41, 1, BID},
     {12000120, ROOM, 42, 16, BID},
 };
+
+/* What the recorder's board shows at four bids of the telephone desk: it starts again from zero before the third. */
+static const uint32_t counter[] = {4294900000, 4294960000, 2704, 52704};
 
 /* A request that the host has under way, its size, and when it arrived or, at the array, when it will be done. */
 struct job {
@@ -293,12 +297,9 @@ static void note_answer(struct host *host, size_t place)
     follow(host, answer, event.time);
 }
 
-/* The array or a guest interrupts the host: all events of now in one call, answered as if they came one by one. */
-static void interrupt(struct host *host, uint64_t now)
+/* So many events in one call, answered as if they came one by one. */
+static void hand_over(struct host *host, size_t count)
 {
-    size_t count = gather(host, now);
-    if (count == 0)
-        return;
     uint64_t refusal = sgq_tables_batch(&host->lent, host->events, count, host->answers, SGQ_COUNT(host->answers));
     if (refusal != 0)
         stop("an interrupt", refusal);
@@ -306,6 +307,14 @@ static void interrupt(struct host *host, uint64_t now)
         note_answer(host, place);
     host->calls += 1;
     host->told += count;
+}
+
+/* The array or a guest interrupts the host: all events of now. */
+static void interrupt(struct host *host, uint64_t now)
+{
+    size_t count = gather(host, now);
+    if (count > 0)
+        hand_over(host, count);
 }
 
 static uint64_t sooner(uint64_t a, uint64_t b)
@@ -356,6 +365,31 @@ static void print_ticks(const struct host *host)
            host->ticks);
 }
 
+/* The time as the gate takes it: a reading of the board moves its clock on. */
+static uint64_t board_time(sgq_clock *clock, uint32_t reading)
+{
+    sgq_told told = sgq_clock_read(clock, reading);
+    if (told.refusal != 0)
+        stop("a reading", told.refusal);
+    return told.time;
+}
+
+/* A recorder tells the gate of each bid, at the time of its board. */
+static void show_recorder(struct host *host)
+{
+    sgq_clock clock = {0, 0, 0}; /* no reading was taken yet */
+    open_gate(host, settings);
+    host->rows = &burst[1];
+    host->row_count = 1;
+    for (size_t bid = 0; bid < SGQ_COUNT(counter); bid++) {
+        arrive(host, 0, board_time(&clock, counter[bid]));
+        hand_over(host, 1);
+        printf("%10" PRIu32, counter[bid]);
+        print_ms(host->gate.time);
+        printf("\n");
+    }
+}
+
 /* The bids of the burst, the desk having this credit: they go in order of acceptance, so their waits stand in it. */
 static void show_burst(struct host *host, uint64_t credit)
 {
@@ -385,11 +419,14 @@ static void show_afternoon(struct host *host, const char *how, int by_size)
 
 int main(void)
 {
-    static struct host lot, without, with, plain, sized; /* zeros */
+    static struct host lot, recorder, without, with, plain, sized; /* zeros */
     open_gate(&lot, settings);
     play(&lot, day, SGQ_COUNT(day));
     print_waits(&lot);
     print_ticks(&lot);
+
+    printf("\na board that counts microseconds in 32 bits: what it shows at each bid, and the gate's time in ms\n");
+    show_recorder(&recorder);
 
     printf("\n%d bids of the telephone desk after a quiet time: what each waited, in ms\n", BIDS);
     show_burst(&without, 0);

@@ -10,10 +10,10 @@
  * refusal changes no lent number and not the time."
  *
  * What the host owes, since C does not check it:
- * - A pointer is never NULL, points to 64-bit numbers, and the length beside it is true. A length is a count of numbers
+ * - A pointer is never NULL, points to 64-bit numbers or to a clock, and the length beside it is true. A length is a count of numbers
  *   in the calls, and a count of records in the helpers below, where a table of no records may be NULL.
- * - The gate, the tables, events and answers do not overlap, and nobody else reads or writes them during a call. Calls
- *   on different gates may run at the same time.
+ * - The gate, the tables, events and answers do not overlap, and nobody else reads or writes them during a call, nor a
+ *   clock. Calls on different gates and clocks may run at the same time.
  *
  * The library is for x86-64 Linux. Link the archive where it is built, or what 'make install' installs:
  *   cc -Iinclude host.c target/staticlib/libhost.a
@@ -28,7 +28,7 @@
 /* The version of this header and of the library that it belongs to. While the major number is 0, another minor number
  * means other calls or other rows. SGQ_VERSION is the text "MAJOR.MINOR.PATCH". */
 #define SGQ_VERSION_MAJOR 0
-#define SGQ_VERSION_MINOR 6
+#define SGQ_VERSION_MINOR 7
 #define SGQ_VERSION_PATCH 0
 #define SGQ_VERSION \
     SGQ_TEXT_OF(SGQ_VERSION_MAJOR) "." SGQ_TEXT_OF(SGQ_VERSION_MINOR) "." SGQ_TEXT_OF(SGQ_VERSION_PATCH)
@@ -191,6 +191,7 @@ enum sgq_kind {
  *   completion  2, 3, 4, 5, 6, 10
  *   tick        2, 3, 5, 6
  *   batch       16, 17; then each event by itself: 14, and then as the call of its kind
+ *   clock       5
  * "Settings inside an open table are judged by 3; to know the lengths needed, guests, depth and capacity out of range
  * give 3 at once." No length depends on the rule, so in an open gate it is judged after 2. */
 enum sgq_refusal {
@@ -275,6 +276,29 @@ SGQ_MUST_USE uint64_t sgq_batch(uint64_t *gate,
                                 uint64_t *flight, size_t flight_length,
                                 const uint64_t *events, size_t events_length,
                                 uint64_t *answers, size_t answers_length);
+
+/* A clock for a board that counts microseconds in 32 bits and starts again from zero. Zeros are a clock of which no
+ * reading was taken yet: sgq_clock clock = {0, 0, 0}; */
+typedef struct sgq_clock {
+    uint64_t time;    /* in nanoseconds since the first reading, as the gate takes it */
+    uint32_t last;    /* the last reading, in microseconds */
+    uint32_t started; /* 0: no reading was taken yet; any other number: one was */
+} sgq_clock;
+
+/* What a reading is told. */
+typedef struct sgq_told {
+    uint64_t refusal; /* 0, or SGQ_REFUSED_TIME_ABOVE_CEILING */
+    uint64_t time;    /* the clock's time; 0 in a refusal */
+} sgq_told;
+
+/* A reading of the board's counter, which moves the clock on. Document 02, K13: "the first setting time 0: elapsed time
+ * is the difference of the two readings across the wrap, times 1,000". Any record may be lent; of one that is not
+ * started, nothing else is looked at. "a reading that would pass the ceiling is 5 and leaves the record".
+ *
+ * The time is the true one where readings are less than 4,294,967,296 microseconds apart, which is about 71 minutes and
+ * 35 seconds. A gap of 4,294,967,296 microseconds or longer is not seen: every whole round of the counter in it is lost.
+ * So a host reads the board more often than that, also when it has nothing else to do. Time never falls. */
+SGQ_MUST_USE sgq_told sgq_clock_read(sgq_clock *clock, uint32_t reading);
 
 /* What a host lends, in records: the helpers take this and turn counts of records into lengths. A count says how many
  * records the table has room for, not how many it holds; a table of no records may be NULL. */
@@ -482,6 +506,8 @@ typedef char sgq_request_is_its_row[sizeof(sgq_request) == SGQ_REQUEST_NUMBERS *
 typedef char sgq_flight_is_its_row[sizeof(sgq_flight) == SGQ_FLIGHT_NUMBERS * sizeof(uint64_t) ? 1 : -1];
 typedef char sgq_event_is_its_row[sizeof(sgq_event) == SGQ_EVENT_NUMBERS * sizeof(uint64_t) ? 1 : -1];
 typedef char sgq_answer_is_its_row[sizeof(sgq_answer) == SGQ_ANSWER_NUMBERS * sizeof(uint64_t) ? 1 : -1];
+typedef char sgq_clock_is_closed_up[sizeof(sgq_clock) == 2 * sizeof(uint64_t) ? 1 : -1];
+typedef char sgq_told_is_closed_up[sizeof(sgq_told) == 2 * sizeof(uint64_t) ? 1 : -1];
 
 #ifdef __cplusplus
 }

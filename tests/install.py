@@ -200,7 +200,7 @@ def test_pages(tally):
     for name, number in re.findall(r"^    (SGQ_REFUSED_(?!TRACE)\w+) = (\d+)", HEADER, re.MULTILINE):
         tally.add(f"{name} in sgq.3", None if f"\n.B {number} {name}\n" in pages["sgq.3"] else "it is not there")
     for name, body in re.findall(r"^typedef struct (sgq_\w+) \{(.*?)^\}", HEADER, re.MULTILINE | re.DOTALL):
-        fields = ", ".join(re.findall(r"^    uint64_t (\w+);", body, re.MULTILINE))
+        fields = ", ".join(re.findall(r"^    uint(?:32|64)_t (\w+);", body, re.MULTILINE))
         good = f".B {name}\n{fields}" in pages["sgq.3"]
         tally.add(f"{name} in sgq.3", None if good else f"it is not there with {fields}")
     for name, text in pages.items():

@@ -7,6 +7,7 @@
 //! - `wake`:    when a tick alone would next send something
 //! - `calls`:   the library calls on lent tables
 //! - `batch`:   many events in one call
+//! - `clock`:   the time of a board with a short clock
 //! - `trace`:   the trace and the program that prints it
 //! - `sheet`:   the sale-day sheet of a trace
 //! - `sample`:  random numbers and random tables, for tests
@@ -14,6 +15,7 @@
 
 pub mod batch;
 pub mod calls;
+pub mod clock;
 pub mod kinds;
 pub mod numbers;
 pub mod rules;
@@ -26,6 +28,7 @@ pub mod wake;
 
 pub use batch::batch;
 pub use calls::{arrive, complete, open, tick, Reply, NEVER};
+pub use clock::{clock_read, Clock};
 pub use numbers::{Settings, CEILING};
 pub use rules::{Answer, Phase, State};
 pub use sound::{first_broken, Rule};

@@ -3,6 +3,7 @@
 
 use crate::batch::{ANSWER_NUMBERS, EVENT_NUMBERS, MOST_EVENTS};
 use crate::calls::{read, table_refusal};
+use crate::clock::Clock;
 use crate::numbers::{
     Settings, CEILING, MOST_COST, MOST_CREDIT, MOST_RATE, MOST_STEP, RULE_1, RULE_2, SECOND,
 };
@@ -386,6 +387,34 @@ pub fn spoil(rng: &mut Prng, tables: &mut Owned) {
         6 => table[at] = rng.pick(&EDGES),
         _ => table[at] = rng.sized(64),
     }
+}
+
+/// A clock record of any numbers, and a reading for it.
+pub fn any_clock(rng: &mut Prng) -> (Clock, u32) {
+    let last = rng.sized(32) as u32;
+    let time = match rng.below(6) {
+        0 => rng.pick(&[CEILING, CEILING + 1, u64::MAX]),
+        1 => CEILING - rng.sized(44),
+        2 => rng.sized(64),
+        _ => rng.sized(62),
+    };
+    let record = Clock {
+        time,
+        last,
+        started: rng.pick(&[0, 1, 1, 1, 1, 2, 256, u32::MAX]),
+    };
+    let step = rng.sized(32) as u32;
+    let any = rng.any() as u32;
+    let reading = match rng.below(4) {
+        0 => rng.pick(&[last, last.wrapping_add(1), last.wrapping_sub(1), any]),
+        // On to the ceiling, or just past it.
+        1 => {
+            let left = CEILING.saturating_sub(time) / 1_000;
+            last.wrapping_add(left as u32).wrapping_add(step % 2)
+        }
+        _ => last.wrapping_add(step),
+    };
+    (record, reading)
 }
 
 /// A batch of events for some tables, and room for its answers.

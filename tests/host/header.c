@@ -49,6 +49,11 @@ AT(sgq_answer, guest, 1);
 AT(sgq_answer, id, 2);
 AT(sgq_answer, refusal, 3);
 AT(sgq_answer, wake, 4);
+AT(sgq_told, refusal, 0);
+AT(sgq_told, time, 1);
+AT(sgq_clock, time, 0);
+AT(sgq_clock, last, 1);
+typedef char sgq_clock_started_stands[offsetof(sgq_clock, started) == sizeof(uint64_t) + sizeof(uint32_t) ? 1 : -1];
 
 static void print_answer(unsigned event, sgq_answer answer)
 {

@@ -1,6 +1,6 @@
 /* What header.c does not try of sgq.h: tables of no records, counts taken from arrays, free places and waiting counts,
- * when to wake, the rules for limits, costs, and many events in one call. C99 and C++ alike; prints a line for each
- * thing that is not as it should be. */
+ * when to wake, the rules for limits, costs, many events in one call, and a short clock. C99 and C++ alike; prints a
+ * line for each thing that is not as it should be. */
 #include "sgq.h"
 
 #include <inttypes.h>
@@ -216,6 +216,22 @@ static void batches(void)
     same("time after them", gate.time, 7);
 }
 
+/* A short clock from zeros, across the wrap, up to the ceiling and no further. */
+static void clocks(void)
+{
+    sgq_clock clock = {0, 0, 0};
+    same("the first reading", sgq_clock_read(&clock, UINT32_MAX).time, 0);
+    same("started", clock.started, 1);
+    same("across the wrap", sgq_clock_read(&clock, 1).time, 2000);
+    clock.time = SGQ_CEILING - 1000;
+    same("the ceiling", sgq_clock_read(&clock, 2).time, SGQ_CEILING);
+    const sgq_told told = sgq_clock_read(&clock, 3);
+    same("past it", told.refusal, SGQ_REFUSED_TIME_ABOVE_CEILING);
+    same("the time told", told.time, 0);
+    same("the time kept", clock.time, SGQ_CEILING);
+    same("the reading kept", clock.last, 2);
+}
+
 int main(void)
 {
     char version[32];
@@ -227,5 +243,6 @@ int main(void)
     rules();
     costs();
     batches();
+    clocks();
     return wrong;
 }

@@ -68,6 +68,19 @@
 //! # }
 //! ```
 //!
+//! A board that counts microseconds in 32 bits has a [`Clock`], which tells the time that a gate takes:
+//!
+//! ```
+//! use sgq::{Clock, Refusal};
+//!
+//! # fn main() -> Result<(), Refusal> {
+//! let mut clock = Clock::new();
+//! assert_eq!(clock.read(u32::MAX - 99)?, 0); // the first reading
+//! assert_eq!(clock.read(400)?, 500_000); // 500 microseconds later, across the wrap
+//! # Ok(())
+//! # }
+//! ```
+//!
 //! # Linking
 //!
 //! The build script links the archive that the environment variable `SGQ_LIB` names, or else target/staticlib/libhost.a
@@ -77,15 +90,17 @@
 //! # What is proved
 //!
 //! The library's calls are. This wrapper is not: it keeps the tables, passes them on as pointers and lengths, and gives
-//! the answers names. Its `unsafe` blocks are those five calls.
+//! the answers names. Its `unsafe` blocks are those six calls.
 
 #![deny(missing_docs, unsafe_op_in_unsafe_fn)]
 
 mod answer;
+mod clock;
 mod gate;
 pub mod raw;
 
 pub use answer::{Answer, Outcome, Phase, Refusal};
+pub use clock::Clock;
 pub use gate::{Answers, Gate, Rule};
 pub use raw::{Event, Flight, Guest, Request, Settings};
 

@@ -210,6 +210,29 @@ pub struct Answer {
     pub wake: u64,
 }
 
+/// A clock for a board that counts microseconds in 32 bits; [`crate::Clock`] keeps one.
+#[repr(C)]
+#[derive(Clone, Copy, Debug, Default, PartialEq, Eq)]
+pub struct Clock {
+    /// In nanoseconds since the first reading.
+    pub time: u64,
+    /// The last reading, in microseconds.
+    pub last: u32,
+    /// 0: no reading was taken yet; any other number: one was.
+    pub started: u32,
+}
+
+/// What a reading of a clock is told.
+#[must_use = "a reading that is refused tells no time"]
+#[repr(C)]
+#[derive(Clone, Copy, Debug, Default, PartialEq, Eq)]
+pub struct Told {
+    /// The refusal number, or 0.
+    pub refusal: u64,
+    /// The clock's time; 0 in a refusal.
+    pub time: u64,
+}
+
 extern "C" {
     /// Opens a gate under a rule, [`RULE_1`] or [`RULE_2`]; settings are [`SETTINGS_NUMBERS`] a guest.
     pub fn sgq_open(
@@ -285,4 +308,7 @@ extern "C" {
         answers: *mut u64,
         answers_length: usize,
     ) -> u64;
+
+    /// A reading of a board's counter, which moves the clock on.
+    pub fn sgq_clock_read(clock: *mut Clock, reading: u32) -> Told;
 }

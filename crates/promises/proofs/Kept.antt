@@ -45,7 +45,11 @@ use Rattle.book.proofs.Balance.{balance, fresh-arrivals, fresh-covered}
 use Rattle.book.proofs.Waits.{fresh-book, sent-waited}
 use Rattle.book.proofs.Sizes.{summed-fits}
 use Rattle.book.proofs.Sums.{first-waits}
-use Rattle.promises.proofs.Promises.{OnTheRules, OverLent, OfABatch, ThroughC, OfATrace, OfTheSheet, Promises}
+use Rattle.clock.proofs.Exactly.{read-exactly, refusal-keeps as reading-keeps, accepted-tells, past-ceiling}
+use Rattle.clock.proofs.Once.{read-once}
+use Rattle.clock.proofs.Rising.{never-falls}
+use Rattle.clock.proofs.TrueTime.{true-time, first-past, unseen}
+use Rattle.promises.proofs.Promises.{OnTheRules, OverLent, OfABatch, ThroughC, OfATrace, OfTheSheet, OfTheClock, Promises}
 
 rules-kept : OnTheRules
 rules-kept =
@@ -151,6 +155,20 @@ sheet-kept =
       fits = summed-fits;
     }
 
+clock-kept : OfTheClock
+clock-kept =
+    record {
+      exactly = read-exactly;
+      refusal-keeps = reading-keeps;
+      accepted-tells = accepted-tells;
+      past-ceiling = past-ceiling;
+      once = read-once;
+      never-falls = never-falls;
+      true-time = true-time;
+      first-past = first-past;
+      unseen = unseen;
+    }
+
 -- What the product promises is kept.
 pub promises : Promises
 promises =
@@ -163,4 +181,5 @@ promises =
       of-a-batch-of-records = batch-kept records records-lawful;
       of-a-trace = trace-kept;
       of-the-sheet = sheet-kept;
+      of-the-clock = clock-kept;
     }

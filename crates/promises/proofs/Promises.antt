@@ -3,11 +3,11 @@
 use Prim.Native.Nat.{ℕ, _+_, _*_, _^_, _≤_, _<_}
 use mathlib.Core.Path.{_≡_}
 use mathlib.Core.Bool.{Bool, true, false, not}
-use mathlib.Core.List.{List, [], _++_, map}
+use mathlib.Core.List.{List, [], _∷_, _++_, map}
 use mathlib.Core.Logic.{_↔_, _⊎_}
 use lib.ListN.{length, take, drop}
 use Rattle.lists.specs.Words.{if_then_else_, all, filter}
-use Rattle.rules.specs.Numbers.{tagAt}
+use Rattle.rules.specs.Numbers.{ceiling, tagAt}
 use Rattle.rules.specs.Tables.{Request, Table, owner, idle}
 use Rattle.rules.specs.Sound.{sound}
 use Rattle.rules.specs.Answers.{shown, taken}
@@ -54,6 +54,10 @@ use Rattle.host.specs.Host.{gateIn, hosted}
 use Rattle.host.specs.Calls.{Lent, inside, shownBy, through, kept, heldBy, fours, Refuses, Takes, freeFours}
 use Rattle.host.proofs.Runs.{ThroughRuns}
 use Rattle.host.proofs.Once.{Timely, Back}
+use Rattle.clock.specs.declared.Clock.{Clock}
+use Rattle.clock.specs.declared.Told.{Told}
+use Rattle.clock.specs.Reading.{wrap, tells, movedTo, doing}
+use Rattle.clock.specs.Runs.{Started, clockCases, Refuses as RefusesReading, Takes as TakesReading, run as readings, after as clockAfter, times, begins, Rising, shows as shownAt, Near, since, Within, trueAt}
 use Rattle.lines.specs.Line.{titleLine, refusedWith}
 use Rattle.trace.specs.Printed.{linesFrom, printed}
 use Rattle.trace.specs.Event.{whole}
@@ -219,6 +223,22 @@ pub record OfTheSheet : Type 0 where
   pub waits : (t : Table) (es : List Event) (g : ℕ) → g < length (t .guests) → WaitsAre (figuresAt (turnedBy (firstPage t) es .figures) g) (waitsBy g (firstPage t) es)
   pub fits : (t : Table) (es : List Event) (g : ℕ) → g < length (turnedBy (firstPage t) es .figures) → length es < 2 ^ 64 → figuresAt (turnedBy (firstPage t) es .figures) g .summed < 2 ^ 128
 
+-- OF A SHORT CLOCK, document 02, K13: what a reading of a lent record promises, the same through C
+
+pub record OfTheClock : Type 0 where
+  -- 5 exactly where a reading would pass the ceiling; a refusal leaves the record; an accepted reading is told the clock's time, which a gate takes; any two outcomes that the promise admits are equal
+  pub exactly : (c : Clock) (r : ℕ) → RefusedExactly (clockCases c r) (RefusesReading (doing c r .0)) (TakesReading (doing c r .0))
+  pub refusal-keeps : (c : Clock) (r n : ℕ) → RefusesReading (doing c r .0) n → doing c r ≡ (tells n 0, c)
+  pub accepted-tells : (c : Clock) (r : ℕ) → TakesReading (doing c r .0) → (doing c r ≡ movedTo (doing c r .1)) × (doing c r .1 .time ≤ ceiling)
+  pub past-ceiling : (c : Clock) → Started c → ceiling < c .time → (rs : List ℕ) → readings c rs ≡ map (λ (r : ℕ). (tells 5 0, c)) rs
+  pub once : (h k : Told × Clock) (c : Clock) (r : ℕ) → h ≡ doing c r → k ≡ doing c r → h ≡ k
+  -- time never falls; where readings are near enough it is the true one, up to the ceiling; a longer gap is not seen
+  pub never-falls : (c : Clock) (rs : List ℕ) → Rising (begins c) (times c rs)
+  pub true-time : (c : Clock) (t : ℕ) (us : List ℕ) → c .started ≡ 0 → Near t us → Within t us → readings c (map shownAt (t ∷ us)) ≡ map (λ (u : ℕ). movedTo (trueAt t u)) (t ∷ us)
+  pub first-past : (c : Clock) (t : ℕ) (us : List ℕ) (u : ℕ) → c .started ≡ 0 → Near t (us ++ (u ∷ [])) → Within t us → ceiling < since t u
+      → doing (clockAfter c (map shownAt (t ∷ us))) (shownAt u) ≡ (tells 5 0, clockAfter c (map shownAt (t ∷ us)))
+  pub unseen : (c : Clock) (u : ℕ) → doing c (shownAt (u + wrap)) ≡ doing c (shownAt u)
+
 -- ALL OF IT
 
 pub record Promises : Type 0 where
@@ -230,3 +250,4 @@ pub record Promises : Type 0 where
   pub of-a-batch-of-records : OfABatch records
   pub of-a-trace : OfATrace
   pub of-the-sheet : OfTheSheet
+  pub of-the-clock : OfTheClock

@@ -1,6 +1,6 @@
 //! Hands random tables, most of them damaged, to each call of the library through the C interface, and compares the
 //! answer and every number of every table afterwards with the second program; then plays whole runs on sound tables,
-//! and hands batches of events over sound and damaged tables.
+//! and hands batches of events over sound and damaged tables; and reads short clocks.
 //!
 //!     host-tests [FIRST]     the seeds begin at FIRST, 1 where none is named
 //!
@@ -9,6 +9,7 @@
 mod batches;
 mod calls;
 mod clean;
+mod clocks;
 mod damage;
 mod fence;
 mod tally;
@@ -61,6 +62,7 @@ fn main() -> ExitCode {
     damaged(first, &mut fences, &mut tally);
     clean(first, &mut fences, &mut tally);
     batched(first, &mut fences, &mut tally);
+    clocks::test(first, &mut tally);
     println!("{} passed, {} failed", tally.passed, tally.failed);
     ExitCode::from(if tally.failed == 0 { 0 } else { 1 })
 }
