@@ -7,6 +7,8 @@ use Rattle.rules.proofs.TurnAt.{demand-3-places, no-place-no-send}
 use Rattle.rules.proofs.Readings.{readings}
 use Rattle.rules.proofs.Credit.{credit-0}
 use Rattle.rules.proofs.Bursts.{bursts}
+use Rattle.rules.proofs.Costs.{costs}
+use Rattle.rules.proofs.Plain.{cost-1}
 use Rattle.rules.proofs.WakeFits.{accepted-wakes, accepted-none, wakes-once}
 use Rattle.worth.proofs.Worth.{limit-worth}
 use Rattle.worth.proofs.Counted.{none-missed}
@@ -67,8 +69,10 @@ rules-kept =
       worth = limit-worth;
       none-missed = none-missed;
       credit-0 = credit-0;
+      cost-1 = cost-1;
       readings = readings;
       bursts = bursts;
+      costs = costs;
     }
 
 lent-kept : (v : Lending) (lawful : Lawful v) → OverLent v lawful

@@ -10,6 +10,7 @@ use Rattle.lists.specs.Words.{if_then_else_, all, filter}
 use Rattle.rules.specs.Numbers.{ceiling, tagAt}
 use Rattle.rules.specs.Tables.{Request, Table, owner, idle}
 use Rattle.rules.specs.Sound.{sound}
+use Rattle.rules.specs.Plain.{soundPlain, costsOne, bringsOne}
 use Rattle.rules.specs.Answers.{shown, taken}
 use Rattle.rules.specs.Choice.{Result, due, open?}
 use Rattle.rules.specs.Events.{moment, shareTag, enter}
@@ -36,6 +37,8 @@ use Rattle.rules.specs.declared.Wake.{Wake}
 use Rattle.rules.specs.declared.Wake.the-variants.{Never}
 use Rattle.rules.proofs.Readings.{Readings}
 use Rattle.rules.proofs.Bursts.{Bursts}
+use Rattle.rules.proofs.Costs.{Costs}
+use Rattle.rules.proofs.Plain.{SameRun}
 use Rattle.rules.proofs.Trials.{X}
 use Rattle.worth.specs.Passages.{passages}
 use Rattle.worth.specs.Worth.{Worth}
@@ -97,8 +100,10 @@ pub record OnTheRules : Type 0 where
   pub worth : (t : Table) (es : List Event) → sound t ≡ true → Worth t es (answers t es)
   pub none-missed : (g : ℕ) (t : Table) (es : List Event) → sound t ≡ true → idle t g ≡ true → length (filter (own g) (passages es (answers t es))) ≡ length (left g (answers t es))
   pub credit-0 : (now : ℕ) (h : Guest) → h .settings .credit ≡ 0 → (idle : Bool) → shareTag idle now h ≡ (if idle then now else tagAt now (h .snext))
+  pub cost-1 : (es : List Event) (t : Table) → soundPlain t ≡ true → all costsOne (t .waiting) ≡ true → all bringsOne es ≡ true → SameRun t es
   pub readings : Readings
   pub bursts : Bursts
+  pub costs : Costs
 
 -- OVER LENT TABLES, in a way of lending guests
 
