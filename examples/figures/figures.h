@@ -18,6 +18,7 @@ void credit_figures(void);
 void overbooked_figures(void);
 void limit_figures(void);
 void rules_figures(void);
+void worth_figures(void);
 void costs_figures(void);
 
 /* duties.c */

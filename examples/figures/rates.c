@@ -246,29 +246,36 @@ void limit_figures(void)
     after_a_pause();
 }
 
-/* The rules for limits. */
+/* The rules for limits, and what a limit is worth: one guest alone, at an array that is never full. */
+static sgq_gate lone_gate;
+static sgq_guest lone_guest[1];
+static sgq_request lone_waiting[512];
+static sgq_flight lone_flight[2];
+static const sgq_tables lone = SGQ_TABLES(lone_gate, lone_guest, lone_waiting, lone_flight);
 
-/* A guest with 100 a second reserved and a limit of 250 asks for more, for a second, at an array that is never full:
- * how many go, and how many of them before their limit tag. They go in order, so the first waiting goes next. */
+/* Opens its gate, and lets it bring as many requests of this cost as may wait, all at 0: the first goes at once. */
+static sgq_answer crowd(const sgq_settings *settings, uint64_t rule, uint64_t cost)
+{
+    sgq_answer answer = sgq_tables_open_all(&lone, rule, settings, 1);
+    for (uint32_t id = 0; id < SGQ_COUNT(lone_waiting) && answer.kind != SGQ_REFUSED; id++)
+        answer = sgq_tables_arrive(&lone, 0, id, 0, cost);
+    if (answer.kind == SGQ_REFUSED)
+        stop_at("a crowd", answer);
+    return answer;
+}
+
+/* A guest with 100 a second reserved and a limit of 250 asks for more, for a second: how many go, and how many of them
+ * before their limit tag. They go in order, so the first waiting goes next. */
 static void bill(uint64_t rule)
 {
     static const sgq_settings settings[] = {{100, 250, 1, 0}};
-    static sgq_gate gate;
-    static sgq_guest guests[1];
-    static sgq_request waiting[512];
-    static sgq_flight flight[2];
-    const sgq_tables lent = SGQ_TABLES(gate, guests, waiting, flight);
-    sgq_answer answer = sgq_tables_open_all(&lent, rule, settings, 1);
-    for (uint32_t id = 0; id < SGQ_COUNT(waiting) && answer.kind != SGQ_REFUSED; id++)
-        answer = sgq_tables_arrive(&lent, 0, id, 0, 1);
-    if (answer.kind == SGQ_REFUSED)
-        stop_at("the bill", answer);
+    sgq_answer answer = crowd(settings, rule, 1);
     uint64_t sent = 1, early = 0, most = 0; /* id 0 went at 0 */
     for (uint32_t last = 0; answer.wake < SECOND; last = (uint32_t)answer.id, sent++) {
-        const uint64_t now = answer.wake, limit = waiting[0].ltag;
+        const uint64_t now = answer.wake, limit = lone_waiting[0].ltag;
         early += limit > now;
         most = limit > now && limit - now > most ? limit - now : most;
-        answer = sgq_tables_complete(&lent, 0, last, now);
+        answer = sgq_tables_complete(&lone, 0, last, now);
     }
     printf("%4" PRIu64 "  %16" PRIu64 "  %22" PRIu64 "  ", rule, sent, early);
     printf("%3s", "");
@@ -282,6 +289,31 @@ void rules_figures(void)
     printf("rule  sent in a second  before their limit tag  by at most, ms\n");
     bill(SGQ_RULE_1);
     bill(SGQ_RULE_2);
+}
+
+/* What a limit is worth. */
+
+/* A guest with a limit of 250 brings requests of this cost at 0: how many go within a second, its last moment too, and
+ * what all but the last of them take of the limit. */
+static void promise(uint64_t cost)
+{
+    static const sgq_settings settings[] = {{0, 250, 1, 0}};
+    sgq_answer answer = crowd(settings, SGQ_RULE_1, cost);
+    uint64_t sent = 1; /* id 0 went at 0 */
+    for (uint32_t last = 0; answer.wake <= SECOND; last = (uint32_t)answer.id, sent++)
+        answer = sgq_tables_complete(&lone, 0, last, answer.wake);
+    printf("%4" PRIu64 "  %16" PRIu64 "  %9s", cost, sent, "");
+    print_ms((sent - 1) * cost * (SECOND / 250));
+    printf("\n");
+}
+
+void worth_figures(void)
+{
+    static const uint64_t costs[] = {1, 8, 64};
+    printf("a guest with a limit of 250 a second, 4 ms to a cost of 1, brings 512 requests at once\n");
+    printf("cost  sent in a second  all but the last, ms\n");
+    for (size_t row = 0; row < SGQ_COUNT(costs); row++)
+        promise(costs[row]);
 }
 
 /* Costs. */
