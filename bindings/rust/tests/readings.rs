@@ -389,7 +389,7 @@ fn limit_by_cost() {
     assert_eq!(gate.tick(300 * MS), by_weight(0, 2));
 }
 
-/// "A cost outside 1 to 64 is 18, after 6 and before 7."
+/// Document 02, K8: "a cost outside 1 to 64 is 18, after 6 and before 7".
 #[test]
 fn bad_costs() {
     let mut gate = open(1, 1, &[settings(0, 0, 1)]);
