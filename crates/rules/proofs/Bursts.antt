@@ -2,7 +2,7 @@
 -- Words in quotes are K6's. Assumes nothing.
 use mathlib.Core.Path.{_≡_, refl}
 use mathlib.Core.Bool.{Bool, true, false}
-use mathlib.Core.List.{List, [], _∷_}
+use mathlib.Core.List.{List, [], _∷_, map}
 use Prim.Native.Nat.{ℕ}
 use Rattle.rules.specs.Numbers.{ceiling}
 use Rattle.rules.specs.Tables.{Settings, Request, Table}
@@ -10,6 +10,7 @@ use Rattle.rules.specs.Sound.{settled}
 use Rattle.rules.specs.Events.{Event, Arrival, Tick}
 use Rattle.rules.specs.Run.{newcomer, fresh}
 use Rattle.rules.proofs.Trials.{ms, settings, comes, -, W, X, lines, waitingAfter, named}
+use Rattle.rules.proofs.Stepwise.{stepwise, stepwiseThen, printed, left}
 
 -- settings with a credit
 abbrev credited : (reservation limit shares credit : ℕ) → Settings
@@ -60,39 +61,19 @@ pub record Bursts : Type 0 where
   -- refused 9 all the same, as it would move the share tags of guest 1, which lie back, past the ceiling
   pub another's-credit : lines (fresh 1 8 1 (settings 0 0 1 ∷ credited 0 0 1000 2 ∷ [])) lastBurst ≡ W 0 1 ∷ - ∷ - ∷ X 9 ∷ []
 
--- they hold, each by itself: together they would be too much to compute
-lies : waitingAfter Request.stag (desk 0) (burst 100) ≡ ms 98 ∷ ms 99 ∷ ms 100 ∷ []
-unfolding lines
-lies = refl
-
-cut : waitingAfter Request.stag (desk 0) (burst 1) ≡ 0 ∷ ms 1 ∷ ms 2 ∷ []
-unfolding lines
-cut = refl
-
-reservations : waitingAfter Request.rtag (desk 0) (burst 100) ≡ ms 100 ∷ ms 104 ∷ ms 108 ∷ []
-unfolding lines
-reservations = refl
-
-limits : waitingAfter Request.ltag (desk 0) (burst 100) ≡ ms 100 ∷ ms 102 ∷ ms 104 ∷ []
-unfolding lines
-limits = refl
-
-last : lines (fresh 1 8 1 (settings 0 0 1 ∷ credited 0 0 1000 2 ∷ [])) lastBurst ≡ W 0 1 ∷ - ∷ - ∷ X 9 ∷ []
-unfolding lines
-last = refl
-
+-- they all hold
 pub bursts : Bursts
-unfolding lines
+unfolding stepwise stepwiseThen
 bursts =
     record {
-      lies-back = lies;
-      cut-off = cut;
-      reservations-do-not = reservations;
-      limits-do-not = limits;
-      next-counts = refl;
-      not-later = refl;
+      lies-back = left (λ t. map Request.stag (t .waiting)) _ _;
+      cut-off = left (λ t. map Request.stag (t .waiting)) _ _;
+      reservations-do-not = left (λ t. map Request.rtag (t .waiting)) _ _;
+      limits-do-not = left (λ t. map Request.ltag (t .waiting)) _ _;
+      next-counts = left (λ t. map Request.stag (t .waiting)) _ _;
+      not-later = left (λ t. map Request.stag (t .waiting)) _ _;
       most = refl;
       too-much = refl;
-      three-where-open = refl;
-      another's-credit = last;
+      three-where-open = printed _ _;
+      another's-credit = printed _ _;
     }

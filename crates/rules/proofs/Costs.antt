@@ -1,13 +1,14 @@
 -- Readings of document 02, K8: what a cost does to tags, next numbers, the drop and soundness, and when it is refused. Words in quotes are K8's.
 -- Assumes nothing.
-use mathlib.Core.Path.{_≡_, refl}
+use mathlib.Core.Path.{_≡_}
 use mathlib.Core.Bool.{true, false}
-use mathlib.Core.List.{List, [], _∷_}
+use mathlib.Core.List.{List, [], _∷_, map}
 use Prim.Native.Nat.{ℕ}
 use Rattle.rules.specs.Tables.{Guest, Request, Table}
 use Rattle.rules.specs.Events.{Event}
 use Rattle.rules.specs.Run.{fresh}
 use Rattle.rules.proofs.Trials.{ms, settings, comesFor, ends, -, R, W, X, lines, waitingAfter, guestsAfter, named}
+use Rattle.rules.proofs.Stepwise.{stepwise, stepwiseThen, printed, left}
 
 -- one place at the array, and a guest whose spacings are 10 ms by reservation, 4 ms by limit and 1 ms by shares
 abbrev plates : Table
@@ -61,21 +62,21 @@ pub record Costs : Type 0 where
 
 -- they all hold
 pub costs : Costs
-unfolding lines
+unfolding stepwise stepwiseThen
 costs =
     record {
-      reservations = refl;
-      limits = refl;
-      shares = refl;
-      nexts = refl;
-      costs = refl;
-      answers = refl;
-      dropped = refl;
-      next-dropped = refl;
-      outside = refl;
-      after-6-before-7 = refl;
-      apart = refl;
-      too-near = refl;
-      not-next = refl;
-      none-kept = refl;
+      reservations = left (λ t. map Request.rtag (t .waiting)) _ _;
+      limits = left (λ t. map Request.ltag (t .waiting)) _ _;
+      shares = left (λ t. map Request.stag (t .waiting)) _ _;
+      nexts = left (λ t. map Guest.rnext (t .guests)) _ _;
+      costs = left (λ t. map Request.cost (t .waiting)) _ _;
+      answers = printed _ _;
+      dropped = left (λ t. map Request.rtag (t .waiting)) _ _;
+      next-dropped = left (λ t. map Guest.rnext (t .guests)) _ _;
+      outside = printed _ _;
+      after-6-before-7 = printed _ _;
+      apart = printed _ _;
+      too-near = printed _ _;
+      not-next = printed _ _;
+      none-kept = printed _ _;
     }

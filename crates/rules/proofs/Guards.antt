@@ -1,7 +1,7 @@
 -- More readings, as one table under a single statement: document 01's unmarked ones, and small runs that shut out its plausible errors. No guest here
 -- has credit, so share tags are by document 02, K3; Bursts.antt has runs with credit.
 -- Assumes nothing.
-use mathlib.Core.Path.{_≡_, refl, ap, _∙_}
+use mathlib.Core.Path.{_≡_, refl}
 use mathlib.Core.List.{List, [], _∷_, map}
 use Prim.Native.Nat.{ℕ, suc}
 use lib.ListN.{replicate}
@@ -9,10 +9,11 @@ use Rattle.rules.specs.Numbers.{ceiling}
 use Rattle.rules.specs.Tables.{Settings, Guest, Request, Table}
 use Rattle.rules.specs.Events.{Event, Arrival, Completion, Tick}
 use Rattle.rules.specs.Answers.{hour}
-use Rattle.rules.specs.Run.{after, fresh}
+use Rattle.rules.specs.Run.{fresh}
 use Rattle.rules.specs.Waking.{readyAt, wake, wakes}
 use Rattle.rules.proofs.Readings.{oneBy, one, ten}
 use Rattle.rules.proofs.Trials.{ms, settings, comes, ends, three, -, R, W, X, lines, waitingAfter, guestsAfter, flightAfter, named}
+use Rattle.rules.proofs.Stepwise.{stepwise, stepwiseThen, printed, left}
 
 -- a guest without reservation or limit, with shares 1: its spacing is a second
 abbrev free : Settings
@@ -148,71 +149,41 @@ pub record Guards : Type 0 where
   pub late-wakes : wakings one (three (Tick (ms 20) ∷ [])) ≡ [] ∷ (ms 4 ∷ []) ∷ (ms 4 ∷ []) ∷ (ms 20 ∷ []) ∷ []
   pub full-wakes : wakings (gate (free ∷ [])) (three []) ≡ [] ∷ [] ∷ [] ∷ []
 
--- guest 0 of `bound`, its three requests accepted: named, since what comes after it would compute it over and over
-abbrev between : Table
-between =
-    record {
-      setup = record { depth = 1; capacity = 8; rule = 1 };
-      time = 0;
-      guests =
-          record { settings = settings 1 1 1; rnext = ms 3000; lnext = ms 3000; snext = ms 2000 }
-          ∷ record { settings = settings 0 0 2; rnext = 0; lnext = 0; snext = 0 }
-          ∷ [];
-      waiting =
-          record { guest = 0; id = 2; rtag = ms 1000; ltag = ms 1000; stag = 0; cost = 1 }
-          ∷ record { guest = 0; id = 3; rtag = ms 2000; ltag = ms 2000; stag = ms 1000; cost = 1 }
-          ∷ [];
-      flight = named 0 1 ∷ [];
-    }
-
-between-is : after bound (three []) ≡ between
-unfolding lines
-between-is = refl
-
--- what comes behind them
-behind-them : (f : Table → List ℕ) → f (after bound joined) ≡ f (after between (comes 1 1 100 ∷ comes 0 4 100 ∷ []))
-unfolding after
-behind-them f = ap (λ (t : Table). f (after t (comes 1 1 100 ∷ comes 0 4 100 ∷ []))) between-is
-
-tags-behind : waitingAfter Request.stag between (comes 1 1 100 ∷ comes 0 4 100 ∷ []) ≡ ms 100 ∷ ms 1100 ∷ ms 100 ∷ ms 2100 ∷ []
-unfolding lines
-tags-behind = refl
-
 -- they all hold
 pub guards : Guards
-unfolding lines readyAt wake wakes
+unfolding stepwise stepwiseThen readyAt wake wakes
 guards =
     record {
-      last-time = refl;
-      last-arrival = refl;
-      last-arrivals = refl;
-      last-reserved = refl;
-      last-limited = refl;
-      moved-past = refl;
-      one-place = refl;
-      last-guest = refl;
-      time-before = refl;
-      ids = refl;
-      tie-by-weight = refl;
-      tie-by-reservation = refl;
-      tags-from-now = refl;
-      limits-from-now = refl;
-      shares-from-now = refl;
-      moved-shares = behind-them (λ t. map Request.stag (t .waiting)) ∙ tags-behind;
-      unmoved-reservations = refl;
-      unmoved-limits = refl;
-      not-idle = refl;
-      idle-in-flight = refl;
-      spare = refl;
-      spare-tags = refl;
-      spare-nexts = refl;
-      in-flight = refl;
-      thirds-reserved = refl;
-      thirds-limited = refl;
-      thirds-shared = refl;
+      last-time = printed _ _;
+      last-arrival = printed _ _;
+      last-arrivals = printed _ _;
+      last-reserved = printed _ _;
+      last-limited = printed _ _;
+      moved-past = printed _ _;
+      one-place = printed _ _;
+      last-guest = printed _ _;
+      time-before = printed _ _;
+      ids = printed _ _;
+      tie-by-weight = printed _ _;
+      tie-by-reservation = printed _ _;
+      tags-from-now = left (λ t. map Request.rtag (t .waiting)) _ _;
+      limits-from-now = left (λ t. map Request.ltag (t .waiting)) _ _;
+      shares-from-now = left (λ t. map Request.stag (t .waiting)) _ _;
+      moved-shares = left (λ t. map Request.stag (t .waiting)) _ _;
+      unmoved-reservations = left (λ t. map Request.rtag (t .waiting)) _ _;
+      unmoved-limits = left (λ t. map Request.ltag (t .waiting)) _ _;
+      not-idle = left (λ t. map Request.stag (t .waiting)) _ _;
+      idle-in-flight = left (λ t. map Request.stag (t .waiting)) _ _;
+      spare = printed _ _;
+      spare-tags = left (λ t. map Request.rtag (t .waiting)) _ _;
+      spare-nexts = left (λ t. map Guest.rnext (t .guests)) _ _;
+      in-flight = left (λ t. t .flight) _ _;
+      thirds-reserved = left (λ t. map Request.rtag (t .waiting)) _ _;
+      thirds-limited = left (λ t. map Request.ltag (t .waiting)) _ _;
+      thirds-shared = left (λ t. map Request.stag (t .waiting)) _ _;
       ten-wakes = refl;
-      by-rule-1 = refl;
-      by-rule-2 = refl;
+      by-rule-1 = printed _ _;
+      by-rule-2 = printed _ _;
       ten-wakes-by-rule-2 = refl;
       late-wakes = refl;
       full-wakes = refl;

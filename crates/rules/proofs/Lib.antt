@@ -32,6 +32,7 @@ pub mod Bounds
 pub mod Conditions
 pub mod Refused
 pub mod Trials
+pub mod Stepwise
 pub mod Answered
 pub mod Guards
 pub mod Bursts

@@ -2,12 +2,13 @@
 -- Assumes nothing.
 use mathlib.Core.Path.{_≡_, refl}
 use mathlib.Core.Bool.{Bool, true, false}
-use mathlib.Core.List.{List, [], _∷_}
+use mathlib.Core.List.{List, [], _∷_, map}
 use Prim.Native.Nat.{ℕ}
 use Rattle.rules.specs.Tables.{Guest, Request, Table, rplain, lplain, splain}
 use Rattle.rules.specs.Events.{Event, Tick, stamped}
 use Rattle.rules.specs.Run.{fresh}
 use Rattle.rules.proofs.Trials.{ms, settings, comes, ends, three, -, R, W, X, lines, waitingAfter}
+use Rattle.rules.proofs.Stepwise.{stepwise, stepwiseThen, printed, left}
 
 -- a guest that has all three kinds of tags, with "Next number 10" of each
 abbrev tens : Guest
@@ -65,7 +66,7 @@ pub record Readings : Type 0 where
 
 -- they all hold
 pub readings : Readings
-unfolding lines
+unfolding stepwise stepwiseThen
 readings =
     record {
       reservation-3 = λ l w. refl;
@@ -76,10 +77,10 @@ readings =
       next-before = refl;
       next-before-idle = refl;
       next-after = λ idle. elim idle as (λ b. given b 11 ≡ 11 ∷ 11 ∷ 11 ∷ []) [ true ↦ refl | false ↦ refl ];
-      ten-answers = refl;
-      ten-answers-by-rule-2 = refl;
-      first-tags = refl;
-      moved-down = refl;
-      tie-to-the-earlier = refl;
-      moved-up = refl;
+      ten-answers = printed _ _;
+      ten-answers-by-rule-2 = printed _ _;
+      first-tags = left (λ t. map Request.stag (t .waiting)) _ _;
+      moved-down = left (λ t. map Request.stag (t .waiting)) _ _;
+      tie-to-the-earlier = printed _ _;
+      moved-up = left (λ t. map Request.stag (t .waiting)) _ _;
     }

@@ -6,7 +6,7 @@ use Rattle.rules.specs.Numbers.{down, up}
 use Rattle.rules.specs.Tables.{Settings, Guest, Request, Flight, Table, idle}
 use Rattle.rules.specs.Answers.{Printed, shown}
 use Rattle.rules.specs.Sound.{counted, settled, ranges, ruled, distinct, lawful, fair, kept, orderly, sound}
-use Rattle.rules.specs.Choice.{dueAt, openAt, passesAt, sending, earlier, sooner, dropped, byWeight, byReservation, room, choice}
+use Rattle.rules.specs.Choice.{Result, dueAt, openAt, passesAt, sending, earlier, sooner, dropped, byWeight, byReservation, room, choice}
 use Rattle.rules.specs.Events.{Event, Arrival, Completion, shifted, shiftedNext, adjusted, back, shareTag, stamped, following, placed, arriveAs, arrive, complete, wait, enter}
 use Rattle.rules.specs.Refusals.{eventTests}
 use Rattle.rules.specs.Run.{decided, step, after, answers, fresh}
@@ -51,9 +51,14 @@ W g i = record { letter = 87; values = g ∷ i ∷ [] }
 abbrev pub X : ℕ → Printed
 X n = record { letter = 88; values = n ∷ [] }
 
+-- a step; to unfold it is to unfold all that a step computes with
+unfoldable pub worked : Table → Event → Result
+unfolding down up lowest idle counted settled ranges ruled distinct lawful fair kept orderly sound dueAt openAt passesAt sending earlier sooner dropped byWeight byReservation room choice shifted shiftedNext adjusted back shareTag stamped following placed arriveAs arrive complete wait enter eventTests decided step fresh
+worked t e = step t e
+
 -- what is printed of a run; to unfold it is to unfold all that a run computes with
 unfoldable pub lines : Table → List Event → List Printed
-unfolding down up lowest idle counted settled ranges ruled distinct lawful fair kept orderly sound dueAt openAt passesAt sending earlier sooner dropped byWeight byReservation room choice shifted shiftedNext adjusted back shareTag stamped following placed arriveAs arrive complete wait enter eventTests decided step after answers fresh
+unfolding worked after answers
 lines t es = map shown (answers t es)
 
 -- a number of each request that waits after a run
