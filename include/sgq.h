@@ -28,7 +28,7 @@
 /* The version of this header and of the library that it belongs to. While the major number is 0, another minor number
  * means other calls or other rows. SGQ_VERSION is the text "MAJOR.MINOR.PATCH". */
 #define SGQ_VERSION_MAJOR 0
-#define SGQ_VERSION_MINOR 7
+#define SGQ_VERSION_MINOR 8
 #define SGQ_VERSION_PATCH 0
 #define SGQ_VERSION \
     SGQ_TEXT_OF(SGQ_VERSION_MAJOR) "." SGQ_TEXT_OF(SGQ_VERSION_MINOR) "." SGQ_TEXT_OF(SGQ_VERSION_PATCH)
@@ -207,7 +207,7 @@ enum sgq_refusal {
     SGQ_REFUSED_TAG_ABOVE_CEILING = 9,  /* "arrival: a tag given, or a share tag moved, would pass the ceiling" */
     SGQ_REFUSED_NOT_IN_FLIGHT = 10,     /* "completion: guest has no such id in flight" */
 
-    /* Only the program that reads a trace gives those named so; no call does. */
+    /* Those named so are of a trace: the programs that read one give them, and the calls that move one. */
     SGQ_REFUSED_TRACE_MARK = 11,       /* "trace mark" */
     SGQ_REFUSED_TRACE_VERSION = 12,    /* "trace version" */
     SGQ_REFUSED_TRACE_HEADER_CUT = 13, /* "trace header cut short" */
@@ -220,7 +220,11 @@ enum sgq_refusal {
     SGQ_REFUSED_TOO_MANY_EVENTS = 17, /* "more than 256 events" */
 
     /* Of an arrival; document 02, K8: "after 6 and before 7". */
-    SGQ_REFUSED_COST = 18 /* "a cost outside 1 to 64"; "one kept in a table is 3" */
+    SGQ_REFUSED_COST = 18, /* "a cost outside 1 to 64"; "one kept in a table is 3" */
+
+    /* Of the move of a trace; document 02, K9. There 14 is also "for a non-zero upper part or kind 3". */
+    SGQ_REFUSED_NO_WAY_BACK = 19, /* "a version 2 trace that has another rule, credit or cost cannot go back" */
+    SGQ_REFUSED_SHORT_ROOM = 21   /* "room too short" */
 };
 
 /* The calls. A table is a pointer to numbers and how many there are; it may be longer than the settings need: "Places
@@ -276,6 +280,32 @@ SGQ_MUST_USE uint64_t sgq_batch(uint64_t *gate,
                                 uint64_t *flight, size_t flight_length,
                                 const uint64_t *events, size_t events_length,
                                 uint64_t *answers, size_t answers_length);
+
+/* The moves of a trace from one version to the other. They know no gate: a pointer is to bytes here, and a length counts
+ * bytes. A trace and its room do not overlap. */
+
+/* What a move answers: refusal 0 and how many bytes it wrote; or the refusal, nothing written, and the number of the
+ * event that refused it, counted from 1, for 14, 15, and 19 where it is a cost. In every other answer event is 0. */
+typedef struct sgq_moved {
+    uint64_t refusal; /* enum sgq_refusal, or 0 */
+    uint64_t written; /* bytes at the beginning of the room */
+    uint64_t event;
+} sgq_moved;
+
+/* By how many bytes a trace grows at the most when it goes up: the rule, and a credit for each of 64 guests. Room for so
+ * many bytes more than the trace has is always enough. */
+#define SGQ_MOST_GROWTH 129
+
+/* Writes a trace of version 1 as one of version 2, or back. Document 02, K9: "the move from version 1 to 2 (rule 1,
+ * credit 0, cost 1) and back. Back and forth gives the same bytes. The printed decisions of a moved trace are the same."
+ * They "work on well-formed traces only, and write nothing when refused; room past the result is unchanged." Refusals, the
+ * first that holds in this order:
+ *   header   13, 11, 12, 1 as when a trace is read, "a trace of the wrong version being 12"
+ *   events   the first that is 14 or 15
+ *   back     19
+ *   room     21 */
+SGQ_MUST_USE sgq_moved sgq_trace_up(const uint8_t *trace, size_t trace_length, uint8_t *room, size_t room_length);
+SGQ_MUST_USE sgq_moved sgq_trace_back(const uint8_t *trace, size_t trace_length, uint8_t *room, size_t room_length);
 
 /* A clock for a board that counts microseconds in 32 bits and starts again from zero. Zeros are a clock of which no
  * reading was taken yet: sgq_clock clock = {0, 0, 0}; */
@@ -494,6 +524,8 @@ static inline const char *sgq_refusal_text(uint64_t refusal)
     case SGQ_REFUSED_SHORT_ANSWERS: return "answer buffer short";
     case SGQ_REFUSED_TOO_MANY_EVENTS: return "more than 256 events";
     case SGQ_REFUSED_COST: return "a cost outside 1 to 64";
+    case SGQ_REFUSED_NO_WAY_BACK: return "a version 2 trace that has another rule, credit or cost cannot go back";
+    case SGQ_REFUSED_SHORT_ROOM: return "room too short";
     default: return "no refusal";
     }
 }

@@ -15,8 +15,15 @@ A text trace has the header lines first, then a line for each event; '#' begins 
     tick at 5ms
     raw 02 00 ff                                  # these bytes as they are, for damaged traces
 
-A guest's line may end with 'credit 0': this form of a trace, version 1, has no place for a credit, so there it is 0.
-A text that begins with a raw line has no header but what its raw lines give.
+That is a trace of version 1. One of these makes it version 2, where what is not said is rule 1, credit 0 and cost 1:
+
+    version 2                                     # stands first
+    rule 2                                        # a line of the header
+    guest 0 reservation 0 limit 0 shares 1 credit 30
+    arrival 0 17 at 4ms cost 8
+
+A text that begins with 'version 1' stays version 1, and then these words may say no other rule, credit and cost. A text
+that begins with a raw line has no header but what its raw lines give.
 
 A text becomes bytes as it comes, in little memory. Nothing is written before the first mebibyte of the trace, or the
 whole of a shorter one, is known to be without a mistake. Where a mistake stands later, what is written by then ends in a
@@ -27,37 +34,45 @@ import signal
 import struct
 import sys
 
-MARK, VERSION = b"SGQ", 1
-START = struct.Struct("<3sHBBH")  # mark, version, depth, guests, capacity
-GUEST = struct.Struct("<III")  # reservation, limit, shares
-EVENT = struct.Struct("<BBIQ")  # kind, guest, id, time
+MARK = b"SGQ"
+START = struct.Struct("<3sHBBH")  # mark, version, depth, guests, capacity; then the rule, one byte, in version 2
+RULE = struct.Struct("<B")
+GUEST = {1: struct.Struct("<III"), 2: struct.Struct("<IIIH")}  # reservation, limit, shares; in version 2 the credit too
+EVENT = struct.Struct("<BBIQ")  # kind, guest, id, time; in version 2 the cost less one stands above the kind's two bits
 KINDS = ["arrival", "completion", "tick"]
+KIND_BITS = 2
+PLAIN = {"rule": 1, "credit": 0, "cost": 1}  # the words that version 1 does not have, and what it means
 MOST_GUESTS = 64
 MOST_DIGITS = 40  # more than any number of a trace needs
 LONGEST = 1 << 20  # bytes of a line of text
 HELD = 1 << 20  # bytes of a trace that are held back until no mistake is found in them
 PART = 1 << 16  # bytes of a trace that are then written at a time
 
-# Words in capitals stand for numbers, the others for themselves.
+# Words in capitals stand for numbers, the others for themselves; a line may end with what is in brackets.
 FORMS = [
+    "version VERSION",
     "depth DEPTH",
     "capacity CAPACITY",
-    "guest NUMBER reservation RESERVATION limit LIMIT shares SHARES",
-    "arrival GUEST ID at TIME",
+    "rule RULE",
+    "guest NUMBER reservation RESERVATION limit LIMIT shares SHARES [credit CREDIT]",
+    "arrival GUEST ID at TIME [cost COST]",
     "completion GUEST ID at TIME",
     "tick at TIME",
     "raw HEX",
 ]
-FORM = {form.split()[0]: form.split() for form in FORMS}
+FORM = {form.split()[0]: form for form in FORMS}
 # Settings as the gate takes them; an event's numbers as the bytes take them, for the gate refuses some of those.
 RANGES = {
+    "VERSION": (1, 2),
     "DEPTH": (1, 64),
     "CAPACITY": (1, 1024),
+    "RULE": (1, 2),
     "NUMBER": (0, MOST_GUESTS - 1),
     "RESERVATION": (0, 1_000_000),
     "LIMIT": (0, 1_000_000),
     "SHARES": (1, 1_000_000),
     "CREDIT": (0, 256),
+    "COST": (1, 64),
     "GUEST": (0, 2**8 - 1),
     "ID": (0, 2**32 - 1),
     "TIME": (0, 2**64 - 1),
@@ -115,22 +130,27 @@ def lines_of(stream):
 
 
 class Text:
-    """A text trace as far as it is read; the header is written when the first event comes."""
+    """A text trace as far as it is read. The header is written with the first part, for until then a cost may come and
+    make it one of version 2; no event of cost 1 changes by that."""
 
     def __init__(self):
-        self.depth = self.capacity = None
+        self.version = None  # as the text says it
+        self.word = None  # what it has said that version 1 does not have
+        self.depth = self.capacity = self.rule = None
         self.guests = []
-        self.begun = False
-        self.waiting = bytearray()  # the bytes that are not handed on yet
+        self.begun = False  # an event or a raw line has come
+        self.headed = False  # and the header is to be written before it
+        self.waiting = bytearray()  # the bytes behind the header that are not handed on yet
         self.handed = 0  # how many bytes are
         self.header = 0  # how many of those are the header, however it was given
 
     def take(self, words):
         if words[0] == "raw":
             return self.take_raw(words[1:])
-        values = numbers(without_credit(words))
+        values = numbers(words)
         if words[0] in KINDS:
             self.begin()
+            self.take_word("cost", values)
             self.waiting += event_bytes(KINDS.index(words[0]), values)
         elif self.begun:
             raise Bad(f"'{words[0]}' belongs to the header, before the first event or raw line")
@@ -138,17 +158,23 @@ class Text:
             self.take_guest(values)
         else:
             self.take_count(words[0], values[words[0].upper()])
+            self.take_word("rule", values)
 
     def take_raw(self, words):
         # Without any header line the raw lines are to give the header.
-        if self.depth is not None or self.capacity is not None or self.guests:
+        if self.has_begun_header():
             self.begin()
         self.begun = True
         self.waiting += hex_bytes("".join(words))
 
+    def has_begun_header(self):
+        return bool(self.guests) or any(getattr(self, name) is not None for name in ("version", "depth", "capacity", "rule"))
+
     def take_count(self, name, value):
         if getattr(self, name) is not None:
             raise Bad(f"a second line '{name}'")
+        if name == "version" and self.has_begun_header():
+            raise Bad("'version' stands before all other lines")
         setattr(self, name, value)
 
     def take_guest(self, values):
@@ -158,26 +184,44 @@ class Text:
         why = settings_fault(*settings)
         if why:
             raise Bad(why)
-        self.guests.append(settings)
+        self.take_word("credit", values)
+        self.guests.append([*settings, values.get("CREDIT", PLAIN["credit"])])
+
+    def take_word(self, word, values):
+        """Notes a word that version 1 does not have, if the line has it."""
+        value = values.get(word.upper())
+        if value is None:
+            return
+        if self.version == 1 and value != PLAIN[word]:
+            raise Bad(f"{word} {value} cannot be said in a trace of version 1, where it is {PLAIN[word]}")
+        if self.version is None and self.word is None and self.handed:
+            raise Bad(f"'{word}' comes too late: begin the text with 'version 2'")
+        self.word = self.word or word
 
     def begin(self):
-        """Writes the header, unless it is written."""
+        """The header is whole, or something is missing."""
         if self.begun:
             return
         for name, value in (("depth", self.depth), ("capacity", self.capacity), ("guest", self.guests or None)):
             if value is None:
-                raise Bad(f"the header has no line '{' '.join(FORM[name])}'")
-        self.begun = True
-        self.waiting += START.pack(MARK, VERSION, self.depth, len(self.guests), self.capacity)
-        for settings in self.guests:
-            self.waiting += GUEST.pack(*settings)
+                raise Bad(f"the header has no line '{FORM[name]}'")
+        self.begun = self.headed = True
+
+    def header_bytes(self):
+        version = self.version or (2 if self.word else 1)
+        header = START.pack(MARK, version, self.depth, len(self.guests), self.capacity)
+        if version == 2:
+            header += RULE.pack(self.rule or PLAIN["rule"])
+        numbers = 4 if version == 2 else 3
+        return header + b"".join(GUEST[version].pack(*settings[:numbers]) for settings in self.guests)
 
     def part(self):
         """The bytes that are not handed on yet, which then are."""
         part = bytes(self.waiting)
         self.waiting.clear()
-        if self.handed == 0 and len(part) >= START.size:
-            self.header = START.size + START.unpack_from(part)[3] * GUEST.size
+        if self.handed == 0:
+            part = (self.header_bytes() if self.headed else b"") + part
+            self.header = header_length(part)
         self.handed += len(part)
         return part
 
@@ -186,20 +230,22 @@ class Text:
         return b"" if (self.handed - self.header) % EVENT.size else bytes(1)
 
 
-def without_credit(words):
-    """A guest's line without the credit that it may end with, which the bytes cannot say."""
-    if words[0] != "guest" or words[-2:-1] != ["credit"]:
-        return words
-    if number("CREDIT", words[-1]) != 0:
-        raise Bad(f"credit {words[-1]} cannot be said in a trace of version {VERSION}, where it is 0")
-    return words[:-2]
+def header_length(trace):
+    """How long a header is that begins so, as far as that can be told."""
+    if len(trace) < START.size:
+        return 0
+    _, version, _, guests, _ = START.unpack_from(trace)
+    return START.size + (RULE.size if version == 2 else 0) + guests * GUEST.get(version, GUEST[1]).size
 
 
 def numbers(words):
     """The numbers of a line by name, the line being of its word's form."""
     if words[0] not in FORM:
         raise Bad(f"no line begins with {shown(words[0])}, but with {', '.join(FORM)}")
-    form, values = FORM[words[0]], {}
+    needed, _, more = FORM[words[0]].partition(" [")
+    form, values = needed.split(), {}
+    if len(words) > len(form):
+        form += more.rstrip("]").split()
     if len(form) != len(words):
         raise of_no_form(words)
     for name, word in zip(form, words):
@@ -211,7 +257,7 @@ def numbers(words):
 
 
 def of_no_form(words):
-    return Bad(f"{shown(' '.join(words))} is not of the form '{' '.join(FORM[words[0]])}'")
+    return Bad(f"{shown(' '.join(words))} is not of the form '{FORM[words[0]]}'")
 
 
 def shown(word):
@@ -255,7 +301,9 @@ def settings_fault(reservation, limit, _shares):
 
 
 def event_bytes(kind, values):
-    return EVENT.pack(kind, values.get("GUEST", 0), values.get("ID", 0), values["TIME"])
+    """The same in both versions where the cost is 1."""
+    first = kind | (values.get("COST", PLAIN["cost"]) - 1) << KIND_BITS
+    return EVENT.pack(first, values.get("GUEST", 0), values.get("ID", 0), values["TIME"])
 
 
 def hex_bytes(digits):
@@ -270,66 +318,90 @@ def hex_bytes(digits):
 def to_text(trace, raw=False):
     """The text of a trace; with raw, bytes that are no good trace become raw lines."""
     try:
-        lines, at = header_lines(trace)
+        version, lines, at = header_lines(trace)
     except Bad:
         if not raw:
             raise
         return "\n".join(raw_lines(trace)) + "\n"
     for event, at in enumerate(range(at, len(trace), EVENT.size), 1):
-        lines.append(event_line(event, trace[at : at + EVENT.size], raw))
+        lines.append(event_line(version, event, trace[at : at + EVENT.size], raw))
     return "\n".join(lines) + "\n"
 
 
 def header_lines(trace):
-    """The header's lines, and where the events begin. Faults are found in the program's order."""
-    if len(trace) < START.size:
-        raise Bad(f"the header is cut short: {len(trace)} bytes of {START.size} (13)")
-    mark, version, depth, guests, capacity = START.unpack_from(trace)
-    if mark != MARK:
-        raise Bad("the trace does not begin with the letters SGQ (11)")
-    if version != VERSION:
-        raise Bad(f"version {version} is not {VERSION} (12)")
-    for name, value in (("depth", depth), ("guests", guests), ("capacity", capacity)):
+    """The version, the header's lines, and where the events begin. Faults are found in the program's order."""
+    version, depth, guests, capacity = start_of(trace)
+    counts = [("depth", depth), ("guests", guests), ("capacity", capacity)]
+    start = START.size
+    if version == 2:
+        if len(trace) == start:
+            raise Bad(f"the header is cut short: {start} bytes of {start + RULE.size} (13)")
+        counts += [("rule", *RULE.unpack_from(trace, start))]
+        start += RULE.size
+    for name, value in counts:
         most = MOST_GUESTS if name == "guests" else RANGES[name.upper()][1]
         if not 1 <= value <= most:
             raise Bad(f"{name} {value} is not from 1 to {most} (1)")
-    end = START.size + guests * GUEST.size
+    end = header_length(trace)
     if len(trace) < end:
         raise Bad(f"the guest records are cut short: {len(trace)} bytes of {end} (13)")
-    records = list(GUEST.iter_unpack(trace[START.size : end]))
-    lines = [f"depth {depth}", f"capacity {capacity}"]
-    return lines + [guest_line(guest, record) for guest, record in enumerate(records)], end
+    lines = ["version 2"] if version == 2 else []
+    lines += [f"{name} {value}" for name, value in counts if name != "guests"]
+    records = GUEST[version].iter_unpack(trace[start:end])
+    return version, lines + [guest_line(guest, record) for guest, record in enumerate(records)], end
 
 
-def guest_line(guest, settings):
-    for name, value in zip(("RESERVATION", "LIMIT", "SHARES"), settings):
+def start_of(trace):
+    """The version and the counts that both versions begin with."""
+    if len(trace) < START.size:
+        raise Bad(f"the header is cut short: {len(trace)} bytes of {START.size} (13)")
+    mark, version, *counts = START.unpack_from(trace)
+    if mark != MARK:
+        raise Bad("the trace does not begin with the letters SGQ (11)")
+    if version not in GUEST:
+        raise Bad(f"version {version} is neither 1 nor 2 (12)")
+    return version, *counts
+
+
+def guest_line(guest, record):
+    """The line of a guest's record; one of version 2 has the credit too."""
+    line = f"guest {guest}"
+    for name, value in zip(("RESERVATION", "LIMIT", "SHARES", "CREDIT"), record):
         low, high = RANGES[name]
         if not low <= value <= high:
             raise Bad(f"guest {guest}: {name.lower()} {value} is not from {low} to {high} (1)")
-    why = settings_fault(*settings)
+        line += f" {name.lower()} {value}"
+    why = settings_fault(*record[:3])
     if why:
         raise Bad(f"guest {guest}: {why} (1)")
-    return "guest {} reservation {} limit {} shares {}".format(guest, *settings)
+    return line
 
 
-def event_line(event, part, raw):
+def event_line(version, event, part, raw):
     """The line of an event, its number in a comment since the printed decisions go by it."""
     try:
-        return f"{event_words(part)}  # {event}"
+        return f"{event_words(version, part)}  # {event}"
     except Bad as why:
         if not raw:
             raise Bad(f"event {event}: {why}") from None
         return f"{raw_line(part)}  # {event}: {why}"
 
 
-def event_words(part):
+def event_words(version, part):
     if len(part) < EVENT.size:
         raise Bad(f"cut short, {len(part)} bytes of {EVENT.size} (15)")
     kind, guest, name, time = EVENT.unpack(part)
+    upper = 0
+    if version == 2:
+        kind, upper = kind % (1 << KIND_BITS), kind >> KIND_BITS
     if kind >= len(KINDS):
         raise Bad(f"kind {kind} is above 2 (14)")
-    if KINDS[kind] != "tick":
-        return f"{KINDS[kind]} {guest} {name} at {time_word(time)}"
+    if KINDS[kind] == "arrival":
+        return f"arrival {guest} {name} at {time_word(time)}" + (f" cost {upper + 1}" if upper else "")
+    if upper:
+        raise Bad(f"a {KINDS[kind]} with {upper} above its kind, where an arrival has its cost (14)")
+    if KINDS[kind] == "completion":
+        return f"completion {guest} {name} at {time_word(time)}"
     if guest or name:
         raise Bad(f"a tick with guest {guest} and id {name} (14)")
     return f"tick at {time_word(time)}"

@@ -197,7 +197,7 @@ def test_pages(tally):
             tally.add(f"the page of {name}", None if plain(declaration) + ";" in words else "no page has it as it is declared")
     for call in re.findall(r"^SGQ_MUST_USE \w+ (\w+)\(", HEADER, re.MULTILINE):
         tally.add(f"{call}.3", None if f"{call}.3" in pages else "there is no such page")
-    for name, number in re.findall(r"^    (SGQ_REFUSED_(?!TRACE)\w+) = (\d+)", HEADER, re.MULTILINE):
+    for name, number in re.findall(r"^    (SGQ_REFUSED_\w+) = (\d+)", HEADER, re.MULTILINE):
         tally.add(f"{name} in sgq.3", None if f"\n.B {number} {name}\n" in pages["sgq.3"] else "it is not there")
     for name, body in re.findall(r"^typedef struct (sgq_\w+) \{(.*?)^\}", HEADER, re.MULTILINE | re.DOTALL):
         fields = ", ".join(re.findall(r"^    uint(?:32|64)_t (\w+);", body, re.MULTILINE))

@@ -16,8 +16,8 @@ import time
 from kit import ROOT, SECOND, Stop, build_second, run_tests, sgqtext
 
 # What sgq and the stand-ins call.
-COMMANDS = """sh cat chmod cp cut date dd dirname find flock grep head mkdir mv od readlink rm sed setsid sha256sum sleep
-sort touch tr""".split()
+COMMANDS = """sh cat chmod cp cut date dd dirname find flock grep head mkdir mktemp mv od readlink rm sed setsid sha256sum
+sleep sort touch tr""".split()
 CRATES = "lists:\nrules: lists io\nhost: rules\ndecide: rules libc\nsheet: rules libc\n"
 # As rt does: nothing is built where the stamp of the program is that of the sources; the verdict is read back from
 # target/log, so that an older one is taken where nothing can be written; what is being proved has a .say file there.
@@ -29,8 +29,9 @@ esac
 echo called >>calls
 echo $$ >pid
 cat >/dev/null
-mkdir -p target/bin target/log target/stamp
-name=$2
+mkdir -p target/bin target/log target/stamp target/staticlib
+name=$2 made=target/bin/$2
+[ "$1" != staticlib ] || made=target/staticlib/lib$2.a
 for crate in lists rules $name; do echo failed >target/log/$crate.res; done
 echo proved >target/log/lists.res
 one() {
@@ -41,7 +42,7 @@ one() {
     echo proved >target/log/rules.res
     echo kept >target/stamp/rules
     sum=$(cat crates/* | sha256sum)
-    if [ "$(cat target/stamp/$name 2>/dev/null)" != "$sum" ]; then cp made.$name target/bin/$name; fi
+    if [ "$(cat target/stamp/$name 2>/dev/null)" != "$sum" ]; then cp made.$name $made; fi
     echo "$sum" >target/stamp/$name
     echo proved >target/log/$name.res
     echo "rt: $name proved"
@@ -50,6 +51,25 @@ one >target/log/rules.out 2>&1
 cat target/log/rules.out
 [ "$(cat target/log/$name.res)" = proved ]
 """
+# In place of the C compiler: what it links is the program below, and how often it did is counted.
+CC = """#!/bin/sh
+echo "$*" >>"$HOUSE/links"
+[ ! -e "$HOUSE/no-c" ] || { echo 'files.c: wrong' >&2 && exit 1; }
+while [ $# -gt 0 ]; do
+    case $1 in -o) made=$2 ;; esac
+    shift
+done
+cp "$HOUSE/made.files" "$made"
+"""
+# In place of the program of files/, which tests/files.py tests: the second program moves the trace.
+FILES = """#!/bin/sh
+if "{second}" "$1" <"$2" >"$HOUSE/moved"; then
+    if [ "$3" = - ]; then cat "$HOUSE/moved"; else cp "$HOUSE/moved" "$3"; fi
+else
+    echo "sgq: $4 is refused: $(cat "$HOUSE/moved")" >&2
+    exit 1
+fi
+"""
 # What the program does where it cannot write, and writes to standard error in no other case.
 UNWRITTEN = "#!/bin/sh\necho 'event answer'\necho 'decide: standard output could not be written' >&2\n"
 HEAD = "depth 4\ncapacity 8\nguest 0 reservation 100 limit 250 shares 1\n"
@@ -57,7 +77,7 @@ GOOD = sgqtext.to_bytes(HEAD)
 REFUSED = [
     (1, GOOD[:5] + b"\x00" + GOOD[6:], "a setting in its header is out of range (1)"),
     (11, b"X" + GOOD[1:], "it does not begin with the letters SGQ (11)"),
-    (12, GOOD[:3] + b"\x07" + GOOD[4:], "its version is not 1 (12)"),
+    (12, GOOD[:3] + b"\x07" + GOOD[4:], "its version is neither 1 nor 2 (12)"),
     (13, GOOD[:-1], "it ends within its header (13)"),
     (13, b"SG", "it ends within its header (13)"),
     (13, b"", "it ends within its header (13)"),
@@ -80,6 +100,11 @@ class House:
         shutil.copy(ROOT / "tools" / "sheettable.py", self.root / "tools")
         shutil.copy(SECOND, self.root / "made.decide")
         self.write("made.sheet", f"#!/bin/sh\nexec '{self.root}/made.decide' sheet\n", 0o755)
+        for folder in ("files", "include"):
+            shutil.copytree(ROOT / folder, self.root / folder)
+        self.write("made.host", "a library\n")
+        self.write("made.files", FILES.format(second=self.root / "made.decide"), 0o755)
+        self.write("bin/cc", CC, 0o755)
         self.write("crates/rules.rt", "good\n")
         self.write("crates.txt", CRATES)
         self.write(".ci/run", "#!/bin/sh\necho tested\nexit 7\n", 0o755)
@@ -88,7 +113,7 @@ class House:
         for command in ("bash", "cargo"):
             self.write(f"bin/{command}", "#!/bin/sh\n", 0o755)
         self.write("bin/uname", "#!/bin/sh\necho x86_64\n", 0o755)  # the stand-ins run on any machine
-        self.environment = dict(os.environ, PATH=str(self.root / "bin"), KIT=str(self.root / "kit"))
+        self.environment = dict(os.environ, PATH=str(self.root / "bin"), KIT=str(self.root / "kit"), HOUSE=str(self.root))
 
     def link(self, command, path=None):
         (self.root / "bin").mkdir(exist_ok=True)
@@ -177,12 +202,12 @@ def expected(sample, end="out"):
 
 def test_words(tally, house):
     check(tally, "no word", house.sgq(), 2, said="./sgq decide [TRACE]")
-    known = "there is no 'dcide': say decide, sheet, test, help or --version"
+    known = "there is no 'dcide': say decide, sheet, up, back, test, help or --version"
     check(tally, "unknown word", house.sgq("dcide"), 2, said=known, lines=1)
     helped = house.sgq("help")
     check(tally, "help", helped, 0, helped.stdout, lines=0)
     hold(tally, "help says test", b"./sgq test" in helped.stdout)
-    for words in (["decide", "--help"], ["decide", "-h"], ["sheet", "--help"], ["test", "--help"]):
+    for words in (["decide", "--help"], ["decide", "-h"], *([word, "--help"] for word in ("sheet", "up", "back", "test"))):
         more = house.sgq(*words)
         check(tally, " ".join(words), more, 0, more.stdout, lines=0)
         hold(tally, f"{' '.join(words)} says more", more.stdout.startswith(f"./sgq {words[0]} ".encode()))
@@ -191,6 +216,12 @@ def test_words(tally, house):
     check(tally, "two traces", house.sgq("decide", "a", "b"), 2, said="one trace, not 2", lines=1)
     check(tally, "unknown option", house.sgq("decide", "--all"), 2, said="decide has no '--all'", lines=1)
     check(tally, "unknown option of sheet", house.sgq("sheet", "--all"), 2, said="sheet has no '--all'", lines=1)
+    for word in ("up", "back"):
+        takes = f"{word} takes a trace and where the result goes"
+        for names in ([], ["a"], ["a", "b", "c"]):
+            ended = house.sgq(word, *names)
+            check(tally, f"{word} of {len(names)} names", ended, 2, said=f"{takes}, not {len(names)} names", lines=1)
+        check(tally, f"unknown option of {word}", house.sgq(word, "--all", "b"), 2, said=f"{word} has no '--all'", lines=1)
     check(tally, "test with more words", house.sgq("test", "all"), 2, said="no more words", lines=1)
 
 
@@ -270,6 +301,110 @@ def test_sheet(tally, house):
     check(tally, "sheet --table, standard output closed", closed, 1, said="standard output is closed", lines=1)
 
 
+def test_moves(tally, house):
+    """Up and back: what is linked and when, from where the trace comes, and where the result goes."""
+    one = (house.root / "example.sgq").read_bytes()
+    two = sgqtext.to_bytes("version 2\n" + (ROOT / "samples" / "example.txt").read_text())
+    house.write("two.sgq", two)
+    house.write("out", "old")
+
+    def moved(name, words, expected, said=None, lines=0, status=0, **more):
+        """Runs it, and holds what is then in the file out to the bytes expected."""
+        house.write("out", "old")
+        check(tally, name, house.sgq(*words, **more), status, said=said, lines=lines)
+        found = (house.root / "out").read_bytes()
+        hold(tally, f"the result of {name}", found == expected, f"it is {found}")
+
+    moved("up at first", ["up", "example.sgq", "out"], two, "proving host and the crates it stands on", None)
+    moved("up", ["up", "example.sgq", "out"], two)
+    moved("back", ["back", "two.sgq", "out"], one)
+    moved("up of a text", ["up", "samples/example.txt", "out"], two)
+    moved("up of standard input", ["up", "-", "out"], two, given=one)
+    moved("up of a text there", ["up", "-", "out"], two, given=(ROOT / "samples" / "example.txt").read_bytes())
+    with (house.root / "example.sgq").open("rb") as file:
+        moved("up of a file there", ["up", "-", "out"], two, stdin=file)
+    with subprocess.Popen(["sh", "-c", "cat example.sgq >pipe"], cwd=house.root):
+        moved("up of a named pipe", ["up", "pipe", "out"], two)
+    moved("up of -x", ["up", "--", "-x", "out"], two)
+    moved("up with standard output closed", ["up", "example.sgq", "out"], two, preexec_fn=lambda: os.close(1))
+    check(tally, "up to standard output", house.sgq("up", "example.sgq", "-"), 0, two, lines=0)
+    check(tally, "back of a day that cannot", house.sgq("back", "samples/telephone.txt", "-"), 1, said="refused 19 0", lines=1)
+    moved("a refused trace", ["up", "two.sgq", "out"], b"old", "two.sgq is refused: refused 12 0", 1, 1)
+    moved("a refused stream", ["up", "-", "out"], b"old", "standard input is refused: refused 12 0", 1, 1, given=two)
+    hold(tally, "linked once", linked(house) == 1, f"it was linked {linked(house)} times")
+    check_no_move(tally, house)
+    check_links(tally, house, one, two)
+
+
+def linked(house):
+    return len((house.root / "links").read_text().splitlines())
+
+
+def check_no_move(tally, house):
+    """What is wrong with the names, or with a text, is said at once, and nothing is left behind."""
+    late = HEAD + "tick at 5\n" * 90_000 + "tick at once\n"
+    before = sorted(os.listdir(house.root))
+    with tempfile.TemporaryDirectory() as temporary:
+        there = dict(house.environment, TMPDIR=temporary)
+        for name, words, status, said in (
+            ("a lost trace", ["lost.sgq", "out"], 2, "there is no file 'lost.sgq': name"),
+            ("a folder for a trace", ["samples", "out"], 2, "samples is a folder: name a file"),
+            ("a folder for a result", ["example.sgq", "samples"], 2, "samples is a folder: name a file in it"),
+            ("no folder for a result", ["example.sgq", "lost/out"], 2, "there is no folder 'lost' for lost/out: make it"),
+            ("a pipe for a result", ["example.sgq", "pipe"], 2, "pipe is no plain file, and would be replaced"),
+            ("no name for a result", ["example.sgq", ""], 2, "the result has no name"),
+            ("a bad text", ["bad.txt", "out"], 2, "bad.txt: line 2: capacity 0 is not from 1 to 1024"),
+            ("a mistake late in a text", ["-", "out"], 2, "line 90004: time 'once' is not a number"),
+        ):
+            house.write("out", "old")
+            ended = house.sgq("up", *words, given=late.encode(), env=there)
+            check(tally, f"up, {name}", ended, status, said=said, lines=1)
+            hold(tally, f"nothing is said of what is written, {name}", b"are written" not in ended.stderr, ended.stderr)
+            hold(tally, f"up, {name}, leaves all", (house.root / "out").read_text() == "old")
+        hold(tally, "no temporary file is left", os.listdir(temporary) == [], os.listdir(temporary))
+        check(tally, "no temporary folder", house.sgq("up", "samples/example.txt", "out", env=dict(there, TMPDIR="lost")), 1,
+              said="there is no room in lost for the bytes of samples/example.txt", lines=1)
+        closed = house.sgq("up", "example.sgq", "-", preexec_fn=lambda: os.close(1))
+        check(tally, "up, standard output closed", closed, 1, said="standard output is closed", lines=1)
+    hold(tally, "nothing else is left", sorted(os.listdir(house.root)) == before, sorted(os.listdir(house.root)))
+
+
+def check_links(tally, house, one, two):
+    """A change of files/ or of the program itself links it anew; what does not compile, or where nothing does, is said."""
+    links = linked(house)
+    (house.root / "target" / "sgq" / "files").write_text("changed\n")
+    check(tally, "a program of files/ that was changed", house.sgq("up", "example.sgq", "-"), 0, two, lines=0)
+    house.write("files/whole.h", "changed\n")
+    check(tally, "a change of files/", house.sgq("back", "two.sgq", "-"), 0, one, lines=0)
+    hold(tally, "linked for each", linked(house) == links + 2, f"it was linked {linked(house) - links} times")
+    house.write("files/whole.h", "wrong\n")
+    house.write("no-c", "")
+    wrong = house.sgq("up", "example.sgq", "out")
+    check(tally, "what does not compile", wrong, 2, said="could not be compiled by cc; see target/sgq/files.log", lines=1)
+    house.remove("no-c")
+    (house.root / "bin" / "cc").rename(house.root / "put-aside")
+    check(tally, "no compiler", house.sgq("up", "example.sgq", "out"), 2, said="cc is missing: install a C compiler", lines=1)
+    (house.root / "put-aside").rename(house.root / "bin" / "cc")
+    calls = house.calls()
+    (house.root / "target" / "staticlib" / "libhost.a").write_text("another\n")
+    ended = house.sgq("up", "example.sgq", "-")
+    check(tally, "a library that was changed", ended, 0, two, "target/staticlib/libhost.a was gone, or not", lines=1)
+    hold(tally, "it is put back", house.calls() == calls, "rt was called")
+    with standing_in_place(house, "files", "#!/bin/sh\nkill -KILL $$\n"):
+        check(tally, "a move that is killed", house.sgq("up", "example.sgq", "out"), 1, said="up ended with status 137", lines=1)
+
+
+@contextlib.contextmanager
+def standing_in_place(house, name, program):
+    """Another program in the place of the linked one; then the old one again."""
+    kept = (house.root / f"made.{name}").read_bytes()
+    house.write(f"made.{name}", program, 0o755)
+    house.write("files/whole.h", f"for {program}")
+    yield
+    house.write(f"made.{name}", kept, 0o755)
+    house.write("files/whole.h", "good\n")
+
+
 def test_texts(tally, house):
     """A text is told by its first bytes, wherever it comes from, and a trace too."""
     text = (ROOT / "samples" / "example.txt").read_bytes()
@@ -325,7 +460,7 @@ def test_refusals(tally, house):
     check(tally, "neither trace nor text", given, 1, b"trace refused 11\n", "standard input is refused: it does", lines=1)
     long = GOOD[:3] + b"\x07" + GOOD[4:] + bytes(1_000_000)
     given = house.sgq("decide", "-", given=long)
-    check(tally, "a long refused trace", given, 1, b"trace refused 12\n", "its version is not 1 (12)", lines=1)
+    check(tally, "a long refused trace", given, 1, b"trace refused 12\n", "its version is neither 1 nor 2 (12)", lines=1)
 
 
 def test_failures(tally, house):
@@ -558,6 +693,13 @@ def test_machine(tally, house):
     emulator = f'#!/bin/sh\n[ "$1 $2 $3" = "{tools}/lib/ld-linux-x86-64.so.2 --library-path {tools}/lib" ] && exec "$4"\n'
     house.write("kit/on/other/toolchain/bin/qemu-x86_64", emulator, 0o755)
     check(tally, "an emulator", house.sgq("decide", "example.sgq"), 0, expected("example"), lines=0)
+    lacks = "x86_64-linux-gnu-gcc is missing: install a C compiler for x86-64 (Debian: gcc-x86-64-linux-gnu)"
+    check(tally, "no compiler for it", house.sgq("up", "example.sgq", "-"), 2, said=lacks, lines=1)
+    (house.root / "bin" / "x86_64-linux-gnu-gcc").symlink_to("cc")
+    house.write("kit/on/other/toolchain/bin/qemu-x86_64", '#!/bin/sh\nexec "$@"\n', 0o755)
+    two = (house.root / "two.sgq").read_bytes()
+    check(tally, "up by an emulator", house.sgq("up", "example.sgq", "-"), 0, two)
+    hold(tally, "linked for it", "-static" in (house.root / "links").read_text().splitlines()[-1])
     house.write("bin/uname", "#!/bin/sh\necho x86_64\n", 0o755)
 
 
@@ -602,6 +744,7 @@ def tests(tally):
             test_version,
             test_decide,
             test_sheet,
+            test_moves,
             test_texts,
             test_bad_texts,
             test_refusals,

@@ -12,9 +12,14 @@ import sys
 from kit import CORES, ROOT, SECOND, build_second, random_trace, run_tests, sgqtext
 
 KINDS = ["small", "ceiling", "jumps", "header", "cut", "garbage"]
-SEEDS = 60
+KINDS += [f"{kind}2" for kind in KINDS]  # of version 2
+SEEDS = 40
 HEAD = "depth 4\ncapacity 8\nguest 0 reservation 1 limit 2 shares 3\n"
 HEAD_BYTES = bytes.fromhex("53475101000401080001000000 0200000003000000")
+# The same in version 2, and an arrival of cost 64.
+HEAD_2 = "version 2\ndepth 4\ncapacity 8\nrule 2\nguest 0 reservation 1 limit 2 shares 3 credit 256\n"
+HEAD_2_BYTES = bytes.fromhex("53475102000401080002 01000000 02000000 03000000 0001")
+COSTLY = bytes.fromhex("fc 01 07000000 0500000000000000")
 TOOL = [sys.executable, ROOT / "samples" / "sgqtext.py"]
 TICK = bytes.fromhex("02 00 00000000 0500000000000000")
 MOST_SECONDS = 60  # to wait for what comes at once, where it comes at all
@@ -45,15 +50,34 @@ REFUSED = [
     ("guest 0 reservation 0 limit 1000001 shares 1\n", 1, "limit 1000001"),
     ("guest 0 reservation 4 limit 3 shares 1\n", 1, "reservation 4 is above limit 3"),
     ("guest 0 limit 3 reservation 3 shares 1\n", 1, "not of the form 'guest NUMBER"),
-    ("guest 0 reservation 0 limit 0 shares 1 credit 30\n", 1, "credit 30 cannot be said in a trace of version 1"),
+    ("version 3\n", 1, "version 3 is not from 1 to 2"),
+    ("version 1\nversion 1\n", 2, "a second line 'version'"),
+    ("depth 4\nversion 2\n", 2, "'version' stands before all other lines"),
+    ("rule 0\n", 1, "rule 0 is not from 1 to 2"),
+    ("rule 1\nrule 1\n", 2, "a second line 'rule'"),
+    ("version 2\n", 1, "the header has no line 'depth DEPTH'"),
+    ("rule 2\nraw 00\n", 2, "the header has no line 'depth DEPTH'"),
+    ("version 1\nrule 2\n", 2, "rule 2 cannot be said in a trace of version 1, where it is 1"),
+    (
+        "version 1\nguest 0 reservation 0 limit 0 shares 1 credit 30\n",
+        2,
+        "credit 30 cannot be said in a trace of version 1, where it is 0",
+    ),
+    ("version 1\n" + HEAD + "arrival 0 1 at 0 cost 2\n", 5, "cost 2 cannot be said in a trace of version 1, where it is 1"),
+    (HEAD + "arrival 0 1 at 0 cost 0\n", 4, "cost 0 is not from 1 to 64"),
+    (HEAD + "arrival 0 1 at 0 cost 65\n", 4, "cost 65 is not from 1 to 64"),
+    (HEAD + "arrival 0 1 at 0 cost\n", 4, "not of the form 'arrival GUEST ID at TIME [cost COST]'"),
+    (HEAD + "completion 0 1 at 0 cost 1\n", 4, "not of the form 'completion GUEST ID at TIME'"),
+    (HEAD + "tick at 0 cost 1\n", 4, "not of the form 'tick at TIME'"),
+    (HEAD + "tick at 0\nrule 2\n", 5, "'rule' belongs to the header"),
     ("guest 0 reservation 0 limit 0 shares 1 credit 257\n", 1, "credit 257 is not from 0 to 256"),
     ("guest 0 reservation 0 limit 0 shares 1 credit\n", 1, "not of the form 'guest NUMBER"),
     ("guest credit 0\n", 1, "not of the form 'guest NUMBER"),
     ("".join(f"guest {g} reservation 0 limit 0 shares 1\n" for g in range(65)), 65, "number 64 is not from 0 to 63"),
     (HEAD + "tick at 0\ndepth 4\n", 5, "'depth' belongs to the header"),
     (HEAD + "raw 00\nguest 1 reservation 0 limit 0 shares 1\n", 5, "'guest' belongs to the header"),
-    (HEAD + "arrival 0 1\n", 4, "not of the form 'arrival GUEST ID at TIME'"),
-    (HEAD + "arrival 0 1 in 5ms\n", 4, "not of the form 'arrival GUEST ID at TIME'"),
+    (HEAD + "arrival 0 1\n", 4, "not of the form 'arrival GUEST ID at TIME [cost COST]'"),
+    (HEAD + "arrival 0 1 in 5ms\n", 4, "not of the form 'arrival GUEST ID at TIME [cost COST]'"),
     (HEAD + "arrival 256 1 at 0\n", 4, "guest 256 is not from 0 to 255"),
     (HEAD + "completion 0 4294967296 at 0\n", 4, "id 4294967296 is not from 0 to 4294967295"),
     (HEAD + "tick 0 0 at 5ms\n", 4, "not of the form 'tick at TIME'"),
@@ -96,7 +120,8 @@ COMMANDS = [
     (["byte"], b"", 2, b"", "say 'bytes', 'text' or 'text --raw'"),
     (["bytes"], HEAD.encode(), 0, HEAD_BYTES, ""),
     (["bytes"], HEAD.replace("\n", "\r\n").encode(), 0, HEAD_BYTES, ""),
-    (["bytes"], HEAD.replace("shares 3", "shares 3 credit 0").encode(), 0, HEAD_BYTES, ""),
+    (["bytes"], b"version 1\nrule 1\n" + HEAD.replace("shares 3", "shares 3 credit 0").encode(), 0, HEAD_BYTES, ""),
+    (["bytes"], HEAD_2.encode() + b"arrival 1 7 at 5 cost 64\n", 0, HEAD_2_BYTES + COSTLY, ""),
     (["bytes"], b"\xef\xbb\xbf" + HEAD.encode(), 0, HEAD_BYTES, ""),
     (["bytes"], b"raw 01 02\nraw\nraw a0FF\n", 0, b"\x01\x02\xa0\xff", ""),
     (["bytes"], HEAD.encode() + b"tick at now\n", 1, b"", "line 4: time 'now'"),
@@ -104,6 +129,14 @@ COMMANDS = [
     (["bytes"], b"depth 4\n#" + b"x" * (1 << 20) + b"\n", 1, b"", "line 2: it has more than 1048576 bytes"),
     (["bytes"], HEAD.encode() + b"tick at 5", 0, HEAD_BYTES + TICK, ""),
     (["text"], HEAD_BYTES, 0, HEAD.encode(), ""),
+    (["text"], HEAD_2_BYTES + COSTLY, 0, HEAD_2.encode() + b"arrival 1 7 at 5ns cost 64  # 1\n", ""),
+    (["text"], HEAD_2_BYTES[:9], 1, b"", "the header is cut short: 9 bytes of 10 (13)"),
+    (["text"], HEAD_2_BYTES[:-1], 1, b"", "the guest records are cut short: 23 bytes of 24 (13)"),
+    (["text"], HEAD_2_BYTES[:-2] + b"\x01\x01", 1, b"", "guest 0: credit 257 is not from 0 to 256 (1)"),
+    (["text"], HEAD_2_BYTES[:9] + b"\x03" + HEAD_2_BYTES[10:], 1, b"", "rule 3 is not from 1 to 2 (1)"),
+    (["text"], HEAD_BYTES[:3] + b"\x03" + HEAD_BYTES[4:], 1, b"", "version 3 is neither 1 nor 2 (12)"),
+    (["text"], HEAD_2_BYTES + b"\x06" + TICK[1:], 1, b"", "event 1: a tick with 1 above its kind"),
+    (["text"], HEAD_2_BYTES + b"\xff" + TICK[1:], 1, b"", "event 1: kind 3 is above 2 (14)"),
     (["text"], HEAD_BYTES[:8], 1, b"", "the header is cut short: 8 bytes of 9 (13)"),
     (["text"], HEAD_BYTES + b"\x02", 1, b"", "event 1: cut short, 1 bytes of 14 (15)"),
     (["text", "--raw"], HEAD_BYTES + b"\x02", 0, HEAD.encode() + b"raw 02  # 1: cut short, 1 bytes of 14 (15)\n", ""),
@@ -175,6 +208,29 @@ def test_times(tally):
         tally.add(f"time {word}", None if good else f"became {sgqtext.to_text(trace)!r}")
 
 
+def test_versions(tally):
+    """Which words make a trace one of version 2, wherever they stand, and that nothing else of it changes."""
+    events = "arrival 0 1 at 5\ntick at 6\n"
+    plain = sgqtext.to_bytes(HEAD + events)
+    moved = plain[:3] + b"\x02" + plain[4:9] + b"\x01" + plain[9:21] + bytes(2) + plain[21:]
+    costly = moved[:-28] + b"\x1c" + moved[-27:]
+    for name, text, expected in (
+        ("no word", HEAD + events, plain),
+        ("version 1", "version 1\n" + HEAD + events, plain),
+        ("version 1 and its own numbers", "version 1\nrule 1\n" + HEAD + events.replace("at 5", "at 5 cost 1"), plain),
+        ("version 2", "version 2\n" + HEAD + events, moved),
+        ("rule 1", HEAD + "rule 1\n" + events, moved),
+        ("rule 2", "rule 2\n" + HEAD + events, moved[:9] + b"\x02" + moved[10:]),
+        ("credit 0", HEAD.replace("shares 3", "shares 3 credit 0") + events, moved),
+        ("credit 30", HEAD.replace("shares 3", "shares 3 credit 30") + events, moved[:22] + b"\x1e" + moved[23:]),
+        ("cost 1", HEAD + events.replace("at 5", "at 5 cost 1"), moved),
+        ("cost 8", HEAD + events.replace("at 5", "at 5 cost 8"), costly),
+        ("cost 8 behind other events", HEAD + events + events.replace("at 5", "at 5 cost 8"), moved + costly[-28:]),
+    ):
+        found = sgqtext.to_bytes(text)
+        tally.add(f"the version of {name}", None if found == expected else f"it became {found.hex(' ')}")
+
+
 def test_commands(tally):
     for words, given, status, output, said in COMMANDS:
         ended = subprocess.run([*TOOL, *words], input=given, capture_output=True)
@@ -219,10 +275,13 @@ def test_mistakes(tally):
     """A mistake among the first events leaves nothing behind; a later one a trace that ends in a cut event."""
     early = HEAD.encode() + b"tick at 5\n" * 74_000 + b"tock\n"
     late = HEAD.encode() + b"tick at 5\n" * 76_000
+    costly = b"arrival 0 1 at 5 cost 2\n"
     for name, text, output, said in (
         ("early", early, b"", "line 74004: no line begins with 'tock'"),
         ("late", late + b"tock\n", HEAD_BYTES + TICK * 76_000 + b"\0", "line 76004: no line begins with 'tock'"),
         ("late, behind a cut", late + b"raw 02\ntock\n", HEAD_BYTES + TICK * 76_000 + b"\2", "line 76005: no line"),
+        ("a cost too late", late + costly, HEAD_BYTES + TICK * 76_000 + b"\0", "'cost' comes too late: begin the text"),
+        ("late, in version 2", HEAD_2.encode() + late[len(HEAD) :] + b"tock\n", HEAD_2_BYTES + TICK * 76_000 + b"\0", "no line"),
         ("late, of raw lines", b"\n".join(raw_lines(76_000)) + b"\ntock\n", HEAD_BYTES + TICK * 76_000 + b"\0", "no line"),
     ):
         ended = subprocess.run([*TOOL, "bytes"], input=text, capture_output=True)
@@ -249,12 +308,14 @@ def test_failures(tally):
 
 
 def test_page(tally):
-    """The bytes that samples/README.md shows are those of the example."""
+    """The bytes that samples/README.md shows are those of the example, in both versions."""
     page = (ROOT / "samples" / "README.md").read_text()
     shown = re.findall(r"^    ((?:[0-9a-f]{2} )+) +[a-z]", page, re.MULTILINE)
-    trace = sgqtext.to_bytes((ROOT / "samples" / "example.txt").read_text())
-    good = len(shown) == 3 and trace.startswith(bytes.fromhex("".join(shown)))
-    tally.add("the bytes on the page", None if good else f"the page has {shown}")
+    text = (ROOT / "samples" / "example.txt").read_text()
+    for version, lines in ((1, shown[:3]), (2, shown[3:])):
+        trace = sgqtext.to_bytes(f"version {version}\n{text}")
+        good = len(lines) == 3 and trace.startswith(bytes.fromhex("".join(lines)))
+        tally.add(f"the bytes on the page, version {version}", None if good else f"the page has {lines}")
 
 
 def tests(tally):
@@ -268,6 +329,7 @@ def tests(tally):
     test_files(tally)
     test_refusals(tally)
     test_times(tally)
+    test_versions(tally)
     test_commands(tally)
 
 

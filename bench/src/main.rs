@@ -8,7 +8,13 @@
 //! each is a call of its own, as it always is of the second program. CAPACITY stands in for the trace's. idle is the
 //! library on tables with nothing waiting and nothing in flight: the COUNT events are ticks, and none is skipped. Prints
 //! for each round the name and the nanoseconds that the COUNT events took.
+//!
+//!     bench-calls moves TRACE ROUNDS
+//!
+//! The moves of the whole trace to version 2 and back, and a plain copy. Prints for each round the move, whose it is, and
+//! its nanoseconds.
 
+mod moves;
 mod players;
 mod trace;
 
@@ -22,13 +28,19 @@ fn main() -> ExitCode {
     match run(&words) {
         Some(()) => ExitCode::SUCCESS,
         None => {
-            eprintln!("bench-calls library|second|both|idle TRACE SKIP COUNT ROUNDS [BATCH [CAPACITY]], TRACE one of 'traces fixed'");
+            eprintln!("bench-calls library|second|both|idle TRACE SKIP COUNT ROUNDS [BATCH [CAPACITY]], or moves TRACE ROUNDS; TRACE one of 'traces fixed'");
             ExitCode::FAILURE
         }
     }
 }
 
 fn run(words: &[String]) -> Option<()> {
+    if let [word, file, rounds] = words {
+        return match word.as_str() {
+            "moves" => moves::run(file, rounds.parse().ok()?),
+            _ => None,
+        };
+    }
     let [which, file, skip, count, rounds, more @ ..] = words else {
         return None;
     };

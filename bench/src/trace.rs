@@ -1,6 +1,6 @@
 //! A bench trace, read whole.
 
-use second::trace::{settings_of, Event, EVENT_BYTES, GUEST_BYTES, MARK, START_BYTES};
+use second::trace::{events, Event, Header, Next};
 use second::Settings;
 
 pub struct Trace {
@@ -14,17 +14,20 @@ impl Trace {
     /// The trace with its first events; none where the file is no trace or has fewer.
     pub fn read(file: &str, events: usize) -> Option<Trace> {
         let bytes = std::fs::read(file).ok()?;
-        let start = bytes.get(..START_BYTES)?;
-        let end = START_BYTES + start[6] as usize * GUEST_BYTES;
-        let records = bytes.get(START_BYTES..end)?.chunks_exact(GUEST_BYTES);
-        let event = |part: &[u8]| Event::from_bytes(part.try_into().expect("a whole event"));
-        let parts = bytes[end..].chunks_exact(EVENT_BYTES).take(events);
-        let trace = Trace {
-            depth: start[5] as u64,
-            capacity: u16::from_le_bytes([start[7], start[8]]) as u64,
-            settings: records.map(settings_of).collect(),
-            events: parts.map(event).collect(),
+        let header = Header::read(&bytes).ok()?;
+        let whole = |next| match next {
+            Next::Event(event) => Some(event),
+            Next::Cut => None,
         };
-        (start[..3] == MARK && trace.events.len() == events).then_some(trace)
+        let trace = Trace {
+            depth: header.depth.into(),
+            capacity: header.capacity.into(),
+            events: self::events(&header, &bytes)
+                .take(events)
+                .filter_map(whole)
+                .collect(),
+            settings: header.settings,
+        };
+        (trace.events.len() == events).then_some(trace)
     }
 }

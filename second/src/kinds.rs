@@ -1,70 +1,163 @@
-//! Random traces of every kind, and the fixed trace for benchmarks. The
+//! Random traces of every kind in both versions, and the fixed trace for
+//! benchmarks. The
 //! gate is played along, so that completions name what is really in flight
 //! and times stand in some relation to the tags.
 
-use crate::numbers::{Settings, CEILING, MOST_RATE, SECOND};
+use crate::numbers::{Settings, CEILING, MOST_RATE, RULE_1, RULE_2, SECOND};
 use crate::rules::{Answer, State};
-use crate::sample::{any_rates, Prng};
-use crate::trace::{header_bytes, play, Event, ARRIVAL, COMPLETION, EVENT_BYTES, TICK};
+use crate::sample::{any_credit, any_rates, good_cost, Prng};
+use crate::trace::{play, Event, Header, Version, ARRIVAL, COMPLETION, EVENT_BYTES, TICK};
 
-/// The names of the kinds; `mixed` is one of the others by seed.
-pub const KINDS: [&str; 9] = [
-    "small", "ceiling", "jumps", "waits", "header", "cut", "garbage", "large", "mixed",
+/// The names of the kinds, a 2 behind the name for version 2. `mixed` is one
+/// of the others by seed, of either version; `mixed2` one of version 2.
+pub const KINDS: [&str; 18] = [
+    "small", "ceiling", "jumps", "waits", "header", "cut", "garbage", "large", "mixed", "small2",
+    "ceiling2", "jumps2", "waits2", "header2", "cut2", "garbage2", "large2", "mixed2",
 ];
 
 /// A random trace of a kind, or none where there is no such kind.
 pub fn trace(kind: &str, seed: u64) -> Option<Vec<u8>> {
     let mut rng = Prng::new(seed);
     let rng = &mut rng;
+    let (kind, version) = match kind.strip_suffix('2') {
+        Some(kind) => (kind, Version::Two),
+        None if kind == "mixed" && rng.chance(50) => (kind, Version::Two),
+        None => (kind, Version::One),
+    };
     Some(match kind {
-        "small" => small(rng),
-        "ceiling" => ceiling(rng),
-        "jumps" => jumps(rng),
-        "waits" => waits(rng),
-        "header" => header(rng),
-        "cut" => cut(rng),
-        "garbage" => garbage(rng),
-        "large" => large(rng),
-        "mixed" => mixed(rng),
+        "small" => small(rng, version),
+        "ceiling" => ceiling(rng, version),
+        "jumps" => jumps(rng, version),
+        "waits" => waits(rng, version),
+        "header" => header(rng, version),
+        "cut" => cut(rng, version),
+        "garbage" => garbage(rng, version),
+        "large" => large(rng, version),
+        "mixed" => mixed(rng, version),
         _ => return None,
     })
 }
 
-fn mixed(rng: &mut Prng) -> Vec<u8> {
+fn mixed(rng: &mut Prng, version: Version) -> Vec<u8> {
     match rng.below(100) {
-        0..=44 => small(rng),
-        45..=59 => ceiling(rng),
-        60..=69 => jumps(rng),
-        70..=74 => waits(rng),
-        75..=83 => header(rng),
-        84..=91 => cut(rng),
-        92..=98 => garbage(rng),
-        _ => large(rng),
+        0..=44 => small(rng, version),
+        45..=59 => ceiling(rng, version),
+        60..=69 => jumps(rng, version),
+        70..=74 => waits(rng, version),
+        75..=83 => header(rng, version),
+        84..=91 => cut(rng, version),
+        92..=98 => garbage(rng, version),
+        _ => large(rng, version),
+    }
+}
+
+/// What version 2 says and version 1 does not: the rule, the credits, and how
+/// many in a hundred arrivals have a cost of any kind, the others cost 1.
+struct Extras {
+    rule: u64,
+    credits: Vec<u64>,
+    costly: u64,
+}
+
+impl Extras {
+    fn none(guests: usize) -> Extras {
+        Extras {
+            rule: RULE_1,
+            credits: vec![0; guests],
+            costly: 0,
+        }
+    }
+
+    /// Often all of it, sometimes one thing alone or nothing: these traces can
+    /// go back, or nearly.
+    fn any(rng: &mut Prng, guests: usize) -> Extras {
+        let mut extras = Extras::none(guests);
+        match rng.below(20) {
+            0..=3 => {}
+            4 => extras.rule = RULE_2,
+            5 => {
+                let guest = rng.below(guests as u64) as usize;
+                extras.credits[guest] = rng.between(1, 256);
+            }
+            6 => extras.costly = 2,
+            _ => {
+                extras.rule = rng.pick(&[RULE_1, RULE_2]);
+                extras.credits.fill_with(|| any_credit(rng));
+                extras.costly = rng.pick(&[0, 10, 50, 100]);
+            }
+        }
+        extras
     }
 }
 
 /// A trace in the making, and the gate as it then stands.
 struct Maker {
+    version: Version,
     bytes: Vec<u8>,
     state: State,
+    /// How many in a hundred arrivals have a cost of any kind, and where it
+    /// comes from.
+    costly: u64,
+    costs: Prng,
 }
 
 impl Maker {
-    fn new(depth: u64, capacity: u64, settings: &[Settings]) -> Maker {
+    /// In version 1 no number is drawn.
+    fn new(
+        rng: &mut Prng,
+        version: Version,
+        depth: u64,
+        capacity: u64,
+        settings: &[Settings],
+    ) -> Maker {
+        let (extras, costs) = match version {
+            Version::One => (Extras::none(settings.len()), Prng::new(0)),
+            Version::Two => (Extras::any(rng, settings.len()), Prng::new(rng.any())),
+        };
+        let credited = settings.iter().zip(extras.credits);
+        let header = Header {
+            version,
+            depth: depth as u8,
+            capacity: capacity as u16,
+            rule: extras.rule as u8,
+            settings: credited
+                .map(|(s, credit)| Settings { credit, ..*s })
+                .collect(),
+        };
         Maker {
-            bytes: header_bytes(depth as u8, settings.len() as u8, capacity as u16, settings),
-            state: State::fresh(depth as usize, capacity as usize, settings),
+            version,
+            bytes: header.bytes(),
+            state: header.fresh(),
+            costly: extras.costly,
+            costs,
         }
     }
 
     fn push(&mut self, event: Event) -> Answer {
-        self.bytes.extend(event.bytes());
+        self.bytes.extend(event.bytes(self.version));
         play(&mut self.state, event)
     }
 
+    /// An event whose kind is the whole first byte, whatever that means in
+    /// the trace's version.
+    fn push_any(&mut self, event: Event) -> Answer {
+        let bytes = event.bytes(Version::One);
+        self.push(Event::from_bytes(self.version, bytes))
+    }
+
+    fn cost(&mut self) -> u64 {
+        if self.costly > 0 && self.costs.chance(self.costly) {
+            good_cost(&mut self.costs)
+        } else {
+            1
+        }
+    }
+
     fn arrival(&mut self, guest: u64, id: u32, time: u64) -> Answer {
+        let upper = (self.cost() - 1) as u8;
         self.push(Event {
             kind: ARRIVAL,
+            upper,
             guest: guest as u8,
             id,
             time,
@@ -74,6 +167,7 @@ impl Maker {
     fn completion(&mut self, guest: u64, id: u32, time: u64) -> Answer {
         self.push(Event {
             kind: COMPLETION,
+            upper: 0,
             guest: guest as u8,
             id,
             time,
@@ -83,6 +177,7 @@ impl Maker {
     fn tick(&mut self, time: u64) -> Answer {
         self.push(Event {
             kind: TICK,
+            upper: 0,
             guest: 0,
             id: 0,
             time,
@@ -221,11 +316,11 @@ fn beat_step(rng: &mut Prng, beat: u64) -> u64 {
 }
 
 /// Few guests, few places, few distinct times.
-fn small(rng: &mut Prng) -> Vec<u8> {
-    small_maker(rng).bytes
+fn small(rng: &mut Prng, version: Version) -> Vec<u8> {
+    small_maker(rng, version).bytes
 }
 
-fn small_maker(rng: &mut Prng) -> Maker {
+fn small_maker(rng: &mut Prng, version: Version) -> Maker {
     let scale = rng.pick(&[1, 3, 10, 100, 1_000, 30_000, MOST_RATE / 2, MOST_RATE]);
     let beat = SECOND / scale;
     let guests = rng.between(1, 4);
@@ -235,7 +330,7 @@ fn small_maker(rng: &mut Prng) -> Maker {
         .map(|_| leaning_settings(rng, scale, unreserved, unlimited))
         .collect();
     let (depth, capacity) = (rng.between(1, 3), rng.between(1, 9));
-    let mut maker = Maker::new(depth, capacity, &settings);
+    let mut maker = Maker::new(rng, version, depth, capacity, &settings);
     // The slower time goes on, the more requests wait.
     let pace = beat / rng.pick(&[1, 2, 4, 8, 8, 16]);
     let events = rng.between(20, 400);
@@ -265,7 +360,7 @@ fn due_time(rng: &mut Prng, state: &State) -> u64 {
 }
 
 /// Times and tags near the ceiling, and times above it.
-fn ceiling(rng: &mut Prng) -> Vec<u8> {
+fn ceiling(rng: &mut Prng, version: Version) -> Vec<u8> {
     let scale = rng.pick(&[1, 1, 2, 100, MOST_RATE]);
     let beat = SECOND / scale;
     let guests = rng.between(1, 4);
@@ -279,7 +374,7 @@ fn ceiling(rng: &mut Prng) -> Vec<u8> {
         })
         .collect();
     let (depth, capacity) = (rng.between(1, 3), rng.between(1, 8));
-    let mut maker = Maker::new(depth, capacity, &settings);
+    let mut maker = Maker::new(rng, version, depth, capacity, &settings);
     let early = rng.below(12);
     let events = rng.between(20, 150);
     let mut number = 0;
@@ -317,7 +412,7 @@ fn ceiling_time(rng: &mut Prng, state: &State, beat: u64) -> u64 {
 }
 
 /// Large jumps of time, settings from the whole range.
-fn jumps(rng: &mut Prng) -> Vec<u8> {
+fn jumps(rng: &mut Prng, version: Version) -> Vec<u8> {
     let guests = if rng.chance(80) {
         rng.between(1, 6)
     } else {
@@ -325,7 +420,7 @@ fn jumps(rng: &mut Prng) -> Vec<u8> {
     };
     let settings: Vec<_> = (0..guests).map(|_| any_rates(rng)).collect();
     let (depth, capacity) = (rng.between(1, 5), rng.between(1, 30));
-    let mut maker = Maker::new(depth, capacity, &settings);
+    let mut maker = Maker::new(rng, version, depth, capacity, &settings);
     let events = rng.between(20, 300);
     stretches(rng, &mut maker, events, |rng, state| match rng.below(20) {
         0..=6 => state.time,
@@ -341,13 +436,13 @@ fn jumps(rng: &mut Prng) -> Vec<u8> {
 /// Waits of every length, and reservation sends ahead of their limit tags:
 /// what the sheet has figures for. Days on which the table fills, then a
 /// pause or none, then the array works off what waits.
-fn waits(rng: &mut Prng) -> Vec<u8> {
+fn waits(rng: &mut Prng, version: Version) -> Vec<u8> {
     let scale = rng.pick(&[3, 7, 100, 1_000, 30_000]);
     let beat = SECOND / scale;
     let guests = rng.between(1, 3);
     let settings: Vec<_> = (0..guests).map(|_| waits_settings(rng, scale)).collect();
     let (depth, capacity) = (rng.between(1, 4), rng.between(4, 40));
-    let mut maker = Maker::new(depth, capacity, &settings);
+    let mut maker = Maker::new(rng, version, depth, capacity, &settings);
     for _ in 0..rng.between(1, 4) {
         for _ in 0..rng.between(5, 2 * capacity) {
             let step = rng.below(beat);
@@ -402,8 +497,8 @@ fn waits_settings(rng: &mut Prng, scale: u64) -> Settings {
 /// then an event that means nothing.
 fn waits_event(rng: &mut Prng, maker: &mut Maker, mood: Mood, time: u64) {
     if rng.chance(4) {
-        let event = garbage_event(rng, time);
-        maker.push(event);
+        let event = garbage_event(rng, maker.version, time);
+        maker.push_any(event);
     } else if matches!(mood, Mood::Fill) && rng.chance(70) {
         let guest = rng.below(maker.guests());
         maker.arrival(guest, rng.below(60) as u32, time);
@@ -433,19 +528,19 @@ fn next_due(state: &State) -> u64 {
 
 /// Headers with one fault or several, some good ones at the edges of the
 /// ranges, and some cut anywhere.
-fn header(rng: &mut Prng) -> Vec<u8> {
+fn header(rng: &mut Prng, version: Version) -> Vec<u8> {
     let guests = rng.pick(&[1, 1, 2, 3, 63, 64]);
     let settings: Vec<_> = (0..guests).map(|_| any_rates(rng)).collect();
     let depth = rng.pick(&[1, 2, 32, 64]);
     let capacity = rng.pick(&[1, 8, 1_023, 1_024]);
-    let mut maker = Maker::new(depth, capacity, &settings);
+    let mut maker = Maker::new(rng, version, depth, capacity, &settings);
     let header_length = maker.bytes.len();
     for time in 0..rng.below(6) {
         any_event(rng, &mut maker, Mood::Fill, time);
     }
     let mut bytes = maker.bytes;
     for _ in 0..rng.pick(&[0, 1, 1, 1, 2, 3]) {
-        header_fault(rng, &mut bytes, settings.len());
+        header_fault(rng, version, &mut bytes, settings.len());
     }
     if rng.chance(35) {
         // Often within or next to the first nine bytes, or at the end.
@@ -461,15 +556,20 @@ fn header(rng: &mut Prng) -> Vec<u8> {
     bytes
 }
 
-fn header_fault(rng: &mut Prng, bytes: &mut [u8], guests: usize) {
+fn header_fault(rng: &mut Prng, version: Version, bytes: &mut [u8], guests: usize) {
+    if version == Version::Two && rng.chance(30) {
+        return fault_of_2(rng, bytes, guests);
+    }
     match rng.below(10) {
         0 => {
             let at = rng.below(3) as usize;
             bytes[at] = rng.pick(&[0, b's', b'S', b'G', b'Q', b'q', 255]);
         }
         1 => {
-            let version: u16 = rng.pick(&[0, 2, 3, 256, 257, u16::MAX]);
-            bytes[3..5].copy_from_slice(&version.to_le_bytes());
+            // Sometimes the other version, in which the rest means another.
+            let other = 3 - version.number();
+            let number: u16 = rng.pick(&[0, other, 3, 256, 257, u16::MAX]);
+            bytes[3..5].copy_from_slice(&number.to_le_bytes());
         }
         2 => bytes[5] = rng.pick(&[0, 65, 128, 255]),
         3 => bytes[6] = rng.pick(&[0, 65, 66, 255]),
@@ -479,12 +579,25 @@ fn header_fault(rng: &mut Prng, bytes: &mut [u8], guests: usize) {
         }
         // Another number of guests: the records then end elsewhere.
         5 => bytes[6] = rng.between(1, 64) as u8,
-        _ => settings_fault(rng, bytes, guests),
+        _ => settings_fault(rng, version, bytes, guests),
     }
 }
 
-fn settings_fault(rng: &mut Prng, bytes: &mut [u8], guests: usize) {
-    let record = 9 + 12 * rng.below(guests as u64) as usize;
+/// Rules and credits, most of them faults.
+fn fault_of_2(rng: &mut Prng, bytes: &mut [u8], guests: usize) {
+    if rng.chance(50) {
+        bytes[9] = rng.pick(&[0, 1, 2, 3, 128, 255]);
+    } else {
+        let guest = rng.below(guests as u64) as usize;
+        let at = Version::Two.start_bytes() + 14 * guest + 12;
+        let credit: u16 = rng.pick(&[256, 257, 258, 512, 1 << 15, u16::MAX]);
+        bytes[at..at + 2].copy_from_slice(&credit.to_le_bytes());
+    }
+}
+
+fn settings_fault(rng: &mut Prng, version: Version, bytes: &mut [u8], guests: usize) {
+    let guest = rng.below(guests as u64) as usize;
+    let record = version.start_bytes() + version.guest_bytes() * guest;
     let mut put = |field: usize, number: u32| {
         let at = record + 4 * field;
         bytes[at..at + 4].copy_from_slice(&number.to_le_bytes());
@@ -512,11 +625,11 @@ fn settings_fault(rng: &mut Prng, bytes: &mut [u8], guests: usize) {
 }
 
 /// A trace whose last event is cut at any byte.
-fn cut(rng: &mut Prng) -> Vec<u8> {
+fn cut(rng: &mut Prng, version: Version) -> Vec<u8> {
     let mut bytes = match rng.below(3) {
-        0 => ceiling(rng),
-        1 => garbage_maker(rng).bytes,
-        _ => small(rng),
+        0 => ceiling(rng, version),
+        1 => garbage_maker(rng, version).bytes,
+        _ => small(rng, version),
     };
     let gone = rng.below(EVENT_BYTES as u64) as usize;
     bytes.truncate(bytes.len() - gone);
@@ -524,11 +637,11 @@ fn cut(rng: &mut Prng) -> Vec<u8> {
 }
 
 /// Bytes that mean little, after a good header.
-fn garbage(rng: &mut Prng) -> Vec<u8> {
+fn garbage(rng: &mut Prng, version: Version) -> Vec<u8> {
     if rng.chance(60) {
-        return garbage_maker(rng).bytes;
+        return garbage_maker(rng, version).bytes;
     }
-    let mut maker = small_maker(rng);
+    let mut maker = small_maker(rng, version);
     for _ in 0..rng.below(1_000) {
         let byte = match rng.below(3) {
             0 => rng.any() as u8,
@@ -541,53 +654,62 @@ fn garbage(rng: &mut Prng) -> Vec<u8> {
 }
 
 /// Good events among events with a bad kind and ticks with a guest or id.
-fn garbage_maker(rng: &mut Prng) -> Maker {
+fn garbage_maker(rng: &mut Prng, version: Version) -> Maker {
     let guests = rng.between(1, 3);
     let settings: Vec<_> = (0..guests).map(|_| beat_settings(rng, 1_000)).collect();
     let (depth, capacity) = (rng.between(1, 3), rng.between(1, 6));
-    let mut maker = Maker::new(depth, capacity, &settings);
+    let mut maker = Maker::new(rng, version, depth, capacity, &settings);
     for _ in 0..rng.between(5, 150) {
         let time = maker.state.time + beat_step(rng, SECOND / 1_000);
         if rng.chance(50) {
             any_event(rng, &mut maker, Mood::Even, time);
         } else {
-            let event = garbage_event(rng, time);
-            maker.push(event);
+            let event = garbage_event(rng, version, time);
+            maker.push_any(event);
         }
     }
     maker
 }
 
-fn garbage_event(rng: &mut Prng, time: u64) -> Event {
+/// The kind is the whole first byte.
+fn garbage_event(rng: &mut Prng, version: Version, time: u64) -> Event {
+    if version == Version::Two && rng.chance(30) {
+        return spare_event(rng, time);
+    }
     let time = rng.pick(&[time, 0, CEILING + 1, u64::MAX]);
     let high = rng.between(3, 255) as u8;
     match rng.below(5) {
         0 => Event {
             kind: rng.pick(&[3, 4, 130, 255, high]),
+            upper: 0,
             guest: rng.below(4) as u8,
             id: some_id(rng),
             time,
         },
         1 => Event {
             kind: TICK,
+            upper: 0,
             guest: rng.pick(&[1, 64, 255]),
             id: 0,
             time,
         },
         2 => Event {
             kind: TICK,
+            upper: 0,
             guest: 0,
             id: rng.pick(&[1, 256, 1 << 31, u32::MAX]),
             time,
         },
         3 => Event {
             kind: rng.pick(&[ARRIVAL, COMPLETION]),
+            upper: 0,
             guest: rng.below(256) as u8,
             id: rng.any() as u32,
             time,
         },
         _ => Event {
             kind: rng.any() as u8,
+            upper: 0,
             guest: rng.any() as u8,
             id: rng.any() as u32,
             time,
@@ -595,8 +717,22 @@ fn garbage_event(rng: &mut Prng, time: u64) -> Event {
     }
 }
 
+/// A completion or a tick with something in the spare part, or a kind 3.
+fn spare_event(rng: &mut Prng, time: u64) -> Event {
+    let kind = rng.pick(&[COMPLETION, COMPLETION, TICK, TICK, 3]);
+    let spare = rng.between(1, 63);
+    let upper = rng.pick(&[1, 32, 63, spare]) as u8;
+    Event {
+        kind: kind | upper << 2,
+        upper: 0,
+        guest: 0,
+        id: if kind == TICK { 0 } else { some_id(rng) },
+        time,
+    }
+}
+
 /// 64 guests and about 1,000 waiting, tens of thousands of events.
-fn large(rng: &mut Prng) -> Vec<u8> {
+fn large(rng: &mut Prng, version: Version) -> Vec<u8> {
     let scale = rng.pick(&[10, 1_000, 20_000]);
     let beat = SECOND / scale;
     let settings: Vec<_> = (0..64)
@@ -609,7 +745,7 @@ fn large(rng: &mut Prng) -> Vec<u8> {
         })
         .collect();
     let depth = rng.pick(&[4, 32, 64]);
-    let mut maker = Maker::new(depth, 1_024, &settings);
+    let mut maker = Maker::new(rng, version, depth, 1_024, &settings);
     let mut id = 0;
     let mut aim = 1_000;
     for number in 0..rng.between(20_000, 40_000) {
@@ -658,7 +794,7 @@ fn large_event(rng: &mut Prng, maker: &mut Maker, id: &mut u32, aim: usize, time
 /// whole choice, and about one in three sends.
 pub fn fixed(aim: usize, events: u64) -> Vec<u8> {
     let settings: Vec<_> = (0..64).map(fixed_settings).collect();
-    let mut maker = Maker::new(32, 1_024, &settings);
+    let mut maker = Maker::new(&mut Prng::new(0), Version::One, 32, 1_024, &settings);
     let mut turns = Turns::new(&settings);
     let mut time = 0;
     for number in 0..events {

@@ -7,8 +7,9 @@
 //! - `wake`:    when a tick alone would next send something
 //! - `calls`:   the library calls on lent tables
 //! - `batch`:   many events in one call
+//! - `trace`:   the trace in its two versions and the program that prints it
+//! - `moves`:   the moves from one version to the other
 //! - `clock`:   the time of a board with a short clock
-//! - `trace`:   the trace and the program that prints it
 //! - `sheet`:   the sale-day sheet of a trace
 //! - `sample`:  random numbers and random tables, for tests
 //! - `kinds`:   random traces, for tests and benchmarks
@@ -17,6 +18,7 @@ pub mod batch;
 pub mod calls;
 pub mod clock;
 pub mod kinds;
+pub mod moves;
 pub mod numbers;
 pub mod rules;
 pub mod sample;
@@ -29,6 +31,7 @@ pub mod wake;
 pub use batch::batch;
 pub use calls::{arrive, complete, open, tick, Reply, NEVER};
 pub use clock::{clock_read, Clock};
+pub use moves::{back, up};
 pub use numbers::{Settings, CEILING};
 pub use rules::{Answer, Phase, State};
 pub use sound::{first_broken, Rule};

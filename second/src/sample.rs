@@ -64,7 +64,7 @@ pub fn any_settings(rng: &mut Prng) -> Settings {
     }
 }
 
-fn any_credit(rng: &mut Prng) -> u64 {
+pub fn any_credit(rng: &mut Prng) -> u64 {
     match rng.below(3) {
         0 => 0,
         1 => rng.pick(&[1, 2, 3, 30, MOST_CREDIT - 1, MOST_CREDIT]),

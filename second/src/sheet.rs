@@ -3,9 +3,7 @@
 
 use crate::rules::{Answer, Phase, State};
 use crate::tables::Waiting;
-use crate::trace::{
-    next_event, print_refused, read_header, take, Event, Input, Next, ARRIVAL, COMPLETION,
-};
+use crate::trace::{print_refused, take, Event, Header, Input, Next, ARRIVAL, COMPLETION};
 use std::io::{self, Read, Write};
 
 /// The figures of one guest.
@@ -40,9 +38,9 @@ pub struct Sheet {
 /// Reads a whole trace and writes its sheet.
 pub fn run(input: impl Read, output: &mut impl Write) -> io::Result<()> {
     let mut input = Input::new(input);
-    match read_header(&mut input)? {
-        Ok(state) => {
-            let sheet = read_events(&mut input, state)?;
+    match input.header()? {
+        Ok(header) => {
+            let sheet = read_events(&mut input, &header)?;
             let mut lines = sheet.lines.iter().enumerate();
             lines.try_for_each(|(guest, line)| print_line(output, guest, line))
         }
@@ -51,9 +49,10 @@ pub fn run(input: impl Read, output: &mut impl Write) -> io::Result<()> {
 }
 
 /// A cut last event is the last, and passed over.
-fn read_events<R: Read>(input: &mut Input<R>, mut state: State) -> io::Result<Sheet> {
+fn read_events<R: Read>(input: &mut Input<R>, header: &Header) -> io::Result<Sheet> {
+    let mut state = header.fresh();
     let mut sheet = Sheet::new(state.guests.len());
-    while let Next::Event(event) = next_event(input)? {
+    while let Some(Next::Event(event)) = input.next(header.version)? {
         sheet.play(&mut state, event);
     }
     Ok(sheet)

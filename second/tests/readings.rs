@@ -4,38 +4,25 @@
 mod common;
 use common::*;
 use second::numbers::SECOND;
-use second::trace::{header_bytes, run, Event};
+use second::trace::{header_bytes, Version};
 use second::Answer::{Nothing, Refused};
 use second::{Answer, Flight, State, Waiting, CEILING};
-
-fn printed(bytes: &[u8]) -> String {
-    let mut out = Vec::new();
-    run(bytes, &mut out).unwrap();
-    String::from_utf8(out).unwrap()
-}
 
 #[test]
 fn the_example_is_printed_whole() {
     let mut bytes = header_bytes(4, 1, 8, &[guest(100, 250, 1)]);
-    let mut event = |kind, id, ms: u64| {
-        bytes.extend(
-            Event {
-                kind,
-                guest: 0,
-                id,
-                time: ms * MS,
-            }
-            .bytes(),
-        )
+    let mut push = |kind, id, ms: u64| {
+        let event = event(kind, 0, id, ms * MS);
+        bytes.extend(event.bytes(Version::One))
     };
     for id in 1..=4 {
-        event(0, id, 0);
+        push(0, id, 0);
     }
     for ms in [4, 8, 10, 9] {
-        event(2, 0, ms);
+        push(2, 0, ms);
     }
-    event(1, 1, 10);
-    event(1, 1, 10);
+    push(1, 1, 10);
+    push(1, 1, 10);
     let wanted =
         "event answer\n1 R 0 1\n2 -\n3 -\n4 -\n5 W 0 2\n6 W 0 3\n7 R 0 4\n8 X 6\n9 -\n10 X 10\n";
     assert_eq!(printed(&bytes), wanted);

@@ -6,7 +6,7 @@ use second::calls::read;
 use second::kinds::trace;
 use second::sample::{any_cost, any_settings, sound_tables, Owned, Prng};
 use second::tables::*;
-use second::trace::{play, Event};
+use second::trace::play;
 use second::{first_broken, Answer, Phase, Settings, State, CEILING};
 
 /// Tables to start from: fresh ones or random sound ones.
@@ -243,35 +243,15 @@ fn follow(rng: &mut Prng, mut t: Owned, place: usize, k: usize) {
 /// The program's state and the calls on lent tables go alike.
 #[test]
 fn calls_and_program_agree() {
-    for kind in ["small", "ceiling", "jumps"] {
+    for kind in ["small", "ceiling", "jumps", "small2", "ceiling2", "jumps2"] {
         for seed in 0..40 {
-            let bytes = trace(kind, seed).unwrap();
-            let (mut state, start) = opened_by(&bytes);
-            let settings: Vec<_> = state.guests.iter().map(|g| g.settings).collect();
-            let mut t = opened(state.depth as u64, state.capacity as u64, &settings);
-            for b in bytes[start..].chunks(14) {
-                let e = Event::from_bytes(b.try_into().unwrap());
-                let c = match e.kind {
-                    0 => Call::Arrive(e.guest as u64, e.id, e.time, 1),
-                    1 => Call::Complete(e.guest as u64, e.id, e.time),
-                    _ => Call::Tick(e.time),
-                };
-                assert_eq!(call(&mut t.lend(), c), play(&mut state, e));
+            let (header, events) = taken_apart(&trace(kind, seed).unwrap());
+            let mut state = header.fresh();
+            let mut t = opened_by(&header);
+            for e in events {
+                assert_eq!(call(&mut t.lend(), call_of(e)), play(&mut state, e));
                 assert_eq!(read(&t.view()), state);
             }
         }
     }
-}
-
-/// A fresh state by a good header, and where the events begin.
-fn opened_by(bytes: &[u8]) -> (State, usize) {
-    let guests = bytes[6] as usize;
-    let number = |at: usize| u32::from_le_bytes(bytes[at..at + 4].try_into().unwrap()) as u64;
-    let settings: Vec<_> = (0..guests)
-        .map(|g| 9 + 12 * g)
-        .map(|at| guest(number(at), number(at + 4), number(at + 8)))
-        .collect();
-    let capacity = u16::from_le_bytes([bytes[7], bytes[8]]) as usize;
-    let state = State::fresh(bytes[5] as usize, capacity, &settings);
-    (state, 9 + 12 * guests)
 }

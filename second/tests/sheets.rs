@@ -5,8 +5,7 @@ use common::*;
 use second::kinds::trace;
 use second::numbers::SECOND;
 use second::sheet::{self, Line, Sheet};
-use second::trace::{header_bytes, play, run, settings_of, Event};
-use second::trace::{ARRIVAL, COMPLETION, EVENT_BYTES, GUEST_BYTES, START_BYTES, TICK};
+use second::trace::{header_bytes, play, Event, Header, Version, ARRIVAL, COMPLETION, TICK};
 use second::{Answer, Settings, State, CEILING};
 use std::collections::{BTreeMap, VecDeque};
 use std::io::Write;
@@ -18,24 +17,9 @@ fn sheet_of(bytes: &[u8]) -> String {
     String::from_utf8(out).unwrap()
 }
 
-fn decisions_of(bytes: &[u8]) -> String {
-    let mut out = Vec::new();
-    run(bytes, &mut out).unwrap();
-    String::from_utf8(out).unwrap()
-}
-
-fn event(kind: u8, guest: u8, id: u32, time: u64) -> Event {
-    Event {
-        kind,
-        guest,
-        id,
-        time,
-    }
-}
-
 fn written(depth: u8, capacity: u16, settings: &[Settings], events: &[Event]) -> Vec<u8> {
     let mut b = header_bytes(depth, settings.len() as u8, capacity, settings);
-    b.extend(events.iter().flat_map(|e| e.bytes()));
+    b.extend(events.iter().flat_map(|e| e.bytes(Version::One)));
     b
 }
 
@@ -75,7 +59,7 @@ fn the_program_prints_a_sheet_when_told_to() {
         )
     };
     assert_eq!(told(&["sheet"]), (true, EXAMPLE_SHEET.to_string()));
-    assert_eq!(told(&[]), (true, decisions_of(&example())));
+    assert_eq!(told(&[]), (true, printed(&example())));
     assert_eq!(told(&["sheets"]), (false, String::new()));
     assert_eq!(told(&["sheet", "sheet"]), (false, String::new()));
 }
@@ -85,7 +69,7 @@ fn a_bad_header_prints_as_for_decisions() {
     let mut refused = 0;
     for seed in 0..300 {
         let bytes = trace("header", seed).unwrap();
-        let decisions = decisions_of(&bytes);
+        let decisions = printed(&bytes);
         if decisions.starts_with("trace refused") {
             refused += 1;
             assert_eq!(sheet_of(&bytes), decisions);
@@ -167,19 +151,9 @@ fn the_sum_has_an_upper_number() {
     );
 }
 
-/// A fresh gate by the good header of a trace, and its whole events.
-fn taken_apart(bytes: &[u8]) -> (State, Vec<Event>) {
-    let guests = bytes[6] as usize;
-    let (records, events) = bytes[START_BYTES..].split_at(guests * GUEST_BYTES);
-    let settings: Vec<_> = records.chunks(GUEST_BYTES).map(settings_of).collect();
-    let capacity = u16::from_le_bytes([bytes[7], bytes[8]]) as usize;
-    let whole = events.chunks_exact(EVENT_BYTES);
-    let events = whole.map(|b| Event::from_bytes(b.try_into().unwrap()));
-    let state = State::fresh(bytes[5] as usize, capacity, &settings);
-    (state, events.collect())
-}
-
-const GOOD: [&str; 6] = ["small", "ceiling", "jumps", "waits", "cut", "garbage"];
+const GOOD: [&str; 9] = [
+    "small", "ceiling", "jumps", "waits", "cut", "garbage", "small2", "waits2", "garbage2",
+];
 
 /// Traces with a good header: many small ones and a large one.
 fn good_traces() -> impl Iterator<Item = Vec<u8>> {
@@ -194,12 +168,11 @@ fn good_traces() -> impl Iterator<Item = Vec<u8>> {
 #[test]
 fn what_is_refused_is_passed_over() {
     for bytes in good_traces() {
-        let (mut state, events) = taken_apart(&bytes);
-        let settings: Vec<_> = state.guests.iter().map(|g| g.settings).collect();
-        let (depth, capacity) = (state.depth as u8, state.capacity as u16);
-        let mut kept = events.clone();
+        let (header, mut kept) = taken_apart(&bytes);
+        let mut state = header.fresh();
         kept.retain(|e| !refused(play(&mut state, *e)));
-        let clean = written(depth, capacity, &settings, &kept);
+        let mut clean = header.bytes();
+        clean.extend(kept.iter().flat_map(|e| e.bytes(header.version)));
         assert_eq!(sheet_of(&bytes), sheet_of(&clean));
     }
 }
@@ -209,7 +182,8 @@ fn what_is_refused_is_passed_over() {
 #[test]
 fn arrivals_are_waiting_in_flight_or_completed() {
     for bytes in good_traces() {
-        let (mut state, events) = taken_apart(&bytes);
+        let (header, events) = taken_apart(&bytes);
+        let mut state = header.fresh();
         let mut sheet = Sheet::new(state.guests.len());
         let mut alone = state.clone();
         for e in events {
@@ -242,9 +216,9 @@ struct Lane {
 
 /// The sheet from the events and the printed lines alone.
 fn sheet_from_lines(bytes: &[u8]) -> String {
-    let (state, events) = taken_apart(bytes);
+    let (Header { settings, .. }, events) = taken_apart(bytes);
     let mut lanes: BTreeMap<usize, Lane> = BTreeMap::new();
-    let lines = decisions_of(bytes);
+    let lines = printed(bytes);
     for (e, line) in events.iter().zip(lines.lines().skip(1)) {
         let fields: Vec<&str> = line.split(' ').collect();
         if fields[1] == "X" {
@@ -253,10 +227,10 @@ fn sheet_from_lines(bytes: &[u8]) -> String {
         let lane = lanes.entry(e.guest as usize).or_default();
         match e.kind {
             0 => {
-                let settings = state.guests[e.guest as usize].settings;
+                let settings = settings[e.guest as usize];
                 let tag = lane.next_limit.max(e.time);
                 if settings.has_limit() {
-                    lane.next_limit = tag + settings.limit_spacing();
+                    lane.next_limit = tag + e.cost() * settings.limit_spacing();
                 }
                 let limit = settings.has_limit().then_some(tag);
                 lane.queue.push_back((e.time, limit));
@@ -282,7 +256,7 @@ fn sheet_from_lines(bytes: &[u8]) -> String {
         lane.flight += 1;
     }
     let mut sheet = String::new();
-    for guest in 0..state.guests.len() {
+    for guest in 0..settings.len() {
         let lane = lanes.remove(&guest).unwrap_or_default();
         let [a, c, r, w, ahead, longest, sum] = lane.figures;
         let (upper, lower) = (sum / (1 << 64), sum % (1 << 64));
@@ -309,8 +283,9 @@ fn the_waits_kind_moves_every_figure() {
     let (mut at_once, mut cut, mut again) = (0, 0, 0);
     for seed in 0..200 {
         let bytes = trace("waits", seed).unwrap();
-        let (mut state, events) = taken_apart(&bytes);
-        cut += (decisions_of(&bytes).ends_with("X 15\n")) as u32;
+        let (header, events) = taken_apart(&bytes);
+        let mut state = header.fresh();
+        cut += (printed(&bytes).ends_with("X 15\n")) as u32;
         let mut sheet = Sheet::new(state.guests.len());
         let mut completed = Vec::new();
         for e in events {

@@ -3,15 +3,9 @@
 mod common;
 use common::*;
 use second::kinds::{fixed, trace, KINDS};
-use second::trace::{header_bytes, play, run, Event};
-use second::{Answer, State};
+use second::trace::{header_bytes, header_bytes_2, play, run, Event, Header, Version};
+use second::{Answer, Settings};
 use std::io::Read;
-
-fn printed(bytes: &[u8]) -> String {
-    let mut out = Vec::new();
-    run(bytes, &mut out).unwrap();
-    String::from_utf8(out).unwrap()
-}
 
 fn refusal(number: u8) -> String {
     format!("trace refused {number}\n")
@@ -27,10 +21,38 @@ fn a_good_header_and_no_events() {
     assert_eq!(printed(&good()), "event answer\n");
 }
 
+/// The same in version 2, with rule 2 and a credit.
+fn good_2() -> Vec<u8> {
+    header_bytes_2(2, 2, 3, 2, &[credited(256, guest(0, 0, 1)), guest(5, 5, 1)])
+}
+
+#[test]
+fn version_2_says_more() {
+    assert_eq!(good_2().len(), 10 + 2 * 14);
+    assert_eq!(
+        good_2(),
+        [
+            b'S', b'G', b'Q', 2, 0, 2, 2, 3, 0, 2, //
+            0, 0, 0, 0, 0, 0, 0, 0, 1, 0, 0, 0, 0, 1, //
+            5, 0, 0, 0, 5, 0, 0, 0, 1, 0, 0, 0, 0, 0,
+        ]
+    );
+    assert_eq!(printed(&good_2()), "event answer\n");
+    let (header, events) = taken_apart(&good_2());
+    assert_eq!((header.version, header.rule), (Version::Two, 2));
+    let credits: Vec<u64> = header.settings.iter().map(|s| s.credit).collect();
+    assert_eq!((credits, events), (vec![256, 0], vec![]));
+    assert_eq!(header.bytes(), good_2());
+    let fresh = header.fresh();
+    assert_eq!((fresh.rule, fresh.depth, fresh.capacity), (2, 2, 3));
+}
+
 #[test]
 fn a_header_cut_anywhere() {
-    for length in 0..good().len() {
-        assert_eq!(printed(&good()[..length]), refusal(13), "{length}");
+    for good in [good(), good_2()] {
+        for length in 0..good.len() {
+            assert_eq!(printed(&good[..length]), refusal(13), "{length}");
+        }
     }
 }
 
@@ -43,12 +65,61 @@ fn the_order_of_header_refusals() {
     assert_eq!(printed(&b), refusal(13));
     b[5] = 65; // depth: judged before the records are there
     assert_eq!(printed(&b), refusal(1));
-    b[3] = 2; // version
+    for version in [0, 3, 255] {
+        b[3] = version;
+        assert_eq!(printed(&b), refusal(12));
+    }
+    b[3] = 1;
+    b[4] = 1;
     assert_eq!(printed(&b), refusal(12));
     b[2] = b'q'; // mark
     assert_eq!(printed(&b), refusal(11));
     b.truncate(8);
     assert_eq!(printed(&b), refusal(13));
+}
+
+#[test]
+fn the_order_of_header_refusals_in_version_2() {
+    let mut b = good_2();
+    b[10 + 12] = 1; // credit 257
+    assert_eq!(printed(&b), refusal(1));
+    b.truncate(30);
+    assert_eq!(printed(&b), refusal(13));
+    for rule in [0, 3, 255] {
+        b[9] = rule; // judged before the records are there
+        assert_eq!(printed(&b), refusal(1));
+    }
+    b.truncate(10);
+    assert_eq!(printed(&b), refusal(1));
+    // Absent it is 13, before the counts are judged.
+    b.truncate(9);
+    b[5] = 65;
+    assert_eq!(printed(&b), refusal(13));
+    b[3] = 3;
+    assert_eq!(printed(&b), refusal(12));
+    // In version 1 the ninth byte is the last before the records.
+    b[3] = 1;
+    assert_eq!(printed(&b), refusal(1));
+}
+
+#[test]
+fn rules_and_credits_at_their_edges() {
+    let with = |rule, settings: Settings| printed(&header_bytes_2(1, 1, 1, rule, &[settings]));
+    for rule in [1, 2] {
+        for credit in [0, 1, 255, 256] {
+            assert_eq!(
+                with(rule, credited(credit, guest(0, 0, 1))),
+                "event answer\n"
+            );
+        }
+        for credit in [257, 512, 65_535] {
+            assert_eq!(with(rule, credited(credit, guest(0, 0, 1))), refusal(1));
+        }
+        assert_eq!(with(rule, guest(2, 1, 1)), refusal(1));
+    }
+    for rule in [0, 3, 129, 255] {
+        assert_eq!(with(rule, guest(0, 0, 1)), refusal(1));
+    }
 }
 
 #[test]
@@ -94,25 +165,74 @@ fn counts_and_settings_at_their_edges() {
     }
 }
 
-fn event(kind: u8, guest: u8, id: u32, time: u64) -> [u8; 14] {
-    Event {
-        kind,
-        guest,
-        id,
-        time,
+/// An event whose first byte is given.
+fn bytes_of(first: u8, guest: u8, id: u32, time: u64) -> [u8; 14] {
+    event(first, guest, id, time).bytes(Version::One)
+}
+
+#[test]
+fn the_first_byte_in_both_versions() {
+    for first in 0..=255u8 {
+        let b = bytes_of(first, 1, 2, 3);
+        let one = Event::from_bytes(Version::One, b);
+        assert_eq!((one.kind, one.upper), (first, 0));
+        let two = Event::from_bytes(Version::Two, b);
+        assert_eq!((two.kind, two.upper), (first % 4, first / 4));
+        assert_eq!((two.guest, two.id, two.time), (1, 2, 3));
+        assert_eq!((one.bytes(Version::One), two.bytes(Version::Two)), (b, b));
+        assert_eq!(one.well_formed(), first < 2);
+        assert_eq!(two.well_formed(), first % 4 == 0 || first == 1);
+        if first % 4 == 0 {
+            assert_eq!(two.cost(), first as u64 / 4 + 1);
+        }
+        let tick = Event::from_bytes(Version::Two, bytes_of(first, 0, 0, 3));
+        assert_eq!(tick.well_formed(), first % 4 == 0 || first <= 2);
     }
-    .bytes()
+}
+
+#[test]
+fn costs_and_spare_parts_in_version_2() {
+    let mut b = good_2();
+    // Guest 1: one of cost 64, then five a second, so the next at 12.8 s.
+    b.extend(bytes_of(63 << 2, 1, 1, 0));
+    b.extend(bytes_of(0, 1, 2, 0));
+    for (first, id) in [(2 | 1 << 2, 0), (1 | 1 << 2, 1), (3, 1), (255, 1), (2, 1)] {
+        b.extend(bytes_of(first, 0, id, u64::MAX));
+    }
+    b.extend(bytes_of(2, 0, 0, 12_800 * MS - 1));
+    b.extend(bytes_of(2, 0, 0, 12_800 * MS));
+    // Unknown, not 14.
+    b.extend(bytes_of(8, 2, 0, 0));
+    assert_eq!(
+        printed(&b),
+        "event answer\n1 R 1 1\n2 -\n3 X 14\n4 X 14\n5 X 14\n6 X 14\n7 X 14\n8 -\n9 R 1 2\n10 X 4\n"
+    );
+}
+
+#[test]
+fn the_rule_of_a_trace_is_played() {
+    // Document 01's example: event 7 goes by reservation under rule 1 only.
+    for (rule, seventh) in [(1, "7 R 0 4"), (2, "7 -")] {
+        let mut b = header_bytes_2(4, 1, 8, rule, &[guest(100, 250, 1)]);
+        for id in 1..=4 {
+            b.extend(bytes_of(0, 0, id, 0));
+        }
+        for ms in [4, 8, 10] {
+            b.extend(bytes_of(2, 0, 0, ms * MS));
+        }
+        assert_eq!(printed(&b).lines().last(), Some(seventh));
+    }
 }
 
 #[test]
 fn number_14_comes_before_the_others_and_is_passed_over() {
     let mut b = good();
-    b.extend(event(3, 200, 0, u64::MAX));
-    b.extend(event(2, 1, 0, u64::MAX));
-    b.extend(event(2, 0, 1, 0));
-    b.extend(event(2, 0, 0, u64::MAX));
-    b.extend(event(0, 2, 0, u64::MAX));
-    b.extend(event(0, 0, u32::MAX, 7));
+    b.extend(bytes_of(3, 200, 0, u64::MAX));
+    b.extend(bytes_of(2, 1, 0, u64::MAX));
+    b.extend(bytes_of(2, 0, 1, 0));
+    b.extend(bytes_of(2, 0, 0, u64::MAX));
+    b.extend(bytes_of(0, 2, 0, u64::MAX));
+    b.extend(bytes_of(0, 0, u32::MAX, 7));
     assert_eq!(
         printed(&b),
         "event answer\n1 X 14\n2 X 14\n3 X 14\n4 X 5\n5 X 4\n6 W 0 4294967295\n"
@@ -121,14 +241,15 @@ fn number_14_comes_before_the_others_and_is_passed_over() {
 
 #[test]
 fn a_last_event_cut_at_any_byte() {
-    let mut b = good();
-    b.extend(event(0, 0, 1, 7));
-    let whole = b.len();
-    b.extend(event(9, 9, 9, 9));
-    for length in whole + 1..b.len() {
-        assert_eq!(printed(&b[..length]), "event answer\n1 W 0 1\n2 X 15\n");
+    for mut b in [good(), good_2()] {
+        b.extend(bytes_of(0, 0, 1, 7));
+        let whole = b.len();
+        b.extend(bytes_of(9, 9, 9, 9));
+        for length in whole + 1..b.len() {
+            assert_eq!(printed(&b[..length]), "event answer\n1 W 0 1\n2 X 15\n");
+        }
+        assert_eq!(printed(&b[..whole]), "event answer\n1 W 0 1\n");
     }
-    assert_eq!(printed(&b[..whole]), "event answer\n1 W 0 1\n");
 }
 
 /// Gives its bytes in pieces of odd sizes.
@@ -164,11 +285,27 @@ fn every_kind_is_fixed_by_its_seed() {
     assert_eq!(trace("other", 1), None);
 }
 
+/// The suffix says the version, and `mixed` has both.
+#[test]
+fn kinds_of_both_versions() {
+    let header_of = |kind: &str, seed| Header::read(&trace(kind, seed).unwrap());
+    for kind in ["small", "ceiling", "jumps", "waits", "cut", "garbage"] {
+        for seed in 0..20 {
+            assert_eq!(header_of(kind, seed).unwrap().version, Version::One);
+            let two = header_of(&format!("{kind}2"), seed).unwrap();
+            assert_eq!(two.version, Version::Two);
+        }
+    }
+    let mixed = (0..150).filter_map(|seed| header_of("mixed", seed).ok());
+    let second = mixed.filter(|header| header.version == Version::Two);
+    assert!((40..90).contains(&second.count()));
+}
+
 /// Every refusal of the program, both phases and no send come up.
 #[test]
 fn the_kinds_reach_every_answer() {
     let mut seen = std::collections::BTreeSet::new();
-    for kind in KINDS.iter().filter(|kind| **kind != "large") {
+    for kind in KINDS.iter().filter(|kind| !kind.starts_with("large")) {
         for seed in 0..60 {
             for line in printed(&trace(kind, seed).unwrap()).lines() {
                 let fields: Vec<&str> = line.split(' ').collect();
@@ -207,16 +344,13 @@ fn the_kinds_reach_every_answer() {
 /// Plays the events of a trace with 64 guests; gives for each event the
 /// waiting count after it and whether it sent.
 fn played(bytes: &[u8]) -> Vec<(usize, bool)> {
-    let number = |at: usize| u32::from_le_bytes(bytes[at..at + 4].try_into().unwrap()) as u64;
-    let settings: Vec<_> = (0..64)
-        .map(|g| 9 + 12 * g)
-        .map(|at| guest(number(at), number(at + 4), number(at + 8)))
-        .collect();
-    let mut state = State::fresh(bytes[5] as usize, 1_024, &settings);
-    bytes[9 + 64 * 12..]
-        .chunks(14)
-        .map(|b| {
-            let answer = play(&mut state, Event::from_bytes(b.try_into().unwrap()));
+    let (header, events) = taken_apart(bytes);
+    assert_eq!((header.settings.len(), header.capacity), (64, 1_024));
+    let mut state = header.fresh();
+    events
+        .into_iter()
+        .map(|event| {
+            let answer = play(&mut state, event);
             let sent = matches!(answer, Answer::Sent { .. });
             (state.waiting.len(), sent)
         })
@@ -239,8 +373,10 @@ fn the_fixed_trace_keeps_about_so_many_waiting_and_keeps_sending() {
 
 #[test]
 fn the_large_kind_keeps_about_a_thousand_waiting() {
-    let played = played(&trace("large", 1).unwrap());
-    assert!(played.len() >= 20_000);
-    let many = played[3_000..].iter().filter(|(w, _)| *w > 850).count();
-    assert!(many * 10 > (played.len() - 3_000) * 9, "{many}");
+    for kind in ["large", "large2"] {
+        let played = played(&trace(kind, 1).unwrap());
+        assert!(played.len() >= 20_000);
+        let many = played[3_000..].iter().filter(|(w, _)| *w > 850).count();
+        assert!(many * 10 > (played.len() - 3_000) * 9, "{many}");
+    }
 }

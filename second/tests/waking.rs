@@ -6,7 +6,6 @@ use second::calls::read;
 use second::kinds::trace;
 use second::numbers::SECOND;
 use second::sample::{any_settings, sound_tables, Prng};
-use second::trace::{settings_of, Event, EVENT_BYTES, GUEST_BYTES, START_BYTES};
 use second::{wake, Answer, Flight, State, CEILING, NEVER};
 
 fn sends(state: &State, t: u64) -> bool {
@@ -183,22 +182,12 @@ fn random_sound_tables_are_woken_in_time() {
 #[test]
 fn each_accepted_call_carries_it() {
     let (mut carried, mut none, mut zero) = (0, 0, 0);
-    for kind in ["small", "ceiling", "jumps", "waits"] {
+    for kind in ["small", "ceiling", "jumps", "waits", "small2", "waits2"] {
         for seed in 0..40 {
-            let bytes = trace(kind, seed).unwrap();
-            let guests = bytes[6] as usize;
-            let (records, events) = bytes[START_BYTES..].split_at(guests * GUEST_BYTES);
-            let settings: Vec<_> = records.chunks(GUEST_BYTES).map(settings_of).collect();
-            let capacity = u16::from_le_bytes([bytes[7], bytes[8]]);
-            let mut t = opened(bytes[5] as u64, capacity as u64, &settings);
-            for b in events.chunks_exact(EVENT_BYTES) {
-                let e = Event::from_bytes(b.try_into().unwrap());
-                let c = match e.kind {
-                    0 => Call::Arrive(e.guest as u64, e.id, e.time, 1),
-                    1 => Call::Complete(e.guest as u64, e.id, e.time),
-                    _ => Call::Tick(e.time),
-                };
-                let said = reply(&mut t.lend(), c);
+            let (header, events) = taken_apart(&trace(kind, seed).unwrap());
+            let mut t = opened_by(&header);
+            for e in events {
+                let said = reply(&mut t.lend(), call_of(e));
                 let (told, numbered) = (said.wake, said.wake_number());
                 if refused(said.answer) {
                     assert_eq!((told, numbered), (None, 0));

@@ -1,6 +1,6 @@
 /* What header.c does not try of sgq.h: tables of no records, counts taken from arrays, free places and waiting counts,
- * when to wake, the rules for limits, costs, many events in one call, and a short clock. C99 and C++ alike; prints a
- * line for each thing that is not as it should be. */
+ * when to wake, the rules for limits, costs, many events in one call, traces moved from one version to the other, and a
+ * short clock. C99 and C++ alike; prints a line for each thing that is not as it should be. */
 #include "sgq.h"
 
 #include <inttypes.h>
@@ -216,6 +216,39 @@ static void batches(void)
     same("time after them", gate.time, 7);
 }
 
+/* The header of one guest and a tick, from version 1 to 2 and back; then each kind of refusal of a move. */
+static void moves(void)
+{
+    static const uint8_t one[] = {'S', 'G', 'Q', 1, 0, 4, 1, 8, 0, 100, 0, 0, 0, 250, 0, 0, 0, 1, 0, 0, 0,
+                                  2, 0, 0, 0, 0, 0, 9, 0, 0, 0, 0, 0, 0, 0};
+    static const uint8_t two[] = {'S', 'G', 'Q', 2, 0, 4, 1, 8, 0, 1, 100, 0, 0, 0, 250, 0, 0, 0, 1, 0, 0, 0, 0, 0,
+                                  2, 0, 0, 0, 0, 0, 9, 0, 0, 0, 0, 0, 0, 0};
+    uint8_t room[sizeof one + SGQ_MOST_GROWTH], costly[sizeof two];
+    memset(room, 77, sizeof room);
+    sgq_moved moved = sgq_trace_up(one, sizeof one, room, sizeof two - 1);
+    same("short room", moved.refusal, SGQ_REFUSED_SHORT_ROOM);
+    same("nothing is written", moved.written + room[0], 77);
+    moved = sgq_trace_up(one, sizeof one, room, sizeof room);
+    same("up", moved.refusal + moved.event, 0);
+    same("its length", moved.written, sizeof two);
+    same("its bytes", (uint64_t)(memcmp(room, two, sizeof two) != 0), 0);
+    same("the room past it", room[sizeof two], 77);
+    moved = sgq_trace_back(two, sizeof two, room, sizeof one);
+    same("back", moved.refusal + moved.event, 0);
+    same("the length then", moved.written, sizeof one);
+    same("the bytes then", (uint64_t)(memcmp(room, one, sizeof one) != 0), 0);
+    same("another version", sgq_trace_up(two, sizeof two, room, sizeof room).refusal, SGQ_REFUSED_TRACE_VERSION);
+    moved = sgq_trace_up(one, sizeof one - 1, room, sizeof room);
+    same("a cut event", moved.refusal, SGQ_REFUSED_TRACE_EVENT_CUT);
+    same("its number", moved.event, 1);
+    memcpy(costly, two, sizeof two);
+    costly[sizeof two - 14] = 4; /* an arrival of cost 2 */
+    moved = sgq_trace_back(costly, sizeof costly, room, sizeof room);
+    same("a cost", moved.refusal, SGQ_REFUSED_NO_WAY_BACK);
+    same("its event", moved.event, 1);
+    same("the words of it", (uint64_t)strlen(sgq_refusal_text(moved.refusal)), 70);
+}
+
 /* A short clock from zeros, across the wrap, up to the ceiling and no further. */
 static void clocks(void)
 {
@@ -243,6 +276,7 @@ int main(void)
     rules();
     costs();
     batches();
+    moves();
     clocks();
     return wrong;
 }

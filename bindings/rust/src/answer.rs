@@ -88,15 +88,27 @@ pub enum Refusal {
     TagAboveCeiling = 9,
     /// "completion: guest has no such id in flight".
     NotInFlight = 10,
+    /// Of a move: "trace mark". It does not begin with the letters `SGQ`.
+    TraceMark = 11,
+    /// Of a move: "trace version". It is not of the version that is moved.
+    TraceVersion = 12,
+    /// Of a move: "trace header cut short".
+    TraceHeaderCut = 13,
     /// "event kind above 2, or a tick with non-zero guest or id", or an id of more than 32 bits, or a completion or tick
     /// with a cost: an event of a batch that is none. The makers of [`crate::Event`] make no such one.
     EventKind = 14,
+    /// Of a move: "last event cut short".
+    TraceEventCut = 15,
     /// Of a whole batch; document 02, K5: "answer buffer short".
     ShortAnswers = 16,
     /// Of a whole batch; document 02, K5: "more than 256 events".
     TooManyEvents = 17,
     /// Of an arrival; document 02, K8: "a cost outside 1 to 64".
     Cost = 18,
+    /// Of a move; document 02, K9: "a version 2 trace that has another rule, credit or cost cannot go back".
+    NoWayBack = 19,
+    /// Of a move; document 02, K9: "room too short".
+    ShortRoom = 21,
 }
 
 impl Refusal {
@@ -112,10 +124,16 @@ impl Refusal {
         Refusal::WaitingFull,
         Refusal::TagAboveCeiling,
         Refusal::NotInFlight,
+        Refusal::TraceMark,
+        Refusal::TraceVersion,
+        Refusal::TraceHeaderCut,
         Refusal::EventKind,
+        Refusal::TraceEventCut,
         Refusal::ShortAnswers,
         Refusal::TooManyEvents,
         Refusal::Cost,
+        Refusal::NoWayBack,
+        Refusal::ShortRoom,
     ];
 
     /// The refusal of this number, if the calls give it.
@@ -145,10 +163,18 @@ impl Refusal {
             Refusal::WaitingFull => "waiting count equals capacity",
             Refusal::TagAboveCeiling => "a tag given, or a share tag moved, would pass the ceiling",
             Refusal::NotInFlight => "guest has no such id in flight",
+            Refusal::TraceMark => "trace mark",
+            Refusal::TraceVersion => "trace version",
+            Refusal::TraceHeaderCut => "trace header cut short",
             Refusal::EventKind => "event kind above 2, or a tick with non-zero guest or id",
+            Refusal::TraceEventCut => "last event cut short",
             Refusal::ShortAnswers => "answer buffer short",
             Refusal::TooManyEvents => "more than 256 events",
             Refusal::Cost => "a cost outside 1 to 64",
+            Refusal::NoWayBack => {
+                "a version 2 trace that has another rule, credit or cost cannot go back"
+            }
+            Refusal::ShortRoom => "room too short",
         }
     }
 }

@@ -68,6 +68,8 @@
 //! # }
 //! ```
 //!
+//! A trace of events goes from one version to the other by [`trace_up`] and [`trace_back`], which know no gate.
+//!
 //! A board that counts microseconds in 32 bits has a [`Clock`], which tells the time that a gate takes:
 //!
 //! ```
@@ -90,18 +92,20 @@
 //! # What is proved
 //!
 //! The library's calls are. This wrapper is not: it keeps the tables, passes them on as pointers and lengths, and gives
-//! the answers names. Its `unsafe` blocks are those six calls.
+//! the answers names. Its `unsafe` blocks are those eight calls.
 
 #![deny(missing_docs, unsafe_op_in_unsafe_fn)]
 
 mod answer;
 mod clock;
 mod gate;
+mod moves;
 pub mod raw;
 
 pub use answer::{Answer, Outcome, Phase, Refusal};
 pub use clock::Clock;
 pub use gate::{Answers, Gate, Rule};
+pub use moves::{trace_back, trace_up, NotMoved};
 pub use raw::{Event, Flight, Guest, Request, Settings};
 
 /// "Time and tags are whole nanoseconds, 0 to 4,611,686,018,427,387,903 (2^62 − 1, the ceiling)."
@@ -128,3 +132,6 @@ pub const MOST_CREDIT: u64 = 256;
 /// The most that a request costs. Document 02, K8: "An arrival now carries a cost from 1 to 64, worked out by the
 /// driver." A request of cost c counts as c requests of cost 1 against its guest's reservation, limit and shares.
 pub const MOST_COST: u64 = 64;
+
+/// By how many bytes a trace grows at the most when it goes up: the rule, and a credit for each of 64 guests.
+pub const MOST_GROWTH: usize = 129;

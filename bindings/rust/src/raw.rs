@@ -210,6 +210,19 @@ pub struct Answer {
     pub wake: u64,
 }
 
+/// What the move of a trace answers; [`crate::NotMoved`] has names for it.
+#[must_use = "a move may be refused"]
+#[repr(C)]
+#[derive(Clone, Copy, Debug, Default, PartialEq, Eq)]
+pub struct Moved {
+    /// The refusal number, or 0.
+    pub refusal: u64,
+    /// How many bytes were written at the beginning of the room; 0 in a refusal.
+    pub written: u64,
+    /// The number of the event that refused it, counted from 1, or 0.
+    pub event: u64,
+}
+
 /// A clock for a board that counts microseconds in 32 bits; [`crate::Clock`] keeps one.
 #[repr(C)]
 #[derive(Clone, Copy, Debug, Default, PartialEq, Eq)]
@@ -308,6 +321,22 @@ extern "C" {
         answers: *mut u64,
         answers_length: usize,
     ) -> u64;
+
+    /// A trace of version 1 as one of version 2. Trace and room are bytes, and do not overlap.
+    pub fn sgq_trace_up(
+        trace: *const u8,
+        trace_length: usize,
+        room: *mut u8,
+        room_length: usize,
+    ) -> Moved;
+
+    /// A trace of version 2 as one of version 1, likewise.
+    pub fn sgq_trace_back(
+        trace: *const u8,
+        trace_length: usize,
+        room: *mut u8,
+        room_length: usize,
+    ) -> Moved;
 
     /// A reading of a board's counter, which moves the clock on.
     pub fn sgq_clock_read(clock: *mut Clock, reading: u32) -> Told;

@@ -10,15 +10,15 @@ use Rattle.trace.specs.declared.Header.the-variants.{Opened}
 use Rattle.trace.proofs.HeaderLaws.{opened}
 
 -- how large the counts of a header that opens can be
-pub record Sizes (bs : List ℕ) (d n c : ℕ) : Type 0 where
+pub record Sizes (bs : List ℕ) (v d n c : ℕ) : Type 0 where
   pub depth : d ≤ mostDepth
   pub guests : n ≤ mostGuests
   pub capacity : c ≤ mostCapacity
-  pub whole : body n ≤ length bs
+  pub whole : body v n ≤ length bs
 
 -- its tests say so
-pub sizes : (bs : List ℕ) (d n c : ℕ) → headerOf bs ≡ Opened d n c → Sizes bs d n c
-sizes bs d n c h =
-    let o = opened bs d n c h in
+pub sizes : (bs : List ℕ) (v d n c r : ℕ) → headerOf bs ≡ Opened v d n c r → Sizes bs v d n c
+sizes bs v d n c r h =
+    let o = opened bs v d n c r h in
     let k = counted-means d n c .holds .0 (o .counts) in
     record { depth = k .depths .1; guests = k .guest-count .1; capacity = k .capacities .1; whole = o .whole }

@@ -7,7 +7,7 @@ use Rattle.rules.specs.Run.{fresh}
 use Rattle.rules.specs.declared.Gate.{Gate}
 use Rattle.table.specs.Columns.{guestsLong, settingsLong, waitingLong, flightLong}
 use Rattle.table.specs.View.{tableOf, Known}
-use Rattle.trace.specs.Header.{body, ruleOf, settingsIn}
+use Rattle.trace.specs.Header.{body, settingsIn}
 
 -- room for the largest settings: 64 guests, capacity 1,024, depth 64
 pub record Largest (ss gs ws fs : List ℕ) : Type 0 where
@@ -17,7 +17,7 @@ pub record Largest (ss gs ws fs : List ℕ) : Type 0 where
   pub flight : flightLong ≤ length fs
 
 -- of the first bytes bs only those of events are left, and the tables are known and show the fresh table
-pub record Begins (d n c : ℕ) (bs rest : List ℕ) (g : Gate) (gs ws fs : List ℕ) : Type 0 where
-  pub bytes : rest ≡ drop (body n) bs
-  pub table : tableOf g gs ws fs ≡ fresh d c (ruleOf bs) (settingsIn bs)
+pub record Begins (v d n c r : ℕ) (bs rest : List ℕ) (g : Gate) (gs ws fs : List ℕ) : Type 0 where
+  pub bytes : rest ≡ drop (body v n) bs
+  pub table : tableOf g gs ws fs ≡ fresh d c r (settingsIn bs)
   pub known : Known g gs ws fs

@@ -20,23 +20,23 @@ pub refused-last : (n : ℕ) (bs : List ℕ) (why : Refusal) → First n bs → 
 refused-last n bs why f e = record { tape = f .tape; held = f .held; lacks = refused-lacks n bs f why e }
 
 -- A GOOD HEADER
-module _ (n : ℕ) (bs : List ℕ) (d g c : ℕ) (f : First n bs) (e : headerOf bs ≡ Opened d g c) where
+module _ (n : ℕ) (bs : List ℕ) (v d g c r : ℕ) (f : First n bs) (e : headerOf bs ≡ Opened v d g c r) where
   -- the header line comes next
   pub title-next : Next printed n titleLine
   title-next =
       record {
         tape = f .tape;
         held = f .held;
-        right = stands-right (written titleLine (f .tape)) (begun d g c bs) (opened-stands n bs f d g c e);
+        right = stands-right (written titleLine (f .tape)) (begun v d g c r bs) (opened-stands n bs f v d g c r e);
       }
 
   -- and then the events
-  pub title-standing : (m : ℕ) (b ended : Bool) (p : Place) → Emits b titleLine n m → b ≡ true → ltb (length bs) 4096 ≡ ended → p ≡ begun d g c bs → Standing ended m p
+  pub title-standing : (m : ℕ) (b ended : Bool) (p : Place) → Emits b titleLine n m → b ≡ true → ltb (length bs) 4096 ≡ ended → p ≡ begun v d g c r bs → Standing ended m p
   title-standing m b ended p emits good mark here =
       subst (λ (x : Place). Standing ended m x) (sym here)
       (record {
         tape = written titleLine (f .tape);
         held = subst (λ (x : Bool). Emits x titleLine n m) good emits (f .tape) (f .held);
         mark = f .mark ∙ mark;
-        stands = opened-stands n bs f d g c e;
+        stands = opened-stands n bs f v d g c r e;
       })

@@ -16,13 +16,13 @@ use Rattle.port.specs.declared.Moved.the-variants.{Bytes, Nothing}
 use Rattle.stream.specs.Runs.{written}
 use Rattle.stream.specs.Outcome.{May, Right, Lacks, First}
 use Rattle.stream.proofs.Firsts.{full-or-all}
-use Rattle.trace.specs.Header.{headerOf}
+use Rattle.trace.specs.Header.{body, headerOf}
 use Rattle.trace.specs.Event.{eventsOf, whole}
 use Rattle.trace.specs.Printed.{Place, answersTo, linesFrom, lines, left, cut, finished, begun, printed}
 use Rattle.trace.specs.Reads.{joined, more, asRead, printedFirst, printedReads}
 use Rattle.trace.specs.declared.Header.{Header}
 use Rattle.trace.specs.declared.Header.the-variants.{Opened, Refused as Unopened}
-use Rattle.trace.proofs.FirstRead.{longest}
+use Rattle.trace.proofs.FirstRead.{longest, longest-fits}
 use Rattle.trace.proofs.Split.{reads-joined}
 use Rattle.trace.proofs.AnySplit.{any-split}
 use Rattle.decide.specs.Standing.{Stands}
@@ -31,7 +31,7 @@ use Rattle.decide.specs.Standing.{Stands}
 
 -- the first read is judged as a header where it holds any header, or is all there is
 first-read : (bs : List ℕ) (rs : List (List ℕ)) → (longest ≤ length bs) ⊎ (rs ≡ []) → printedFirst (headerOf bs) bs rs ≡ printed (bs ++ joined rs)
-unfolding printedReads joined
+unfolding printedReads joined body
 first-read bs [] w = any-split longest (omega arith) (bs ∷ [])
 first-read bs (r ∷ rs) (inl long) = (rw (le-leb longest (length bs) long)) ∙ any-split longest (omega arith) (bs ∷ r ∷ rs)
 first-read bs (r ∷ rs) (inr none) = absurd (omega (arith, ap length none))
@@ -44,7 +44,7 @@ first-more bs later (inr none) = ([], first-read bs [] (inr refl) ∙ ap (λ (l 
 
 -- the first bytes hold any header, or are all there is
 whole-or-all : (n : ℕ) (bs later : List ℕ) (f : First n bs) → May (f .tape) later → (longest ≤ length bs) ⊎ (later ≡ [])
-whole-or-all n bs later f may = ⊎-elim (λ full. inl (omega arith)) inr (full-or-all n bs later f may)
+whole-or-all n bs later f may = ⊎-elim (λ full. inl (longest-fits (length bs) (omega arith))) inr (full-or-all n bs later f may)
 
 -- a bad header: its line is all that is printed
 pub refused-lacks : (n : ℕ) (bs : List ℕ) (f : First n bs) (why : Refusal) → headerOf bs ≡ Unopened why → Lacks printed (refusalLine why) (f .tape)
@@ -56,14 +56,14 @@ refused-lacks n bs f why e later may =
     ∙ ap (λ (l : List ℕ). l ++ refusalLine why) (sym (f .wrote))
 
 -- a good one: the header line, and then the lines from where the events begin
-pub opened-stands : (n : ℕ) (bs : List ℕ) (f : First n bs) (d g c : ℕ) → headerOf bs ≡ Opened d g c → Stands (written titleLine (f .tape)) (begun d g c bs)
-opened-stands n bs f d g c e later may =
+pub opened-stands : (n : ℕ) (bs : List ℕ) (f : First n bs) (v d g c r : ℕ) → headerOf bs ≡ Opened v d g c r → Stands (written titleLine (f .tape)) (begun v d g c r bs)
+opened-stands n bs f v d g c r e later may =
     let x = first-more bs later (whole-or-all n bs later f may) in
     ap (λ (l : List ℕ). printed (l ++ later)) (f .read)
     ∙ sym (x .1)
     ∙ ap (λ (h : Header). printedFirst h bs (x .0)) e
-    ∙ ap (λ (l : List ℕ). titleLine ++ l) (reads-joined (x .0) (begun d g c bs) ∙ ap (λ (l : List ℕ). finished (more (begun d g c bs) l)) (x .2))
-    ∙ ap (λ (l : List ℕ). (l ++ titleLine) ++ finished (more (begun d g c bs) later)) (sym (f .wrote))
+    ∙ ap (λ (l : List ℕ). titleLine ++ l) (reads-joined (x .0) (begun v d g c r bs) ∙ ap (λ (l : List ℕ). finished (more (begun v d g c r bs) l)) (x .2))
+    ∙ ap (λ (l : List ℕ). (l ++ titleLine) ++ finished (more (begun v d g c r bs) later)) (sym (f .wrote))
 
 -- A PLACE
 
@@ -75,7 +75,7 @@ finished-few : (p : Place) → length (p .bytes) < 14 → finished p ≡ cut (p 
 unfolding finished lines left eventsOf answersTo linesFrom
 finished-few p few =
     let z : whole (p .bytes) ≡ 0 = omega arith in
-    ap (λ (k : ℕ). linesFrom (p .number) (answersTo (p .table) (eventsOf k (p .bytes))) ++ cut (p .number + k) (drop (k * 14) (p .bytes))) z
+    ap (λ (k : ℕ). linesFrom (p .number) (answersTo (p .table) (eventsOf (p .version) k (p .bytes))) ++ cut (p .number + k) (drop (k * 14) (p .bytes))) z
     ∙ ap (λ (k : ℕ). cut k (p .bytes)) (add-zero (p .number))
 
 module _ (t : Tape) (p : Place) (s : Stands t p) where
@@ -99,7 +99,7 @@ module _ (t : Tape) (p : Place) (s : Stands t p) where
   stands-more o k bs later may =
       ap printed (append-assoc (t .read) (take k bs) later)
       ∙ s (take k bs ++ later) (λ e. absurd (differ (sym o ∙ e)))
-      ∙ ap (λ (l : List ℕ). t .wrote ++ finished (record { bytes = l; table = p .table; number = p .number })) (sym (append-assoc (p .bytes) (take k bs) later))
+      ∙ ap (λ (l : List ℕ). t .wrote ++ finished (record { version = p .version; bytes = l; table = p .table; number = p .number })) (sym (append-assoc (p .bytes) (take k bs) later))
 
   -- or there are no more
   pub stands-none : t .ended ≡ false → (bs : List ℕ) → Stands (brought Nothing bs t) p
@@ -110,5 +110,5 @@ module _ (t : Tape) (p : Place) (s : Stands t p) where
   stands-last o few later may =
       s later may
       ∙ ap (λ (l : List ℕ). t .wrote ++ finished (more p l)) (may o)
-      ∙ ap (λ (l : List ℕ). t .wrote ++ finished (record { bytes = l; table = p .table; number = p .number })) (append-nil (p .bytes))
+      ∙ ap (λ (l : List ℕ). t .wrote ++ finished (record { version = p .version; bytes = l; table = p .table; number = p .number })) (append-nil (p .bytes))
       ∙ ap (λ (l : List ℕ). t .wrote ++ l) (finished-few p few)

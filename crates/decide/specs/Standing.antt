@@ -38,7 +38,7 @@ pub record Went (written : Bool) (p q : Place) (n n′ : ℕ) : Type 0 where
 
 -- no whole event is left: of the event behind number there are the bytes bs, and more may come
 abbrev pub Rests : (n number : ℕ) → List ℕ → Type 0
-Rests n number bs = (u : Table) × Standing false n (record { bytes = bs; table = u; number = number })
+Rests n number bs = (v : ℕ) × (u : Table) × Standing false n (record { version = v; bytes = bs; table = u; number = number })
 
 -- what follows a turn: the first bytes of bs were read, or the program ends
 abbrev pub Follows : After → List ℕ → (n n′ : ℕ) → Type 0

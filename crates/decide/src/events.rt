@@ -35,6 +35,7 @@ pub enum After {
 
 // Judges all whole events of the first `have` bytes and writes their lines; what is left of the bytes moves to the front.
 fn turn(
+    version: u64,
     buffer: &mut [u8],
     have: usize,
     number: u64,
@@ -47,12 +48,22 @@ fn turn(
 ) -> Stand
     requires { ⌜ (have ≤ length (now buffer)) × (number + have < 2 ^ 64) × (5 * have ≤ length (now out)) ⌝ }
     requires { ⌜ Known gate (now guests) (now waiting) (now flight) ⌝ }
-    requires { ⌜ Next printed (now log) (lines (placeOf (take have (now buffer)) number gate (now guests) (now waiting) (now flight))) ⌝ }
-    ensures { λ r. ⌜ Went (r .written) (placeOf (take have (now (buffer .entry))) number gate (now (guests .entry)) (now (waiting .entry)) (now (flight .entry))) (placeOf (take (r .rest) (now (buffer .exit))) (r .number) (r .gate) (now (guests .exit)) (now (waiting .exit)) (now (flight .exit))) (now (log .entry)) (now (log .exit)) ⌝ }
+    requires { ⌜ Next printed (now log) (lines (placeOf version (take have (now buffer)) number gate (now guests) (now waiting) (now flight))) ⌝ }
+    ensures { λ r. ⌜ Went (r .written) (placeOf version (take have (now (buffer .entry))) number gate (now (guests .entry)) (now (waiting .entry)) (now (flight .entry))) (placeOf version (take (r .rest) (now (buffer .exit))) (r .number) (r .gate) (now (guests .exit)) (now (waiting .exit)) (now (flight .exit))) (now (log .entry)) (now (log .exit)) ⌝ }
     ensures { λ r. ⌜ Known (r .gate) (now (guests .exit)) (now (waiting .exit)) (now (flight .exit)) ⌝ }
     ensures { λ r. ⌜ (r .rest < 14) × (r .rest ≤ length (now (buffer .exit))) ⌝ }
 {
-    let taken = take_in(buffer, have, number, gate, guests, waiting, flight, out);
+    let taken = take_in(
+        version,
+        buffer,
+        have,
+        number,
+        gate,
+        guests,
+        waiting,
+        flight,
+        out,
+    );
     let after = taken.gate;
     let bytes = taken.bytes;
     let written = emit(out, bytes, log);
@@ -66,6 +77,7 @@ fn turn(
 
 // Judges the events of an input that has ended.
 pub fn close(
+    version: u64,
     buffer: &mut [u8],
     have: usize,
     opened: Gate,
@@ -77,10 +89,21 @@ pub fn close(
 ) -> End
     requires { ⌜ (length (now buffer) ≡ 4096) × (have ≤ 4096) × (length (now out) ≡ 20480) ⌝ }
     requires { ⌜ Known opened (now guests) (now waiting) (now flight) ⌝ }
-    requires { ⌜ Standing true (now log) (placeOf (take have (now buffer)) 0 opened (now guests) (now waiting) (now flight)) ⌝ }
+    requires { ⌜ Standing true (now log) (placeOf version (take have (now buffer)) 0 opened (now guests) (now waiting) (now flight)) ⌝ }
     ensures { λ r. ⌜ Decided r (now (log .exit)) ⌝ }
 {
-    let stand = turn(buffer, have, 0, opened, guests, waiting, flight, out, log);
+    let stand = turn(
+        version,
+        buffer,
+        have,
+        0,
+        opened,
+        guests,
+        waiting,
+        flight,
+        out,
+        log,
+    );
     let rest = stand.rest;
     if stand.written {
         finish(&buffer[..rest], stand.number, out, log)
@@ -91,6 +114,7 @@ pub fn close(
 
 // Judges the events of an input that may go on, until no more bytes come.
 pub fn pump(
+    version: u64,
     buffer: &mut [u8],
     first: usize,
     opened: Gate,
@@ -102,7 +126,7 @@ pub fn pump(
 ) -> End
     requires { ⌜ (length (now buffer) ≡ 4096) × (first ≤ 4096) × (length (now out) ≡ 20480) ⌝ }
     requires { ⌜ Known opened (now guests) (now waiting) (now flight) ⌝ }
-    requires { ⌜ Standing false (now log) (placeOf (take first (now buffer)) 0 opened (now guests) (now waiting) (now flight)) ⌝ }
+    requires { ⌜ Standing false (now log) (placeOf version (take first (now buffer)) 0 opened (now guests) (now waiting) (now flight)) ⌝ }
     ensures { λ r. ⌜ Decided r (now (log .exit)) ⌝ }
 {
     let mut gate = opened;
@@ -110,7 +134,18 @@ pub fn pump(
     let mut done: u64 = 0;
     let mut turns = TURNS;
     while turns > 0 {
-        let stand = turn(buffer, have, done, gate, guests, waiting, flight, out, log);
+        let stand = turn(
+            version,
+            buffer,
+            have,
+            done,
+            gate,
+            guests,
+            waiting,
+            flight,
+            out,
+            log,
+        );
         if !stand.written {
             return End::Unwritten;
         }

@@ -97,15 +97,19 @@ fn judge(
     match header {
         Header::Refused(refusal) => refuse(out, refusal, log),
         Header::Opened {
+            version,
             depth,
             guests: known,
             capacity,
+            rule,
         } => follow(
             buffer,
             have,
+            version,
             depth,
             known,
             capacity,
+            rule,
             settings,
             guests,
             waiting,
@@ -130,9 +134,11 @@ fn refuse(out: &mut [u8], refusal: Refusal, log: &mut u64) -> End
 fn follow(
     buffer: &mut [u8],
     have: usize,
+    version: u64,
     depth: u64,
     known: u64,
     capacity: u64,
+    rule: u64,
     settings: &mut [u64],
     guests: &mut [u64],
     waiting: &mut [u64],
@@ -141,7 +147,7 @@ fn follow(
     log: &mut u64,
 ) -> End
     requires { ⌜ (length (now buffer) ≡ 4096) × (have ≤ 4096) × (length (now out) ≡ 20480) ⌝ }
-    requires { ⌜ headerOf (take have (now buffer)) ≡ Opened depth known capacity ⌝ }
+    requires { ⌜ headerOf (take have (now buffer)) ≡ Opened version depth known capacity rule ⌝ }
     requires { ⌜ Largest (now settings) (now guests) (now waiting) (now flight) ⌝ }
     requires { ⌜ First (now log) (take have (now buffer)) ⌝ }
     ensures { λ r. ⌜ Decided r (now (log .exit)) ⌝ }
@@ -149,9 +155,11 @@ fn follow(
     let begun = begin::begin(
         buffer,
         have,
+        version,
         depth,
         known,
         capacity,
+        rule,
         settings,
         guests,
         waiting,
@@ -163,7 +171,27 @@ fn follow(
         return End::Unwritten;
     }
     if have < 4096 {
-        return events::close(buffer, rest, gate, guests, waiting, flight, out, log);
+        return events::close(
+            version,
+            buffer,
+            rest,
+            gate,
+            guests,
+            waiting,
+            flight,
+            out,
+            log,
+        );
     }
-    events::pump(buffer, rest, gate, guests, waiting, flight, out, log)
+    events::pump(
+        version,
+        buffer,
+        rest,
+        gate,
+        guests,
+        waiting,
+        flight,
+        out,
+        log,
+    )
 }

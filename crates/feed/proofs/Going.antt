@@ -23,9 +23,9 @@ use Rattle.trace.proofs.Runs.{run, table-run}
 use Rattle.feed.specs.Promise.{Became, Judged, FedBy, Turned}
 
 -- the loop of `feed` after i events
-pub record Going (g₀ : Gate) (gs₀ ws₀ fs₀ bs : List ℕ) (number : ℕ) (out₀ : List ℕ) (i : ℕ) (g : Gate) (gs ws fs out : List ℕ) (at : ℕ) : Type 0 where
-  pub became : Became (tableAfter (tableOf g₀ gs₀ ws₀ fs₀) (eventsOf i bs)) gs₀ ws₀ fs₀ g gs ws fs
-  pub lines : Put 0 (linesFrom number (answersTo (tableOf g₀ gs₀ ws₀ fs₀) (eventsOf i bs))) out₀ at out
+pub record Going (v : ℕ) (g₀ : Gate) (gs₀ ws₀ fs₀ bs : List ℕ) (number : ℕ) (out₀ : List ℕ) (i : ℕ) (g : Gate) (gs ws fs out : List ℕ) (at : ℕ) : Type 0 where
+  pub became : Became (tableAfter (tableOf g₀ gs₀ ws₀ fs₀) (eventsOf v i bs)) gs₀ ws₀ fs₀ g gs ws fs
+  pub lines : Put 0 (linesFrom number (answersTo (tableOf g₀ gs₀ ws₀ fs₀) (eventsOf v i bs))) out₀ at out
 
 -- THE TABLE AFTER A RUN of events as they were read
 
@@ -61,22 +61,22 @@ module _ (g₀ : Gate) (gs₀ ws₀ fs₀ : List ℕ) (k : Known g₀ gs₀ ws�
     run-shown g gs ws fs p = ap (λ (x : Lent). tableOf (x .0) (x .1) (x .2) (x .3)) p ∙ written-shown gs₀ ws₀ fs₀ u room firm
 
     -- a table written over them is written over the first ones
-    run-again : (v : Table) → SameSettings v u → written (l .1) (l .2) (l .3) v ≡ written gs₀ ws₀ fs₀ v
+    run-again : (w : Table) → SameSettings w u → written (l .1) (l .2) (l .3) w ≡ written gs₀ ws₀ fs₀ w
     run-again = written-again gs₀ ws₀ fs₀ u room firm
 
-  module _ (bs : List ℕ) (number : ℕ) (out₀ : List ℕ) where
-    pub going-none : Going g₀ gs₀ ws₀ fs₀ bs number out₀ 0 g₀ gs₀ ws₀ fs₀ out₀ 0
+  module _ (v : ℕ) (bs : List ℕ) (number : ℕ) (out₀ : List ℕ) where
+    pub going-none : Going v g₀ gs₀ ws₀ fs₀ bs number out₀ 0 g₀ gs₀ ws₀ fs₀ out₀ 0
     unfolding eventsOf tableAfter answersTo linesFrom
     going-none = record { became = record { tables = known-written g₀ gs₀ ws₀ fs₀ k; known = k }; lines = record { next = refl; bytes = refl } }
 
     -- one event more
     pub going-next : (i : ℕ) (g : Gate) (gs ws fs : List ℕ) (out : List ℕ) (at : ℕ) (g′ : Gate) (gs′ ws′ fs′ : List ℕ) (next : ℕ) (out′ : List ℕ)
-        → Going g₀ gs₀ ws₀ fs₀ bs number out₀ i g gs ws fs out at
-        → Judged (eventOf (drop (i * 14) bs)) (number + i + 1) g gs ws fs g′ gs′ ws′ fs′ at out next out′
-        → Going g₀ gs₀ ws₀ fs₀ bs number out₀ (i + 1) g′ gs′ ws′ fs′ out′ next
+        → Going v g₀ gs₀ ws₀ fs₀ bs number out₀ i g gs ws fs out at
+        → Judged (eventOf v (drop (i * 14) bs)) (number + i + 1) g gs ws fs g′ gs′ ws′ fs′ at out next out′
+        → Going v g₀ gs₀ ws₀ fs₀ bs number out₀ (i + 1) g′ gs′ ws′ fs′ out′ next
     going-next i g gs ws fs out at g′ gs′ ws′ fs′ next out′ w j =
-        let e = eventOf (drop (i * 14) bs) in
-        let es = eventsOf i bs in
+        let e = eventOf v (drop (i * 14) bs) in
+        let es = eventsOf v i bs in
         let p = w .became .tables in
         let s : tableOf g gs ws fs ≡ tableAfter t₀ es = run-shown es g gs ws fs p in
         record {
@@ -85,32 +85,32 @@ module _ (g₀ : Gate) (gs₀ ws₀ fs₀ : List ℕ) (k : Known g₀ gs₀ ws�
                 ∙ ap (λ (x : Table). written gs ws fs (answered x e .table)) s
                 ∙ ap (λ (x : Lent). written (x .1) (x .2) (x .3) (answered (tableAfter t₀ es) e .table)) p
                 ∙ run-again es (answered (tableAfter t₀ es) e .table) (one-same (tableAfter t₀ es) e)
-                ∙ ap (written gs₀ ws₀ fs₀) (sym (table-more t₀ i bs));
+                ∙ ap (written gs₀ ws₀ fs₀) (sym (table-more v t₀ i bs));
             known = j .became .known;
           };
           lines = put-as
-              (lines-more number t₀ i bs
+              (lines-more v number t₀ i bs
               ∙ ap (λ (x : Table). linesFrom number (answersTo t₀ es) ++ lineOf (number + i + 1) (answered x e .answer)) (sym s))
               (puts (w .lines) (j .line));
         }
 
     -- all whole events were judged, and what is left of the bytes stands apart
-    pub turned : (g : Gate) (gs ws fs out : List ℕ) (events bytes : ℕ) → FedBy bs number g₀ gs₀ ws₀ fs₀ g gs ws fs out₀ out events bytes
+    pub turned : (g : Gate) (gs ws fs out : List ℕ) (events bytes : ℕ) → FedBy v bs number g₀ gs₀ ws₀ fs₀ g gs ws fs out₀ out events bytes
         → events ≡ whole bs → (rest : List ℕ) → rest ≡ drop (whole bs * 14) bs → (number′ : ℕ) → number′ ≡ number + whole bs
-        → Turned bs number g₀ gs₀ ws₀ fs₀ rest number′ g gs ws fs out₀ bytes out
+        → Turned v bs number g₀ gs₀ ws₀ fs₀ rest number′ g gs ws fs out₀ bytes out
     unfolding lines left
     turned g gs ws fs out events bytes f n rest p number′ q =
-        let b = subst (λ (k : ℕ). Became (tableAfter t₀ (eventsOf k bs)) gs₀ ws₀ fs₀ g gs ws fs) n (f .became) in
-        let s = run-shown (eventsOf (whole bs) bs) g gs ws fs (b .tables) in
+        let b = subst (λ (k : ℕ). Became (tableAfter t₀ (eventsOf v k bs)) gs₀ ws₀ fs₀ g gs ws fs) n (f .became) in
+        let s = run-shown (eventsOf v (whole bs) bs) g gs ws fs (b .tables) in
         record {
-          place = λ i. record { bytes = p i; table = s i; number = q i };
+          place = λ i. record { version = v; bytes = p i; table = s i; number = q i };
           became = b;
-          lines = subst (λ (k : ℕ). Put 0 (linesFrom number (answersTo t₀ (eventsOf k bs))) out₀ bytes out) n (f .lines);
+          lines = subst (λ (k : ℕ). Put 0 (linesFrom number (answersTo t₀ (eventsOf v k bs))) out₀ bytes out) n (f .lines);
           room = f .room;
         }
 
 -- how far a turn counts
-pub turned-number : (bs : List ℕ) (number : ℕ) (g : Gate) (gs ws fs rest : List ℕ) (number′ : ℕ) (g′ : Gate) (gs′ ws′ fs′ out : List ℕ) (bytes : ℕ) (out′ : List ℕ)
-    → Turned bs number g gs ws fs rest number′ g′ gs′ ws′ fs′ out bytes out′ → number′ ≡ number + whole bs
+pub turned-number : (v : ℕ) (bs : List ℕ) (number : ℕ) (g : Gate) (gs ws fs rest : List ℕ) (number′ : ℕ) (g′ : Gate) (gs′ ws′ fs′ out : List ℕ) (bytes : ℕ) (out′ : List ℕ)
+    → Turned v bs number g gs ws fs rest number′ g′ gs′ ws′ fs′ out bytes out′ → number′ ≡ number + whole bs
 unfolding left
-turned-number bs number g gs ws fs rest number′ g′ gs′ ws′ fs′ out bytes out′ t = ap (λ (p : Place). p .number) (t .place)
+turned-number v bs number g gs ws fs rest number′ g′ gs′ ws′ fs′ out bytes out′ t = ap (λ (p : Place). p .number) (t .place)

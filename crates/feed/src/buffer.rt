@@ -35,8 +35,9 @@ pub struct Turn {
     pub bytes: usize,
 }
 
-// Judges all whole events of the first `have` bytes; what is left of the bytes moves to the front.
+// Judges all whole events of the first `have` bytes of a trace of this version; what is left of the bytes moves to the front.
 pub fn take_in(
+    version: u64,
     buffer: &mut [u8],
     have: usize,
     number: u64,
@@ -48,10 +49,19 @@ pub fn take_in(
 ) -> Turn
     requires { ⌜ (have ≤ length (now buffer)) × (number + have < 2 ^ 64) × (5 * have ≤ length (now out)) ⌝ }
     requires { ⌜ Known gate (now guests) (now waiting) (now flight) ⌝ }
-    ensures { λ r. ⌜ Turned (take have (now (buffer .entry))) number gate (now (guests .entry)) (now (waiting .entry)) (now (flight .entry)) (take (r .rest) (now (buffer .exit))) (r .number) (r .gate) (now (guests .exit)) (now (waiting .exit)) (now (flight .exit)) (now (out .entry)) (r .bytes) (now (out .exit)) ⌝ }
+    ensures { λ r. ⌜ Turned version (take have (now (buffer .entry))) number gate (now (guests .entry)) (now (waiting .entry)) (now (flight .entry)) (take (r .rest) (now (buffer .exit))) (r .number) (r .gate) (now (guests .exit)) (now (waiting .exit)) (now (flight .exit)) (now (out .entry)) (r .bytes) (now (out .exit)) ⌝ }
     ensures { λ r. ⌜ (r .rest < 14) × (r .rest ≤ length (now (buffer .exit))) ⌝ }
 {
-    let fed = feed(&buffer[..have], number, gate, guests, waiting, flight, out);
+    let fed = feed(
+        version,
+        &buffer[..have],
+        number,
+        gate,
+        guests,
+        waiting,
+        flight,
+        out,
+    );
     let after = fed.gate;
     let events = fed.events;
     let bytes = fed.bytes;

@@ -42,6 +42,7 @@ pub struct After {
 
 // The event whose bytes begin at `from`: it is judged, and its line written at `at`.
 fn one(
+    version: u64,
     bytes: &[u8],
     from: usize,
     number: u64,
@@ -55,9 +56,9 @@ fn one(
     requires { ⌜ from + 14 ≤ length (now bytes) ⌝ }
     requires { ⌜ Known gate (now guests) (now waiting) (now flight) ⌝ }
     requires { ⌜ at + LINE ≤ length (now out) ⌝ }
-    ensures { λ r. ⌜ Judged (eventOf (drop from (now (bytes .entry)))) number gate (now (guests .entry)) (now (waiting .entry)) (now (flight .entry)) (r .gate) (now (guests .exit)) (now (waiting .exit)) (now (flight .exit)) at (now (out .entry)) (r .at) (now (out .exit)) ⌝ }
+    ensures { λ r. ⌜ Judged (eventOf version (drop from (now (bytes .entry)))) number gate (now (guests .entry)) (now (waiting .entry)) (now (flight .entry)) (r .gate) (now (guests .exit)) (now (waiting .exit)) (now (flight .exit)) at (now (out .entry)) (r .at) (now (out .exit)) ⌝ }
 {
-    let event = trace::events::read_event(&bytes[from..from + 14]);
+    let event = trace::events::read_event(version, &bytes[from..from + 14]);
     let judged = judge(gate, guests, waiting, flight, event);
     let after = judged.gate;
     let answer = judged.answer;
@@ -82,8 +83,9 @@ pub struct Fed {
     pub bytes: usize,
 }
 
-// Judges as many whole events of the bytes as `out` has room for, the first of which has the number after `number`.
+// Judges as many whole events of the bytes of a trace of this version as `out` has room for, the first of which has the number after `number`.
 pub fn feed(
+    version: u64,
     bytes: &[u8],
     number: u64,
     first: Gate,
@@ -94,7 +96,7 @@ pub fn feed(
 ) -> Fed
     requires { ⌜ Known first (now guests) (now waiting) (now flight) ⌝ }
     requires { ⌜ number + length (now bytes) < 2 ^ 64 ⌝ }
-    ensures { λ r. ⌜ FedBy (now (bytes .entry)) number first (now (guests .entry)) (now (waiting .entry)) (now (flight .entry)) (r .gate) (now (guests .exit)) (now (waiting .exit)) (now (flight .exit)) (now (out .entry)) (now (out .exit)) (r .events) (r .bytes) ⌝ }
+    ensures { λ r. ⌜ FedBy version (now (bytes .entry)) number first (now (guests .entry)) (now (waiting .entry)) (now (flight .entry)) (r .gate) (now (guests .exit)) (now (waiting .exit)) (now (flight .exit)) (now (out .entry)) (now (out .exit)) (r .events) (r .bytes) ⌝ }
 {
     let n = least(bytes.len() / 14, out.len() / 65);
     let mut gate = first;
@@ -102,6 +104,7 @@ pub fn feed(
     let mut at: usize = 0;
     while i < n {
         let after = one(
+            version,
             bytes,
             i * 14,
             number + (i as u64) + 1,

@@ -3,3 +3,4 @@ pub mod Returns
 pub mod Runs
 pub mod Wakes
 pub mod Batches
+pub mod MovedOnce

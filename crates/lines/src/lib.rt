@@ -23,7 +23,7 @@ fn letter(phase: Phase) -> u8
 }
 
 // Puts the bytes of src.
-fn put_all(out: &mut [u8], at: usize, src: &[u8]) -> usize
+pub fn put_all(out: &mut [u8], at: usize, src: &[u8]) -> usize
     requires { ⌜ at + length (now src) ≤ length (now out) ⌝ }
     ensures { λ r. ⌜ Put at (now (src .entry)) (now (out .entry)) r (now (out .exit)) ⌝ }
 {

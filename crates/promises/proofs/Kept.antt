@@ -28,11 +28,15 @@ use Rattle.records.specs.Promise.{records}
 use Rattle.records.proofs.Lawful.{records-lawful}
 use Rattle.host.proofs.Once.{four-once, fifth-once, open-once}
 use Rattle.host.proofs.Runs.{through-exactly, through-open-exactly, through-opened, through-run, through-in-order, through-demand-3, through-worth}
+use Rattle.host.proofs.MovedOnce.{trace-once}
 use Rattle.host.proofs.Wakes.{through-wakes, through-refused-wakes, through-opening-wakes, through-refused-opening-wakes}
 use Rattle.trace.proofs.HeaderExactly.{header-exactly}
 use Rattle.trace.proofs.LineExactly.{line-exactly, line-numbers, table-sound}
 use Rattle.trace.proofs.NoCredit.{no-credit}
-use Rattle.trace.proofs.RuleOne.{rule-1}
+use Rattle.moved.proofs.Exactly.{move-exactly, bad-event, dear-event}
+use Rattle.moved.proofs.Theorems.{accepted-leaves, up-back, back-up, up-printed, back-printed, once, untouched}
+use Rattle.moved.proofs.Upward.{well-formed-goes-up}
+use Rattle.trace.proofs.RuleOne.{rule-kept, rule-1}
 use Rattle.trace.proofs.Order.{trace-in-order}
 use Rattle.trace.proofs.Demand3.{trace-demand-3-places}
 use Rattle.trace.proofs.Worth.{trace-worth}
@@ -51,7 +55,7 @@ use Rattle.clock.proofs.Exactly.{read-exactly, refusal-keeps as reading-keeps, 
 use Rattle.clock.proofs.Once.{read-once}
 use Rattle.clock.proofs.Rising.{never-falls}
 use Rattle.clock.proofs.TrueTime.{true-time, first-past, unseen}
-use Rattle.promises.proofs.Promises.{OnTheRules, OverLent, OfABatch, ThroughC, OfATrace, OfTheSheet, OfTheClock, Promises}
+use Rattle.promises.proofs.Promises.{OnTheRules, OverLent, OfABatch, ThroughC, OfATrace, OfTheMoves, OfTheSheet, OfTheClock, Promises}
 
 rules-kept : OnTheRules
 rules-kept =
@@ -140,11 +144,40 @@ trace-kept =
       line-exactly = line-exactly;
       line-numbers = line-numbers;
       table-sound = table-sound;
+      rule-kept = rule-kept;
       rule-1 = rule-1;
       no-credit = no-credit;
       in-order = trace-in-order;
       demand-3 = trace-demand-3-places;
       worth = trace-worth;
+    }
+
+move-up-kept : OfTheMoves 1 2
+move-up-kept =
+    record {
+      moved-exactly = move-exactly 1 2;
+      bad-named = bad-event;
+      dear-named = dear-event;
+      moved-leaves = accepted-leaves 1 2;
+      there-and-back = up-back;
+      printed-same = up-printed;
+      moved-once = once 1 2;
+      moved-once-as-c = trace-once 1 2;
+      moved-untouched = untouched 1 2;
+    }
+
+move-back-kept : OfTheMoves 2 1
+move-back-kept =
+    record {
+      moved-exactly = move-exactly 2 1;
+      bad-named = bad-event;
+      dear-named = dear-event;
+      moved-leaves = accepted-leaves 2 1;
+      there-and-back = back-up;
+      printed-same = back-printed;
+      moved-once = once 2 1;
+      moved-once-as-c = trace-once 2 1;
+      moved-untouched = untouched 2 1;
     }
 
 sheet-kept : OfTheSheet
@@ -184,6 +217,9 @@ promises =
       of-a-batch = batch-kept numbers numbers-lawful;
       of-a-batch-of-records = batch-kept records records-lawful;
       of-a-trace = trace-kept;
+      of-the-move-up = move-up-kept;
+      of-the-move-back = move-back-kept;
+      goes-up = well-formed-goes-up;
       of-the-sheet = sheet-kept;
       of-the-clock = clock-kept;
     }

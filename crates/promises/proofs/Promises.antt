@@ -6,6 +6,7 @@ use mathlib.Core.Bool.{Bool, true, false, not}
 use mathlib.Core.List.{List, [], _∷_, _++_, map}
 use mathlib.Core.Logic.{_↔_, _⊎_}
 use lib.ListN.{length, take, drop}
+use lib.Seq.{sets}
 use Rattle.lists.specs.Words.{if_then_else_, all, filter}
 use Rattle.rules.specs.Numbers.{ceiling, tagAt}
 use Rattle.rules.specs.Tables.{Request, Table, owner, idle}
@@ -21,7 +22,7 @@ use Rattle.rules.specs.Refused.{RefusedExactly, NoneHolds, callCases, openCases
 use Rattle.rules.specs.Order.{waits, left}
 use Rattle.rules.specs.Run.{fresh, step, after, answers}
 use Rattle.rules.specs.Turn.{findsRoom, atFree}
-use Rattle.rules.specs.TurnAt.{DueAt, InTurnAt, TurnKept}
+use Rattle.rules.specs.TurnAt.{TurnKept}
 use Rattle.rules.specs.Waking.{told}
 use Rattle.rules.specs.Woken.{Wakes}
 use Rattle.rules.specs.declared.Settings.{Settings}
@@ -55,6 +56,8 @@ use Rattle.gate.proofs.Lending.{numbers-lawful}
 use Rattle.gate.specs.Replies.{fourOf, never, fifthOf}
 use Rattle.host.specs.Host.{gateIn, hosted}
 use Rattle.host.specs.Calls.{Lent, inside, shownBy, through, kept, heldBy, fours, Refuses, Takes, freeFours}
+use Rattle.host.specs.Traces.{threeOf}
+use Rattle.host.specs.declared.traces.Carried.{Carried}
 use Rattle.host.proofs.Runs.{ThroughRuns}
 use Rattle.host.proofs.Once.{Timely, Back}
 use Rattle.clock.specs.declared.Clock.{Clock}
@@ -63,10 +66,17 @@ use Rattle.clock.specs.Reading.{wrap, tells, movedTo, doing}
 use Rattle.clock.specs.Runs.{Started, clockCases, Refuses as RefusesReading, Takes as TakesReading, run as readings, after as clockAfter, times, begins, Rising, shows as shownAt, Near, since, Within, trueAt}
 use Rattle.lines.specs.Line.{titleLine, refusedWith}
 use Rattle.trace.specs.Printed.{linesFrom, printed}
+use Rattle.trace.specs.Header.{versionOf, ruleOf}
 use Rattle.trace.specs.Event.{whole}
 use Rattle.trace.specs.Answers.{eventBytes, bytesAt, tableAt, readsOf, answersOf, answerAt, acceptedIds, freeFrom, answersAfter}
-use Rattle.trace.specs.Cases.{headerCases, lineCases}
+use Rattle.trace.specs.Cases.{headerCases, Faulty, lineCases}
 use Rattle.trace.proofs.Runs.{run}
+use Rattle.moved.specs.Result.{movedTo as movedBytes}
+use Rattle.moved.specs.Moves.{badIn, dearIn, moveTests, movedShown, answerTo, moves}
+use Rattle.moved.specs.Cases.{Dear, moveCases, FirstEvent, WellFormed}
+use Rattle.moved.specs.declared.Moved.{Moved}
+use Rattle.moved.proofs.Exactly.{refusalIn}
+use Rattle.moved.proofs.Theorems.{writtenIn}
 use Rattle.batch.specs.Rows.{countOf, answerWide}
 use Rattle.batch.specs.Promise.{BatchIn, outcomes, batchTests, batchedIn, seenBatchIn}
 use Rattle.batch.specs.Batches.{Batch, batchCases, Refuses as RefusesAll, Takes as TakesAll, goods, good, allDone, heldBatches, freeAnswers}
@@ -202,16 +212,36 @@ pub record ThroughC : Type 0 where
 pub record OfATrace : Type 0 where
   pub header-exactly : (bs : List ℕ) → RefusedExactly (headerCases bs) (λ n. printed bs ≡ refusedWith n) (printed bs ≡ titleLine ++ linesFrom 0 (answersOf bs))
   pub line-exactly : (bs : List ℕ) → NoneHolds (headerCases bs) → (k : ℕ) → k * 14 < length (eventBytes bs)
-      → RefusedExactly (lineCases (tableAt bs k) (bytesAt bs k)) (λ n. shown (answerAt bs k) ≡ X n) (taken (answerAt bs k) ≡ true)
+      → RefusedExactly (lineCases (versionOf bs) (tableAt bs k) (bytesAt bs k)) (λ n. shown (answerAt bs k) ≡ X n) (taken (answerAt bs k) ≡ true)
   pub line-numbers : (bs : List ℕ) → NoneHolds (headerCases bs) → (k : ℕ) → k * 14 < length (eventBytes bs) → (n : ℕ) → shown (answerAt bs k) ≡ X n → 3 < n
   pub table-sound : (bs : List ℕ) → NoneHolds (headerCases bs) → (k : ℕ) → sound (tableAt bs k) ≡ true
-  -- a trace of version 1 says no rule for limits, so it is rule 1, and no credit, so no guest has one
-  pub rule-1 : (bs : List ℕ) (k : ℕ) → (tableAt bs k) .setup .rule ≡ 1
-  pub no-credit : (bs : List ℕ) (k g : ℕ) → (owner ((tableAt bs k) .guests) g) .settings .credit ≡ 0
-  pub in-order : (g : ℕ) (bs : List ℕ) → acceptedIds g (readsOf (eventBytes bs)) (answersOf bs) ≡ left g (answersOf bs) ++ waits g (tableAt bs (whole (eventBytes bs)))
-  pub demand-3 : (bs : List ℕ) → NoneHolds (headerCases bs) → (k : ℕ) → k ≤ whole (eventBytes bs) → (i : ℕ) → DueAt (tableAt bs k) i → InTurnAt (tableAt bs k) i (freeFrom bs k)
+  -- every event finds the rule that the header says; a trace of version 1 says none, so it is rule 1, and no credit, so no guest has one
+  pub rule-kept : (bs : List ℕ) (k : ℕ) → (tableAt bs k) .setup .rule ≡ ruleOf bs
+  pub rule-1 : (bs : List ℕ) → versionOf bs ≡ 1 → (k : ℕ) → (tableAt bs k) .setup .rule ≡ 1
+  pub no-credit : (bs : List ℕ) → versionOf bs ≡ 1 → (k g : ℕ) → (owner ((tableAt bs k) .guests) g) .settings .credit ≡ 0
+  pub in-order : (g : ℕ) (bs : List ℕ) → acceptedIds g (readsOf (versionOf bs) (eventBytes bs)) (answersOf bs) ≡ left g (answersOf bs) ++ waits g (tableAt bs (whole (eventBytes bs)))
+  pub demand-3 : (bs : List ℕ) → NoneHolds (headerCases bs) → (k : ℕ) → k ≤ whole (eventBytes bs) → (i : ℕ) → TurnKept (tableAt bs k) i (freeFrom bs k)
   -- document 02, K11: what a limit is worth, from any event on
-  pub worth : (bs : List ℕ) → NoneHolds (headerCases bs) → (k : ℕ) → k ≤ whole (eventBytes bs) → Worth (tableAt bs k) (run (readsOf (bytesAt bs k))) (answersAfter bs k)
+  pub worth : (bs : List ℕ) → NoneHolds (headerCases bs) → (k : ℕ) → k ≤ whole (eventBytes bs) → Worth (tableAt bs k) (run (readsOf (versionOf bs) (bytesAt bs k))) (answersAfter bs k)
+
+-- OF THE MOVES between the versions of a trace, of any bytes and any room: document 02, K9
+
+pub record OfTheMoves (from to : ℕ) : Type 0 where
+  -- each number exactly where its condition holds and none before it does; 14 names the first bad event, 19 for a cost the first arrival of another cost
+  pub moved-exactly : (bs : List ℕ) (room : ℕ)
+      → RefusedExactly (moveCases from to bs room) (λ n. (0 < n) × (refusalIn (movedShown (answerTo from to bs room)) ≡ n)) (refusalIn (movedShown (answerTo from to bs room)) ≡ 0)
+  pub bad-named : (bs : List ℕ) → 0 < badIn bs → FirstEvent (λ k. Faulty (versionOf bs) (bytesAt bs k)) (whole (eventBytes bs)) (badIn bs)
+  pub dear-named : (bs : List ℕ) → 0 < dearIn bs → FirstEvent (λ k. Dear (versionOf bs) (bytesAt bs k)) (whole (eventBytes bs)) (dearIn bs)
+  pub moved-leaves : (bs room : List ℕ) → judged (moveTests from to bs (length room)) ≡ accept → moves from to bs room ≡ (0 ∷ length (movedBytes to bs) ∷ 0 ∷ [], sets room 0 (movedBytes to bs))
+  -- K9: "Back and forth gives the same bytes. The printed decisions of a moved trace are the same."
+  pub there-and-back : (bs : List ℕ) (room : ℕ) → judged (moveTests from to bs room) ≡ accept → (again : List ℕ) → length bs ≤ length again
+      → moves to from (movedBytes to bs) again ≡ (0 ∷ length bs ∷ 0 ∷ [], sets again 0 bs)
+  pub printed-same : (bs : List ℕ) (room : ℕ) → judged (moveTests from to bs room) ≡ accept → printed (movedBytes to bs) ≡ printed bs
+  pub moved-once : (bs room : List ℕ) (a b : Moved) (xs ys : List ℕ) → (movedShown a, xs) ≡ moves from to bs room → (movedShown b, ys) ≡ moves from to bs room → (a ≡ b) × (xs ≡ ys)
+  pub moved-once-as-c : (bs room : List ℕ) (r s : Carried) (xs ys : List ℕ) → (threeOf r, xs) ≡ moves from to bs room → (threeOf s, ys) ≡ moves from to bs room → (r ≡ s) × (xs ≡ ys)
+  -- K9: "write nothing when refused; room past the result is unchanged"
+  pub moved-untouched : (bs room : List ℕ)
+      → (length (moves from to bs room .1) ≡ length room) × (drop (writtenIn (moves from to bs room)) (moves from to bs room .1) ≡ drop (writtenIn (moves from to bs room)) room)
 
 -- OF THE SHEET
 
@@ -254,5 +284,9 @@ pub record Promises : Type 0 where
   pub of-a-batch : OfABatch numbers
   pub of-a-batch-of-records : OfABatch records
   pub of-a-trace : OfATrace
+  pub of-the-move-up : OfTheMoves 1 2
+  pub of-the-move-back : OfTheMoves 2 1
+  -- K9: "work on well-formed traces only", and on each of version 1 that has room
+  pub goes-up : (bs : List ℕ) (room : ℕ) → WellFormed 1 bs → length (movedBytes 2 bs) ≤ room → judged (moveTests 1 2 bs room) ≡ accept
   pub of-the-sheet : OfTheSheet
   pub of-the-clock : OfTheClock

@@ -5,7 +5,7 @@ use Prim.Native.Nat.{ℕ}
 use Rattle.rules.specs.declared.Phase.{Phase}
 use Rattle.rules.specs.declared.Phase.the-variants.{Reservation, Weight}
 use Rattle.rules.specs.declared.Refusal.{Refusal}
-use Rattle.rules.specs.declared.Refusal.the-variants.{BadSetting, ShortTable, Unsound, UnknownGuest, TimeAboveCeiling, TimeBeforeLast, IdInUse, NoRoom, TagAboveCeiling, NotInFlight, BadMark, BadVersion, HeaderCut, BadEvent, EventCut, AnswersShort, TooManyEvents, BadCost}
+use Rattle.rules.specs.declared.Refusal.the-variants.{BadSetting, ShortTable, Unsound, UnknownGuest, TimeAboveCeiling, TimeBeforeLast, IdInUse, NoRoom, TagAboveCeiling, NotInFlight, BadMark, BadVersion, HeaderCut, BadEvent, EventCut, AnswersShort, TooManyEvents, BadCost, NoWayBack, RoomShort}
 use Rattle.rules.specs.declared.Answer.{Answer}
 use Rattle.rules.specs.declared.Answer.the-variants.{Nothing, Sent, Refused}
 use Rattle.rules.specs.declared.Wake.{Wake}
@@ -33,6 +33,9 @@ numberOf AnswersShort = 16
 numberOf TooManyEvents = 17
 -- document 02, K8: "a cost outside 1 to 64 is 18"
 numberOf BadCost = 18
+-- document 02, K9: "19, a version 2 trace that has another rule, credit or cost cannot go back; 21, room too short, last"
+numberOf NoWayBack = 19
+numberOf RoomShort = 21
 
 -- "`R` or `W` (phase)": the letter of a phase, as its byte
 abbrev pub letterOf : Phase → ℕ

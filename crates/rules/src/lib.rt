@@ -81,6 +81,8 @@ pub enum Refusal {
     AnswersShort,
     TooManyEvents,
     BadCost,
+    NoWayBack,
+    RoomShort,
 }
 
 // What a call answers: nothing is sent, a request is sent, or the call is refused.
@@ -126,5 +128,7 @@ pub fn number(refusal: Refusal) -> u64
         Refusal::AnswersShort => 16,
         Refusal::TooManyEvents => 17,
         Refusal::BadCost => 18,
+        Refusal::NoWayBack => 19,
+        Refusal::RoomShort => 21,
     }
 }

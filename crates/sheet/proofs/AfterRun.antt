@@ -6,7 +6,7 @@ use mathlib.Core.List.{List, [], _∷_}
 use lib.ListN.{length, drop}
 use Rattle.rules.specs.Run.{fresh, after}
 use Rattle.rules.specs.declared.Event.{Event}
-use Rattle.trace.specs.Header.{ruleOf, body, settingsIn, headerOf}
+use Rattle.trace.specs.Header.{body, settingsIn, headerOf}
 use Rattle.trace.specs.Answers.{readsOf}
 use Rattle.trace.specs.declared.Header.{Header}
 use Rattle.trace.specs.declared.Header.the-variants.{Opened}
@@ -26,22 +26,22 @@ page-run p (Good e ∷ es) = page-run (turned p e) es
 page-run p (Bad ∷ es) = page-run p es
 
 -- A TRACE whose header opens with these counts
-module _ (bs : List ℕ) (d n c : ℕ) where
+module _ (bs : List ℕ) (v d n c r : ℕ) where
   -- its good events
   abbrev pub goods : List Event
-  goods = run (readsOf (drop (body n) bs))
+  goods = run (readsOf v (drop (body v n) bs))
 
   -- THE SHEET: the lines of the figures after them
-  pub sheet-run : headerOf bs ≡ Opened d n c → sheetOf bs ≡ figuresLines 0 (pageFor d c (ruleOf bs) (settingsIn bs) goods .figures)
+  pub sheet-run : headerOf bs ≡ Opened v d n c r → sheetOf bs ≡ figuresLines 0 (pageFor d c r (settingsIn bs) goods .figures)
   unfolding sheetOf closing onward
-  sheet-run e = ap (λ (h : Header). sheetBy h bs) e ∙ ap (λ (p : Page). figuresLines 0 (p .figures)) (page-run _ (readsOf (drop (body n) bs)))
+  sheet-run e = ap (λ (h : Header). sheetBy h bs) e ∙ ap (λ (p : Page). figuresLines 0 (p .figures)) (page-run _ (readsOf v (drop (body v n) bs)))
 
   -- Document 02, K1: "accepted arrivals equal waiting plus in flight plus completed, per guest", of the figures that are printed
   pub sheet-arrivals : (g : ℕ) → g < length (settingsIn bs)
-      → figuresFor d c (ruleOf bs) (settingsIn bs) goods g .arrivals
-      ≡ waitsOf g (after (fresh d c (ruleOf bs) (settingsIn bs)) goods) + fliesOf g (after (fresh d c (ruleOf bs) (settingsIn bs)) goods) + figuresFor d c (ruleOf bs) (settingsIn bs) goods g .completions
-  sheet-arrivals = fresh-arrivals d c (ruleOf bs) (settingsIn bs) goods
+      → figuresFor d c r (settingsIn bs) goods g .arrivals
+      ≡ waitsOf g (after (fresh d c r (settingsIn bs)) goods) + fliesOf g (after (fresh d c r (settingsIn bs)) goods) + figuresFor d c r (settingsIn bs) goods g .completions
+  sheet-arrivals = fresh-arrivals d c r (settingsIn bs) goods
 
   -- and the last two numbers of a line are how many entries the gate's tables have at the end
-  pub sheet-left : (g : ℕ) → g < length (settingsIn bs) → Covered (after (fresh d c (ruleOf bs) (settingsIn bs)) goods) g (figuresFor d c (ruleOf bs) (settingsIn bs) goods g)
-  sheet-left = fresh-covered d c (ruleOf bs) (settingsIn bs) goods
+  pub sheet-left : (g : ℕ) → g < length (settingsIn bs) → Covered (after (fresh d c r (settingsIn bs)) goods) g (figuresFor d c r (settingsIn bs) goods g)
+  sheet-left = fresh-covered d c r (settingsIn bs) goods

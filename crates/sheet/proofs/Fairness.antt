@@ -42,7 +42,7 @@ fair-after p (e ∷ es) f = fair-after (read p e) es (fair-read p e f)
 -- where the whole events among the bytes are judged
 pub fair-onward : (s : Stand) → Fair (s .page) → Fair (onward s .page)
 unfolding onward
-fair-onward s f = fair-after (s .page) (eventsOf (whole (s .bytes)) (s .bytes)) f
+fair-onward s f = fair-after (s .page) (eventsOf (s .version) (whole (s .bytes)) (s .bytes)) f
 
 -- what the rows of such a page owe
 pub fair-owing : (g : Gate) (gs ws fs bk fg : List ℕ) → Fair (pageOf g gs ws fs bk fg) → Owing (g .guests) fg

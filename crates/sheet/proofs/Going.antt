@@ -23,23 +23,23 @@ firm-passed n g gs ws fs bk fg f =
     }
 
 -- after i events of the bytes, from the page p on and behind `number` events
-pub record Going (p : Page) (bs : List ℕ) (number i : ℕ) (g : Gate) (gs ws fs bk fg : List ℕ) : Type 0 where
-  pub page : pageOf g gs ws fs bk fg ≡ pageAfter p (eventsOf i bs)
+pub record Going (v : ℕ) (p : Page) (bs : List ℕ) (number i : ℕ) (g : Gate) (gs ws fs bk fg : List ℕ) : Type 0 where
+  pub page : pageOf g gs ws fs bk fg ≡ pageAfter p (eventsOf v i bs)
   pub firm : Firm (number + i) g gs ws fs bk fg
 
-pub going-none : (bs : List ℕ) (number : ℕ) (g : Gate) (gs ws fs bk fg : List ℕ) → Firm number g gs ws fs bk fg → Going (pageOf g gs ws fs bk fg) bs number 0 g gs ws fs bk fg
-going-none bs number g gs ws fs bk fg f =
+pub going-none : (v : ℕ) (bs : List ℕ) (number : ℕ) (g : Gate) (gs ws fs bk fg : List ℕ) → Firm number g gs ws fs bk fg → Going v (pageOf g gs ws fs bk fg) bs number 0 g gs ws fs bk fg
+going-none v bs number g gs ws fs bk fg f =
     record {
-      page = sym (page-none (pageOf g gs ws fs bk fg) bs);
+      page = sym (page-none v (pageOf g gs ws fs bk fg) bs);
       firm = subst (λ (k : ℕ). Firm k g gs ws fs bk fg) (sym (add-zero number)) f;
     }
 
 -- one event more
-pub going-next : (p : Page) (bs : List ℕ) (number i : ℕ) (g : Gate) (gs ws fs bk fg : List ℕ) (h : Gate) (gs′ ws′ fs′ bk′ fg′ : List ℕ) → Going p bs number i g gs ws fs bk fg
-    → pageOf h gs′ ws′ fs′ bk′ fg′ ≡ read (pageOf g gs ws fs bk fg) (eventOf (drop (i * 14) bs)) → Firm (number + i + 1) h gs′ ws′ fs′ bk′ fg′
-    → Going p bs number (i + 1) h gs′ ws′ fs′ bk′ fg′
-going-next p bs number i g gs ws fs bk fg h gs′ ws′ fs′ bk′ fg′ w e f =
+pub going-next : (v : ℕ) (p : Page) (bs : List ℕ) (number i : ℕ) (g : Gate) (gs ws fs bk fg : List ℕ) (h : Gate) (gs′ ws′ fs′ bk′ fg′ : List ℕ) → Going v p bs number i g gs ws fs bk fg
+    → pageOf h gs′ ws′ fs′ bk′ fg′ ≡ read (pageOf g gs ws fs bk fg) (eventOf v (drop (i * 14) bs)) → Firm (number + i + 1) h gs′ ws′ fs′ bk′ fg′
+    → Going v p bs number (i + 1) h gs′ ws′ fs′ bk′ fg′
+going-next v p bs number i g gs ws fs bk fg h gs′ ws′ fs′ bk′ fg′ w e f =
     record {
-      page = e ∙ ap (λ (x : Page). read x (eventOf (drop (i * 14) bs))) (w .page) ∙ sym (page-more p i bs);
+      page = e ∙ ap (λ (x : Page). read x (eventOf v (drop (i * 14) bs))) (w .page) ∙ sym (page-more v p i bs);
       firm = subst (λ (k : ℕ). Firm k h gs′ ws′ fs′ bk′ fg′) (let r : number + i + 1 ≡ number + (i + 1) = omega arith in r) f;
     }

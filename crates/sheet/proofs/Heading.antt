@@ -14,11 +14,11 @@ use Rattle.rules.specs.declared.Settings.{Settings}
 use Rattle.rules.proofs.Conditions.{counted-means}
 use Rattle.table.specs.Columns.{mostGuests}
 use Rattle.lines.specs.Line.{refusalLine}
-use Rattle.trace.specs.Header.{guestsOf, ruleOf, body, settingsIn, headerOf}
+use Rattle.trace.specs.Header.{firstVersion, lastVersion, guestsOf, body, settingsIn, headerOf}
 use Rattle.trace.specs.declared.Header.{Header}
 use Rattle.trace.specs.declared.Header.the-variants.{Opened, Refused as Unopened}
 use Rattle.trace.proofs.HeaderLaws.{Opens, opened}
-use Rattle.trace.proofs.FirstRead.{longest, settings-same, header-same}
+use Rattle.trace.proofs.FirstRead.{longest, longest-fits, settings-same, header-same}
 use Rattle.stream.specs.Outcome.{May, Last, First}
 use Rattle.stream.proofs.Firsts.{full-or-all}
 use Rattle.book.specs.Page.{firstPage}
@@ -34,17 +34,17 @@ module _ (bs later : List ℕ) where
   header-on (inr none) = ap (λ (l : List ℕ). headerOf (bs ++ l)) none ∙ ap headerOf (append-nil bs)
 
   -- the events begin in them
-  begun-on : (d n c : ℕ) → headerOf bs ≡ Opened d n c → (longest ≤ length bs) ⊎ (later ≡ []) → begunSheet d n c (bs ++ later) ≡ more (begunSheet d n c bs) later
-  begun-on d n c e (inl long) =
-      let o : Opens bs d n c = opened bs d n c e in
+  begun-on : (v d n c r : ℕ) → headerOf bs ≡ Opened v d n c r → (longest ≤ length bs) ⊎ (later ≡ []) → begunSheet v d n c r (bs ++ later) ≡ more (begunSheet v d n c r bs) later
+  begun-on v d n c r e (inl long) =
+      let o : Opens firstVersion lastVersion bs v d n c r = opened bs v d n c r e in
       let few : guestsOf bs ≤ mostGuests = counted-means d (guestsOf bs) c .holds .0 (rw (o .guestsIs) at (o .counts)) .guest-count .1 in
-      ap (λ (ss : List Settings). record { bytes = drop (body n) (bs ++ later); page = firstPage (fresh d c (ruleOf bs) ss) }) (settings-same bs later long few)
-      ∙ ap (λ (l : List ℕ). record { bytes = l; page = firstPage (fresh d c (ruleOf bs) (settingsIn bs)) }) (drop-append-le (body n) bs later (o .whole))
-  begun-on d n c e (inr none) =
-      ap (λ (l : List ℕ). begunSheet d n c (bs ++ l)) none
-      ∙ ap (begunSheet d n c) (append-nil bs)
-      ∙ ap (λ (l : List ℕ). record { bytes = l; page = firstPage (fresh d c (ruleOf bs) (settingsIn bs)) }) (sym (append-nil (drop (body n) bs)))
-      ∙ ap (more (begunSheet d n c bs)) (sym none)
+      ap (λ (ss : List Settings). record { version = v; bytes = drop (body v n) (bs ++ later); page = firstPage (fresh d c r ss) }) (settings-same bs later long few)
+      ∙ ap (λ (l : List ℕ). record { version = v; bytes = l; page = firstPage (fresh d c r (settingsIn bs)) }) (drop-append-le (body v n) bs later (o .whole))
+  begun-on v d n c r e (inr none) =
+      ap (λ (l : List ℕ). begunSheet v d n c r (bs ++ l)) none
+      ∙ ap (begunSheet v d n c r) (append-nil bs)
+      ∙ ap (λ (l : List ℕ). record { version = v; bytes = l; page = firstPage (fresh d c r (settingsIn bs)) }) (sym (append-nil (drop (body v n) bs)))
+      ∙ ap (more (begunSheet v d n c r bs)) (sym none)
 
   -- what is printed of a bad header
   sheet-refused : (why : Refusal) → headerOf bs ≡ Unopened why → (longest ≤ length bs) ⊎ (later ≡ []) → sheetOf (bs ++ later) ≡ refusalLine why
@@ -52,14 +52,14 @@ module _ (bs later : List ℕ) where
   sheet-refused why e w = ap (λ (h : Header). sheetBy h (bs ++ later)) (header-on w ∙ e)
 
   -- and of a good one
-  sheet-opened : (d n c : ℕ) → headerOf bs ≡ Opened d n c → (longest ≤ length bs) ⊎ (later ≡ []) → sheetOf (bs ++ later) ≡ closing (more (begunSheet d n c bs) later)
+  sheet-opened : (v d n c r : ℕ) → headerOf bs ≡ Opened v d n c r → (longest ≤ length bs) ⊎ (later ≡ []) → sheetOf (bs ++ later) ≡ closing (more (begunSheet v d n c r bs) later)
   unfolding sheetOf
-  sheet-opened d n c e w = ap (λ (h : Header). sheetBy h (bs ++ later)) (header-on w ∙ e) ∙ ap closing (begun-on d n c e w)
+  sheet-opened v d n c r e w = ap (λ (h : Header). sheetBy h (bs ++ later)) (header-on w ∙ e) ∙ ap closing (begun-on v d n c r e w)
 
 -- THE FIRST BYTES ARE READ
 module _ (n : ℕ) (bs : List ℕ) (f : First n bs) where
   whole-or-all : (later : List ℕ) → May (f .tape) later → (longest ≤ length bs) ⊎ (later ≡ [])
-  whole-or-all later may = ⊎-elim (λ full. inl (omega arith)) inr (full-or-all n bs later f may)
+  whole-or-all later may = ⊎-elim (λ full. inl (longest-fits (length bs) (omega arith))) inr (full-or-all n bs later f may)
 
   -- a bad header: its line is the last
   pub refused-last : (why : Refusal) → headerOf bs ≡ Unopened why → Last sheetOf n (refusalLine why)
@@ -74,14 +74,14 @@ module _ (n : ℕ) (bs : List ℕ) (f : First n bs) where
       }
 
   -- a good one: the reading stands where the events begin
-  pub opened-standing : (d g c : ℕ) → headerOf bs ≡ Opened d g c → (ended : Bool) → ltb (length bs) 4096 ≡ ended → (s : Stand) → s ≡ begunSheet d g c bs → Standing ended n s
-  opened-standing d g c e ended mark s here =
+  pub opened-standing : (v d g c r : ℕ) → headerOf bs ≡ Opened v d g c r → (ended : Bool) → ltb (length bs) 4096 ≡ ended → (s : Stand) → s ≡ begunSheet v d g c r bs → Standing ended n s
+  opened-standing v d g c r e ended mark s here =
       subst (λ (x : Stand). Standing ended n x) (sym here)
       (record {
         tape = f .tape;
         held = f .held;
         mark = f .mark ∙ mark;
         wrote = f .wrote;
-        stands = λ later may. ap (λ (l : List ℕ). sheetOf (l ++ later)) (f .read) ∙ sheet-opened bs later d g c e (whole-or-all later may);
-        fair = fair-first d c (ruleOf bs) (settingsIn bs);
+        stands = λ later may. ap (λ (l : List ℕ). sheetOf (l ++ later)) (f .read) ∙ sheet-opened bs later v d g c r e (whole-or-all later may);
+        fair = fair-first d c r (settingsIn bs);
       })

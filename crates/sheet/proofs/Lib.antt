@@ -7,3 +7,4 @@ pub mod Heading
 pub mod Pumping
 pub mod Whole
 pub mod AfterRun
+pub mod Alike

@@ -13,7 +13,7 @@ use Rattle.rules.specs.Run.{fresh}
 use Rattle.rules.specs.declared.Gate.{Gate}
 use Rattle.table.specs.View.{guestForm, requestForm, guestsOf, tableOf}
 use Rattle.table.proofs.Facts.{Facts, facts}
-use Rattle.trace.specs.Header.{ruleOf, settingsIn}
+use Rattle.trace.specs.Header.{settingsIn}
 use Rattle.book.specs.Figures.{unseen, unseens}
 use Rattle.book.specs.Page.{firstPage}
 use Rattle.tally.specs.Columns.{figuresWide, figuresLong, figureAt}
@@ -28,7 +28,7 @@ same-at b [] k = refl
 same-at b (x ∷ l) zero = refl
 same-at b (x ∷ l) (suc k) = same-at b l k
 
-module _ (d n c : ℕ) (bs rest : List ℕ) (g : Gate) (gs ws fs bk old fg : List ℕ) (b : Begins d n c bs rest g gs ws fs) (room : Roomy bk old) (cleared : fg ≡ zeros old figuresLong) where
+module _ (v d n c r : ℕ) (bs rest : List ℕ) (g : Gate) (gs ws fs bk old fg : List ℕ) (b : Begins v d n c r bs rest g gs ws fs) (room : Roomy bk old) (cleared : fg ≡ zeros old figuresLong) where
   f : Facts g gs ws fs
   f = facts g gs ws fs (b .known)
 
@@ -57,11 +57,11 @@ module _ (d n c : ℕ) (bs rest : List ℕ) (g : Gate) (gs ws fs bk old fg : Lis
       (λ k h. unseen-at k h ∙ sym (same-at unseen (guestsOf gs (g .guests)) k))
 
   -- the numbers stand where the events begin
-  pub begun-stands : standOf rest g gs ws fs bk fg ≡ begunSheet d n c bs
+  pub begun-stands : standOf v rest g gs ws fs bk fg ≡ begunSheet v d n c r bs
   begun-stands =
       let p : pageOf g gs ws fs bk fg ≡ firstPage (tableOf g gs ws fs) = λ i. record { table = tableOf g gs ws fs; book = books i; figures = seen i } in
-      let q : pageOf g gs ws fs bk fg ≡ firstPage (fresh d c (ruleOf bs) (settingsIn bs)) = p ∙ ap firstPage (b .table) in
-      λ i. record { bytes = b .bytes i; page = q i }
+      let q : pageOf g gs ws fs bk fg ≡ firstPage (fresh d c r (settingsIn bs)) = p ∙ ap firstPage (b .table) in
+      λ i. record { version = v; bytes = b .bytes i; page = q i }
 
   -- and are known
   pub begun-firm : Firm 0 g gs ws fs bk fg

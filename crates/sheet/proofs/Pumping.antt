@@ -43,10 +43,10 @@ pub turned : {e : Bool} {n : ℕ} {s q : Stand} → q ≡ onward s → Standing 
 turned {e} {n} {s} here a = subst (λ (x : Stand). Standing e n x) (sym here) (onwards s a)
 
 -- AT THE END the lines of the figures are all that is to be written
-pub closes : (n m : ℕ) (bs : List ℕ) (g : Gate) (gs ws fs bk fg : List ℕ) → Firm m g gs ws fs bk fg → Standing true n (standOf bs g gs ws fs bk fg) → length bs < 14
+pub closes : (n m v : ℕ) (bs : List ℕ) (g : Gate) (gs ws fs bk fg : List ℕ) → Firm m g gs ws fs bk fg → Standing true n (standOf v bs g gs ws fs bk fg) → length bs < 14
     → Closes n (g .guests) fg
-closes n m bs g gs ws fs bk fg k a few =
-    let s = standOf bs g gs ws fs bk fg in
+closes n m v bs g gs ws fs bk fg k a few =
+    let s = standOf v bs g gs ws fs bk fg in
     record {
       few = facts g gs ws fs (k .known) .counts .guest-count .1;
       room = k .kept .figuresRoom;
@@ -57,7 +57,7 @@ closes n m bs g gs ws fs bk fg k a few =
         lacks = λ later may.
             a .stands later may
             ∙ ap (λ (l : List ℕ). closing (more s l)) (may (a .mark))
-            ∙ ap (λ (l : List ℕ). closing (standOf l g gs ws fs bk fg)) (append-nil bs)
+            ∙ ap (λ (l : List ℕ). closing (standOf v l g gs ws fs bk fg)) (append-nil bs)
             ∙ closing-few s few
             ∙ ap (λ (l : List ℕ). l ++ figuresLines 0 (figuresOf fg (g .guests))) (sym (a .wrote));
       };
@@ -76,7 +76,7 @@ module _ (n m : ℕ) (s : Stand) (w : Moved) (bs : List ℕ) (g : Goes (brought 
         stands = λ later may.
             ap sheetOf (append-assoc (a .tape .read) (take k bs) later)
             ∙ a .stands (take k bs ++ later) (λ x. absurd (differ (sym (a .mark) ∙ x)))
-            ∙ ap (λ (l : List ℕ). closing (record { bytes = l; page = s .page })) (sym (append-assoc (s .bytes) (take k bs) later));
+            ∙ ap (λ (l : List ℕ). closing (record { version = s .version; bytes = l; page = s .page })) (sym (append-assoc (s .bytes) (take k bs) later));
         fair = a .fair;
       }
 

@@ -5,7 +5,7 @@ use mathlib.Core.List.{List, [], _∷_, _++_}
 use lib.ListN.{drop}
 use Rattle.rules.specs.Run.{fresh}
 use Rattle.lines.specs.Line.{decimalOf, spaced, refusalLine}
-use Rattle.trace.specs.Header.{ruleOf, body, settingsIn, headerOf}
+use Rattle.trace.specs.Header.{body, settingsIn, headerOf}
 use Rattle.trace.specs.Event.{eventsOf, whole}
 use Rattle.trace.specs.declared.Header.{Header}
 use Rattle.trace.specs.declared.Header.the-variants.{Opened, Refused as Unopened}
@@ -51,8 +51,9 @@ unfoldable pub pageAfter : Page → List Read → Page
 pageAfter p [] = p
 pageAfter p (e ∷ es) = pageAfter (read p e) es
 
--- where the reading stands: bytes that are not judged yet, and the page
+-- where the reading stands: the trace's version, bytes that are not judged yet, and the page
 pub record Stand : Type 0 where
+  pub version : ℕ
   pub bytes : List ℕ
   pub page : Page
 
@@ -60,8 +61,9 @@ pub record Stand : Type 0 where
 unfoldable pub onward : Stand → Stand
 onward s =
     record {
+      version = s .version;
       bytes = drop (whole (s .bytes) * 14) (s .bytes);
-      page = pageAfter (s .page) (eventsOf (whole (s .bytes)) (s .bytes));
+      page = pageAfter (s .page) (eventsOf (s .version) (whole (s .bytes)) (s .bytes));
     }
 
 -- the sheet where no bytes come any more: those of a cut last event are passed over
@@ -69,13 +71,13 @@ unfoldable pub closing : Stand → List ℕ
 closing s = figuresLines 0 (onward s .page .figures)
 
 -- where the reading of events begins: at the fresh table that the header opens
-abbrev pub begunSheet : (depth guests capacity : ℕ) → List ℕ → Stand
-begunSheet d n c bs = record { bytes = drop (body n) bs; page = firstPage (fresh d c (ruleOf bs) (settingsIn bs)) }
+abbrev pub begunSheet : (version depth guests capacity rule : ℕ) → List ℕ → Stand
+begunSheet v d n c r bs = record { version = v; bytes = drop (body v n) bs; page = firstPage (fresh d c r (settingsIn bs)) }
 
 -- Document 02, K1: "A bad header prints as in 01." Otherwise the lines of all guests
 abbrev pub sheetBy : Header → List ℕ → List ℕ
 sheetBy (Unopened r) bs = refusalLine r
-sheetBy (Opened d n c) bs = closing (begunSheet d n c bs)
+sheetBy (Opened v d n c r) bs = closing (begunSheet v d n c r bs)
 
 -- THE SHEET: from the bytes of a whole trace to the bytes that the program prints
 unfoldable pub sheetOf : List ℕ → List ℕ

@@ -30,9 +30,9 @@ pub record Roomy (bk fg : List ℕ) : Type 0 where
   pub book : bookLong ≤ length bk
   pub figures : figuresLong ≤ length fg
 
--- where the reading stands: the bytes that are left, and the page that the lent numbers show
-abbrev pub standOf : List ℕ → Gate → (gs ws fs bk fg : List ℕ) → Stand
-standOf bs g gs ws fs bk fg = record { bytes = bs; page = pageOf g gs ws fs bk fg }
+-- where the reading stands: the trace's version, the bytes that are left, and the page that the lent numbers show
+abbrev pub standOf : (version : ℕ) → List ℕ → Gate → (gs ws fs bk fg : List ℕ) → Stand
+standOf v bs g gs ws fs bk fg = record { version = v; bytes = bs; page = pageOf g gs ws fs bk fg }
 
 -- the lent numbers are known, after at most n events
 pub record Firm (n : ℕ) (g : Gate) (gs ws fs bk fg : List ℕ) : Type 0 where
@@ -41,7 +41,7 @@ pub record Firm (n : ℕ) (g : Gate) (gs ws fs bk fg : List ℕ) : Type 0 where
 
 -- more bytes have come
 abbrev pub more : Stand → List ℕ → Stand
-more s later = record { bytes = s .bytes ++ later; page = s .page }
+more s later = record { version = s .version; bytes = s .bytes ++ later; page = s .page }
 
 -- the page was begun at a table on which nothing waited and nothing was in flight, and is in balance with it
 pub record Fair (p : Page) : Type 0 where

@@ -20,6 +20,7 @@ const TURNS: u64 = 281474976710656;
 
 // The event whose bytes begin at `from` turns the page; a bad one is passed over.
 fn one(
+    version: u64,
     bytes: &[u8],
     from: usize,
     number: u64,
@@ -32,10 +33,10 @@ fn one(
 ) -> Gate
     requires { ⌜ (from + 14 ≤ length (now bytes)) × (number + 1 < 2 ^ 64) ⌝ }
     requires { ⌜ Firm number gate (now guests) (now waiting) (now flight) (now book) (now figures) ⌝ }
-    ensures { λ r. ⌜ pageOf r (now (guests .exit)) (now (waiting .exit)) (now (flight .exit)) (now (book .exit)) (now (figures .exit)) ≡ read (pageOf gate (now (guests .entry)) (now (waiting .entry)) (now (flight .entry)) (now (book .entry)) (now (figures .entry))) (eventOf (drop from (now (bytes .entry)))) ⌝ }
+    ensures { λ r. ⌜ pageOf r (now (guests .exit)) (now (waiting .exit)) (now (flight .exit)) (now (book .exit)) (now (figures .exit)) ≡ read (pageOf gate (now (guests .entry)) (now (waiting .entry)) (now (flight .entry)) (now (book .entry)) (now (figures .entry))) (eventOf version (drop from (now (bytes .entry)))) ⌝ }
     ensures { λ r. ⌜ Firm (number + 1) r (now (guests .exit)) (now (waiting .exit)) (now (flight .exit)) (now (book .exit)) (now (figures .exit)) ⌝ }
 {
-    let event = trace::events::read_event(&bytes[from..from + 14]);
+    let event = trace::events::read_event(version, &bytes[from..from + 14]);
     match event {
         Read::Good(good) => tally::turn(number, gate, guests, waiting, flight, book, figures, good),
         Read::Bad => gate,
@@ -44,6 +45,7 @@ fn one(
 
 // All whole events of the bytes turn the page.
 fn turn_all(
+    version: u64,
     bytes: &[u8],
     number: u64,
     first: Gate,
@@ -55,7 +57,7 @@ fn turn_all(
 ) -> Gate
     requires { ⌜ number + length (now bytes) < 2 ^ 64 ⌝ }
     requires { ⌜ Firm number first (now guests) (now waiting) (now flight) (now book) (now figures) ⌝ }
-    ensures { λ r. ⌜ pageOf r (now (guests .exit)) (now (waiting .exit)) (now (flight .exit)) (now (book .exit)) (now (figures .exit)) ≡ pageAfter (pageOf first (now (guests .entry)) (now (waiting .entry)) (now (flight .entry)) (now (book .entry)) (now (figures .entry))) (eventsOf (whole (now (bytes .entry))) (now (bytes .entry))) ⌝ }
+    ensures { λ r. ⌜ pageOf r (now (guests .exit)) (now (waiting .exit)) (now (flight .exit)) (now (book .exit)) (now (figures .exit)) ≡ pageAfter (pageOf first (now (guests .entry)) (now (waiting .entry)) (now (flight .entry)) (now (book .entry)) (now (figures .entry))) (eventsOf version (whole (now (bytes .entry))) (now (bytes .entry))) ⌝ }
     ensures { λ r. ⌜ Firm (number + whole (now (bytes .entry))) r (now (guests .exit)) (now (waiting .exit)) (now (flight .exit)) (now (book .exit)) (now (figures .exit)) ⌝ }
 {
     let n = bytes.len() / 14;
@@ -63,6 +65,7 @@ fn turn_all(
     let mut i: usize = 0;
     while i < n {
         gate = one(
+            version,
             bytes,
             i * 14,
             number + (i as u64),
@@ -87,6 +90,7 @@ pub struct Turn {
 
 // All whole events of the first `have` bytes turn the page; what is left of the bytes moves to the front.
 fn take_in(
+    version: u64,
     buffer: &mut [u8],
     have: usize,
     number: u64,
@@ -99,11 +103,12 @@ fn take_in(
 ) -> Turn
     requires { ⌜ (have ≤ length (now buffer)) × (number + have < 2 ^ 64) ⌝ }
     requires { ⌜ Firm number gate (now guests) (now waiting) (now flight) (now book) (now figures) ⌝ }
-    ensures { λ r. ⌜ standOf (take (r .rest) (now (buffer .exit))) (r .gate) (now (guests .exit)) (now (waiting .exit)) (now (flight .exit)) (now (book .exit)) (now (figures .exit)) ≡ onward (standOf (take have (now (buffer .entry))) gate (now (guests .entry)) (now (waiting .entry)) (now (flight .entry)) (now (book .entry)) (now (figures .entry))) ⌝ }
+    ensures { λ r. ⌜ standOf version (take (r .rest) (now (buffer .exit))) (r .gate) (now (guests .exit)) (now (waiting .exit)) (now (flight .exit)) (now (book .exit)) (now (figures .exit)) ≡ onward (standOf version (take have (now (buffer .entry))) gate (now (guests .entry)) (now (waiting .entry)) (now (flight .entry)) (now (book .entry)) (now (figures .entry))) ⌝ }
     ensures { λ r. ⌜ Firm (r .number) (r .gate) (now (guests .exit)) (now (waiting .exit)) (now (flight .exit)) (now (book .exit)) (now (figures .exit)) ⌝ }
     ensures { λ r. ⌜ (r .rest < 14) × (r .number ≤ number + have) ⌝ }
 {
     let after = turn_all(
+        version,
         &buffer[..have],
         number,
         gate,
@@ -134,6 +139,7 @@ fn finish(known: u64, figures: &[u64], log: &mut u64) -> End
 
 // Turns the page by the events of an input that has ended, and writes the sheet.
 pub fn close(
+    version: u64,
     buffer: &mut [u8],
     have: usize,
     opened: Gate,
@@ -146,10 +152,11 @@ pub fn close(
 ) -> End
     requires { ⌜ (length (now buffer) ≡ 4096) × (have ≤ 4096) ⌝ }
     requires { ⌜ Firm 0 opened (now guests) (now waiting) (now flight) (now book) (now figures) ⌝ }
-    requires { ⌜ Standing true (now log) (standOf (take have (now buffer)) opened (now guests) (now waiting) (now flight) (now book) (now figures)) ⌝ }
+    requires { ⌜ Standing true (now log) (standOf version (take have (now buffer)) opened (now guests) (now waiting) (now flight) (now book) (now figures)) ⌝ }
     ensures { λ r. ⌜ Listed r (now (log .exit)) ⌝ }
 {
     let turn = take_in(
+        version,
         buffer,
         have,
         0,
@@ -166,6 +173,7 @@ pub fn close(
 
 // Turns the page by the events of an input that may go on, until no more bytes come, and writes the sheet.
 pub fn pump(
+    version: u64,
     buffer: &mut [u8],
     first: usize,
     opened: Gate,
@@ -178,7 +186,7 @@ pub fn pump(
 ) -> End
     requires { ⌜ (length (now buffer) ≡ 4096) × (first ≤ 4096) ⌝ }
     requires { ⌜ Firm 0 opened (now guests) (now waiting) (now flight) (now book) (now figures) ⌝ }
-    requires { ⌜ Standing false (now log) (standOf (take first (now buffer)) opened (now guests) (now waiting) (now flight) (now book) (now figures)) ⌝ }
+    requires { ⌜ Standing false (now log) (standOf version (take first (now buffer)) opened (now guests) (now waiting) (now flight) (now book) (now figures)) ⌝ }
     ensures { λ r. ⌜ Listed r (now (log .exit)) ⌝ }
 {
     let mut gate = opened;
@@ -187,6 +195,7 @@ pub fn pump(
     let mut turns = TURNS;
     while turns > 0 {
         let turn = take_in(
+            version,
             buffer,
             have,
             done,

@@ -116,15 +116,19 @@ fn judge(
     match header {
         Header::Refused(refusal) => refuse(refusal, log),
         Header::Opened {
+            version,
             depth,
             guests: known,
             capacity,
+            rule,
         } => follow(
             buffer,
             have,
+            version,
             depth,
             known,
             capacity,
+            rule,
             settings,
             guests,
             waiting,
@@ -150,9 +154,11 @@ fn refuse(refusal: Refusal, log: &mut u64) -> End
 fn follow(
     buffer: &mut [u8],
     have: usize,
+    version: u64,
     depth: u64,
     known: u64,
     capacity: u64,
+    rule: u64,
     settings: &mut [u64],
     guests: &mut [u64],
     waiting: &mut [u64],
@@ -162,7 +168,7 @@ fn follow(
     log: &mut u64,
 ) -> End
     requires { ⌜ (length (now buffer) ≡ 4096) × (have ≤ 4096) ⌝ }
-    requires { ⌜ headerOf (take have (now buffer)) ≡ Opened depth known capacity ⌝ }
+    requires { ⌜ headerOf (take have (now buffer)) ≡ Opened version depth known capacity rule ⌝ }
     requires { ⌜ Largest (now settings) (now guests) (now waiting) (now flight) ⌝ }
     requires { ⌜ Roomy (now book) (now figures) ⌝ }
     requires { ⌜ First (now log) (take have (now buffer)) ⌝ }
@@ -171,9 +177,11 @@ fn follow(
     let begun = begin::begin(
         buffer,
         have,
+        version,
         depth,
         known,
         capacity,
+        rule,
         settings,
         guests,
         waiting,
@@ -184,6 +192,7 @@ fn follow(
     moves::rows::clear(figures, FIGURES_LONG);
     if have < 4096 {
         return events::close(
+            version,
             buffer,
             rest,
             gate,
@@ -196,6 +205,7 @@ fn follow(
         );
     }
     events::pump(
+        version,
         buffer,
         rest,
         gate,

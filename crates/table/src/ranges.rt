@@ -16,7 +16,7 @@ const MOST_CREDIT: u64 = 256;
 pub const MOST_COST: u64 = 64;
 
 // n lies from low to high, both included.
-fn within(low: u64, high: u64, n: u64) -> bool
+pub fn within(low: u64, high: u64, n: u64) -> bool
     ensures { λ b. ⌜ b ≡ withinOf low high n ⌝ }
 {
     if n < low {

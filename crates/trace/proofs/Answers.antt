@@ -18,7 +18,7 @@ use Rattle.rules.specs.declared.Refusal.the-variants.{EventCut}
 use Rattle.rules.specs.declared.Answer.{Answer}
 use Rattle.rules.specs.declared.Answer.the-variants.{Nothing, Refused}
 use Rattle.lines.specs.Line.{lineOf, titleLine}
-use Rattle.trace.specs.Header.{headerTests, headerBy}
+use Rattle.trace.specs.Header.{versionOf, headerTests, headerBy}
 use Rattle.trace.specs.Event.{eventOf, eventsOf, whole}
 use Rattle.trace.specs.Printed.{answered, answersTo, tableAfter, linesFrom, Place, events, lines, left, cut, finished, printedBy, printed}
 use Rattle.trace.specs.Answers.{eventBytes, opening, readsOf, cutAnswer, answersFrom, answersOf}
@@ -34,17 +34,17 @@ unfolding cut linesFrom
 cut-line n [] = refl
 cut-line n (b ∷ bs) = sym (append-nil (lineOf (n + 1) (Refused EventCut)))
 
-length-reads : (t : Table) (bs : List ℕ) → length (answersTo t (readsOf bs)) ≡ whole bs
-length-reads t bs = length-answers t (readsOf bs) ∙ length-events (whole bs) bs
+length-reads : (v : ℕ) (t : Table) (bs : List ℕ) → length (answersTo t (readsOf v bs)) ≡ whole bs
+length-reads v t bs = length-answers t (readsOf v bs) ∙ length-events v (whole bs) bs
 
 -- the lines of all events are those of their answers
-finished-lines : (p : Place) → finished p ≡ linesFrom (p .number) (answersFrom (p .table) (p .bytes))
+finished-lines : (p : Place) → finished p ≡ linesFrom (p .number) (answersFrom (p .version) (p .table) (p .bytes))
 unfolding finished lines left
 finished-lines p =
     let rest = drop (whole (p .bytes) * 14) (p .bytes) in
     let got = answersTo (p .table) (events p) in
     ap (λ (l : List ℕ). linesFrom (p .number) got ++ l)
-    (cut-line (p .number + whole (p .bytes)) rest ∙ ap (λ (n : ℕ). linesFrom (p .number + n) (cutAnswer rest)) (sym (length-reads (p .table) (p .bytes))))
+    (cut-line (p .number + whole (p .bytes)) rest ∙ ap (λ (n : ℕ). linesFrom (p .number + n) (cutAnswer rest)) (sym (length-reads (p .version) (p .table) (p .bytes))))
     ∙ sym (lines-append (p .number) got (cutAnswer rest))
 
 -- "Otherwise the header line `event answer`, then a line for each event"
@@ -52,11 +52,11 @@ pub printed-lines : (bs : List ℕ) → judged (headerTests bs) ≡ accept → p
 unfolding printed
 printed-lines bs e =
     ap (λ (v : Verdict). printedBy (headerBy v bs) bs) e
-    ∙ ap (λ (l : List ℕ). titleLine ++ l) (finished-lines (record { bytes = eventBytes bs; table = opening bs; number = 0 }))
+    ∙ ap (λ (l : List ℕ). titleLine ++ l) (finished-lines (record { version = versionOf bs; bytes = eventBytes bs; table = opening bs; number = 0 }))
 
 -- FROM EVENT k ON
 
-module _ (t : Table) (bs : List ℕ) (k : ℕ) (fits : k ≤ whole bs) where
+module _ (v : ℕ) (t : Table) (bs : List ℕ) (k : ℕ) (fits : k ≤ whole bs) where
   abbrev rest : List ℕ
   rest = drop (k * 14) bs
 
@@ -69,28 +69,28 @@ module _ (t : Table) (bs : List ℕ) (k : ℕ) (fits : k ≤ whole bs) where
       ap (λ (i : ℕ). drop i bs) n ∙ sym (drop-drop (whole rest * 14) (k * 14) bs)
 
   -- the answers to k events, and those from there on
-  pub answers-split : answersFrom t bs ≡ answersTo t (eventsOf k bs) ++ answersFrom (tableAfter t (eventsOf k bs)) rest
+  pub answers-split : answersFrom v t bs ≡ answersTo t (eventsOf v k bs) ++ answersFrom v (tableAfter t (eventsOf v k bs)) rest
   answers-split =
-      let later = answersTo (tableAfter t (eventsOf k bs)) (readsOf rest) in
-      ap (λ (n : ℕ). answersTo t (eventsOf n bs) ++ cutAnswer (drop (whole bs * 14) bs)) count
-      ∙ ap (λ (es : List Read). answersTo t es ++ cutAnswer (drop (whole bs * 14) bs)) (events-add k (whole rest) bs)
-      ∙ ap (λ (l : List Answer). l ++ cutAnswer (drop (whole bs * 14) bs)) (answers-append t (eventsOf k bs) (readsOf rest))
-      ∙ append-assoc (answersTo t (eventsOf k bs)) later (cutAnswer (drop (whole bs * 14) bs))
-      ∙ ap (λ (l : List ℕ). answersTo t (eventsOf k bs) ++ (later ++ cutAnswer l)) cut-rest
+      let later = answersTo (tableAfter t (eventsOf v k bs)) (readsOf v rest) in
+      ap (λ (n : ℕ). answersTo t (eventsOf v n bs) ++ cutAnswer (drop (whole bs * 14) bs)) count
+      ∙ ap (λ (es : List Read). answersTo t es ++ cutAnswer (drop (whole bs * 14) bs)) (events-add v k (whole rest) bs)
+      ∙ ap (λ (l : List Answer). l ++ cutAnswer (drop (whole bs * 14) bs)) (answers-append t (eventsOf v k bs) (readsOf v rest))
+      ∙ append-assoc (answersTo t (eventsOf v k bs)) later (cutAnswer (drop (whole bs * 14) bs))
+      ∙ ap (λ (l : List ℕ). answersTo t (eventsOf v k bs) ++ (later ++ cutAnswer l)) cut-rest
 
-  before : length (answersTo t (eventsOf k bs)) ≡ k
-  before = length-answers t (eventsOf k bs) ∙ length-events k bs
+  before : length (answersTo t (eventsOf v k bs)) ≡ k
+  before = length-answers t (eventsOf v k bs) ∙ length-events v k bs
 
-  pub answers-later : drop k (answersFrom t bs) ≡ answersFrom (tableAfter t (eventsOf k bs)) rest
+  pub answers-later : drop k (answersFrom v t bs) ≡ answersFrom v (tableAfter t (eventsOf v k bs)) rest
   answers-later =
-      ap (drop k) answers-split ∙ drop-at (answersTo t (eventsOf k bs)) (answersFrom (tableAfter t (eventsOf k bs)) rest) k before
+      ap (drop k) answers-split ∙ drop-at (answersTo t (eventsOf v k bs)) (answersFrom v (tableAfter t (eventsOf v k bs)) rest) k before
 
-  pub answer-there : getD (answersFrom t bs) k Nothing ≡ getD (answersFrom (tableAfter t (eventsOf k bs)) rest) 0 Nothing
+  pub answer-there : getD (answersFrom v t bs) k Nothing ≡ getD (answersFrom v (tableAfter t (eventsOf v k bs)) rest) 0 Nothing
   answer-there =
-      let n : k ≡ length (answersTo t (eventsOf k bs)) + 0 = sym before ∙ sym (add-zero _) in
+      let n : k ≡ length (answersTo t (eventsOf v k bs)) + 0 = sym before ∙ sym (add-zero _) in
       ap (λ (l : List Answer). getD l k Nothing) answers-split
-      ∙ ap (λ (i : ℕ). getD (answersTo t (eventsOf k bs) ++ answersFrom (tableAfter t (eventsOf k bs)) rest) i Nothing) n
-      ∙ getD-append-add (answersTo t (eventsOf k bs)) (answersFrom (tableAfter t (eventsOf k bs)) rest) 0 Nothing
+      ∙ ap (λ (i : ℕ). getD (answersTo t (eventsOf v k bs) ++ answersFrom v (tableAfter t (eventsOf v k bs)) rest) i Nothing) n
+      ∙ getD-append-add (answersTo t (eventsOf v k bs)) (answersFrom v (tableAfter t (eventsOf v k bs)) rest) 0 Nothing
 
 -- THE FIRST ANSWER to bytes: 15 where they are no whole event
 
@@ -99,14 +99,14 @@ some : (bs : List ℕ) → 0 < length bs → getD (cutAnswer bs) 0 Nothing ≡ R
 some [] h = absurd (omega arith)
 some (b ∷ bs) h = refl
 
-pub first-answer : (t : Table) (bs : List ℕ) → 0 < length bs
-    → getD (answersFrom t bs) 0 Nothing ≡ (if ltb (length bs) 14 then Refused EventCut else answered t (eventOf bs) .answer)
+pub first-answer : (v : ℕ) (t : Table) (bs : List ℕ) → 0 < length bs
+    → getD (answersFrom v t bs) 0 Nothing ≡ (if ltb (length bs) 14 then Refused EventCut else answered t (eventOf v bs) .answer)
 unfolding answersTo eventsOf
-first-answer t bs h = go (ltb (length bs) 14) refl (whole bs) refl
+first-answer v t bs h = go (ltb (length bs) 14) refl (whole bs) refl
   where
     go : (b : Bool) → ltb (length bs) 14 ≡ b → (n : ℕ) → whole bs ≡ n
-        → getD (answersTo t (eventsOf (whole bs) bs) ++ cutAnswer (drop (whole bs * 14) bs)) 0 Nothing
-        ≡ (if b then Refused EventCut else answered t (eventOf bs) .answer)
+        → getD (answersTo t (eventsOf v (whole bs) bs) ++ cutAnswer (drop (whole bs * 14) bs)) 0 Nothing
+        ≡ (if b then Refused EventCut else answered t (eventOf v bs) .answer)
     go true e zero n = rw n (some bs h)
     go true e (suc m) n = absurd (omega (arith, ltb-true (length bs) 14 e))
     go false e zero n = absurd (omega (arith, ltb-false (length bs) 14 e))
@@ -126,6 +126,6 @@ lines-count bs k =
     let c = drop (whole b * 14) b in
     let l : length c ≡ length b - whole b * 14 = length-drop (whole b * 14) b in
     let n : length (answersOf bs) ≡ whole b + length (cutAnswer c)
-    = length-append (answersTo (opening bs) (readsOf b)) (cutAnswer c) ∙ ap (λ (n : ℕ). n + length (cutAnswer c)) (length-reads (opening bs) b) in
+    = length-append (answersTo (opening bs) (readsOf (versionOf bs) b)) (cutAnswer c) ∙ ap (λ (n : ℕ). n + length (cutAnswer c)) (length-reads (versionOf bs) (opening bs) b) in
     let i = length-cut c k (whole b) (omega arith) in
     (λ h. omega (arith, i .0 (rw n at h)), λ h. rw n (i .1 (omega arith)))

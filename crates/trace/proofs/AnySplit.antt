@@ -13,7 +13,7 @@ use Rattle.rules.specs.declared.Settings.{Settings}
 use Rattle.rules.specs.Run.{fresh}
 use Rattle.rules.proofs.Conditions.{counted-means}
 use Rattle.lines.specs.Line.{titleLine}
-use Rattle.trace.specs.Header.{guestsOf, ruleOf, body, settingsIn, headerOf}
+use Rattle.trace.specs.Header.{firstVersion, lastVersion, body, guestsOf, settingsIn, headerOf}
 use Rattle.trace.specs.Printed.{finished, begun, printedBy, printed}
 use Rattle.trace.specs.Reads.{joined, more, asRead, printedFirst, printedReads}
 use Rattle.trace.specs.declared.Header.{Header}
@@ -27,21 +27,21 @@ use Rattle.table.specs.Columns.{mostGuests}
 all-there : (h : Header) (bs : List ℕ) → printedFirst h bs [] ≡ printedBy h bs
 unfolding asRead
 all-there (Refused r) bs = refl
-all-there (Opened d n c) bs = refl
+all-there (Opened v d n c r) bs = refl
 
 -- where the events begin, the bytes behind the first read come in reads
-begun-more : (d n c : ℕ) (xs ys : List ℕ) → longest ≤ length xs → Opens xs d n c → more (begun d n c xs) ys ≡ begun d n c (xs ++ ys)
-begun-more d n c xs ys long o =
+begun-more : (v d n c r : ℕ) (xs ys : List ℕ) → longest ≤ length xs → Opens firstVersion lastVersion xs v d n c r → more (begun v d n c r xs) ys ≡ begun v d n c r (xs ++ ys)
+begun-more v d n c r xs ys long o =
     let few : guestsOf xs ≤ mostGuests = counted-means d (guestsOf xs) c .holds .0 (rw (o .guestsIs) at (o .counts)) .guest-count .1 in
-    ap (λ (l : List ℕ). record { bytes = l; table = fresh d c (ruleOf xs) (settingsIn xs); number = 0 }) (sym (drop-append-le (body n) xs ys (o .whole)))
-    ∙ ap (λ (ss : List Settings). record { bytes = drop (body n) (xs ++ ys); table = fresh d c (ruleOf xs) ss; number = 0 }) (sym (settings-same xs ys long few))
+    ap (λ (l : List ℕ). record { version = v; bytes = l; table = fresh d c r (settingsIn xs); number = 0 }) (sym (drop-append-le (body v n) xs ys (o .whole)))
+    ∙ ap (λ (ss : List Settings). record { version = v; bytes = drop (body v n) (xs ++ ys); table = fresh d c r ss; number = 0 }) (sym (settings-same xs ys long few))
 
 -- a first read that holds any header
 first-there : (xs : List ℕ) (rs : List (List ℕ)) → longest ≤ length xs → (h : Header) → headerOf xs ≡ h → printedFirst h xs rs ≡ printedBy h (xs ++ joined rs)
 first-there xs rs long (Refused r) e = refl
-first-there xs rs long (Opened d n c) e =
+first-there xs rs long (Opened v d n c r) e =
     ap (λ (l : List ℕ). titleLine ++ l)
-    (reads-joined rs (begun d n c xs) ∙ ap finished (begun-more d n c xs (joined rs) long (opened xs d n c e)))
+    (reads-joined rs (begun v d n c r xs) ∙ ap finished (begun-more v d n c r xs (joined rs) long (opened xs v d n c r e)))
 
 any-reads : (room : ℕ) → longest ≤ room → (rs : List (List ℕ)) (bs : List ℕ) → printedReads room bs rs ≡ printed (bs ++ joined rs)
 unfolding printedReads printed joined

@@ -1,5 +1,5 @@
 -- DEMAND 3 of the printed answers of a trace: at any event, a waiting request whose reservation is due goes by reservation, after exactly those that
--- stand before it. A trace of version 1 is one of rule 1. Words in quotes are demand 3's. Assumes nothing.
+-- stand before it, where the trace's rule is 1, as it is in version 1; and under rule 2 as document 02, K7, has it. Words in quotes are demand 3's. Assumes nothing.
 use Prim.Native.Nat.{ℕ, _*_, _≤_}
 use mathlib.Core.Path.{_≡_, refl, ap, _∙_}
 use mathlib.Core.Bool.{true}
@@ -11,10 +11,11 @@ use Rattle.rules.specs.declared.Event.{Event}
 use Rattle.rules.specs.Refused.{NoneHolds}
 use Rattle.rules.specs.Run.{step}
 use Rattle.rules.specs.Turn.{isDue, ahead, sorted, findsRoom, atFree, InTurn}
-use Rattle.rules.specs.TurnAt.{DueAt, InTurnAt}
+use Rattle.rules.specs.TurnAt.{TurnKept}
 use Rattle.rules.proofs.Demand3.{demand-3}
 use Rattle.rules.proofs.TurnAt.{demand-3-places}
 use Rattle.rules.specs.declared.Answer.{Answer}
+use Rattle.trace.specs.Header.{versionOf, ruleOf}
 use Rattle.trace.specs.Event.{whole}
 use Rattle.trace.specs.Printed.{answered, answersTo}
 use Rattle.trace.specs.Answers.{eventBytes, bytesAt, opening, tableAt, readsOf, cutAnswer, freeAnswers, freeFrom}
@@ -24,7 +25,7 @@ use Rattle.trace.specs.declared.Read.the-variants.{Good, Bad}
 use Rattle.trace.proofs.Runs.{run}
 use Rattle.trace.proofs.Answers.{answers-later}
 use Rattle.trace.proofs.LineExactly.{table-sound}
-use Rattle.trace.proofs.RuleOne.{rule-1}
+use Rattle.trace.proofs.RuleOne.{rule-kept}
 
 -- one event
 free-event : (t : Table) (e : Event) (l m : List Answer) → l ≡ m
@@ -39,23 +40,22 @@ free-run (Good e ∷ rs) t more = free-event t e _ _ (free-run rs (step t e .tab
 free-run (Bad ∷ rs) t more = free-run rs t more
 
 -- the answers of a trace from event k on
-free-from : (bs : List ℕ) (k : ℕ) → k ≤ whole (eventBytes bs) → freeFrom bs k ≡ atFree (tableAt bs k) (run (readsOf (bytesAt bs k)))
+free-from : (bs : List ℕ) (k : ℕ) → k ≤ whole (eventBytes bs) → freeFrom bs k ≡ atFree (tableAt bs k) (run (readsOf (versionOf bs) (bytesAt bs k)))
 free-from bs k h =
     let b = bytesAt bs k in
-    ap (freeAnswers (tableAt bs k) (readsOf b)) (answers-later (opening bs) (eventBytes bs) k h)
-    ∙ free-run (readsOf b) (tableAt bs k) (cutAnswer (drop (whole b * 14) b))
+    ap (freeAnswers (tableAt bs k) (readsOf (versionOf bs) b)) (answers-later (versionOf bs) (opening bs) (eventBytes bs) k h)
+    ∙ free-run (readsOf (versionOf bs) b) (tableAt bs k) (cutAnswer (drop (whole b * 14) b))
 
 -- "the accepted events that find a place free at the array .. send exactly those k first, then this request at the (k+1)th, each by reservation": x waits
 -- and is due when event i comes, with those of a accepted before it and those of b after it
-pub trace-demand-3 : (bs : List ℕ) → NoneHolds (headerCases bs) → (i : ℕ) → i ≤ whole (eventBytes bs) → (a b : List Request) (x : Request)
+pub trace-demand-3 : (bs : List ℕ) → NoneHolds (headerCases bs) → ruleOf bs ≡ 1 → (i : ℕ) → i ≤ whole (eventBytes bs) → (a b : List Request) (x : Request)
     → tableAt bs i .waiting ≡ a ++ x ∷ b → isDue (tableAt bs i) x ≡ true
     → (those : List Request) × (those ≡ sorted (ahead (tableAt bs i) x a b)) × List·Permᴰ those (ahead (tableAt bs i) x a b)
     × (length those ≡ length (ahead (tableAt bs i) x a b)) × InTurn those x (freeFrom bs i)
-trace-demand-3 bs good i h a b x w due =
-    let d = demand-3 (tableAt bs i) a b x (run (readsOf (bytesAt bs i))) (table-sound bs good i) (rule-1 bs i) w due in
+trace-demand-3 bs good one i h a b x w due =
+    let d = demand-3 (tableAt bs i) a b x (run (readsOf (versionOf bs) (bytesAt bs i))) (table-sound bs good i) (rule-kept bs i ∙ one) w due in
     (d .0, d .1, d .2, d .3, rw (free-from bs i h) (d .4))
 
--- The same by places: the request at place i of those that wait is due when event k comes.
-pub trace-demand-3-places : (bs : List ℕ) → NoneHolds (headerCases bs) → (k : ℕ) → k ≤ whole (eventBytes bs) → (i : ℕ) → DueAt (tableAt bs k) i
-    → InTurnAt (tableAt bs k) i (freeFrom bs k)
-trace-demand-3-places bs good k h i d = rw (free-from bs k h) (demand-3-places (tableAt bs k) i (run (readsOf (bytesAt bs k))) (table-sound bs good k) .rule-1 (rule-1 bs k) d)
+-- The same by places, under the rule of the trace: the request at place i of those that wait is due when event k comes.
+pub trace-demand-3-places : (bs : List ℕ) → NoneHolds (headerCases bs) → (k : ℕ) → k ≤ whole (eventBytes bs) → (i : ℕ) → TurnKept (tableAt bs k) i (freeFrom bs k)
+trace-demand-3-places bs good k h i = rw (free-from bs k h) (demand-3-places (tableAt bs k) i (run (readsOf (versionOf bs) (bytesAt bs k))) (table-sound bs good k))

@@ -10,8 +10,8 @@ use Rattle.rules.specs.Choice.{dueAt, openAt, passesAt, sending, earlier, soone
 use Rattle.rules.specs.Events.{shifted, shiftedNext, adjusted, back, shareTag, stamped, following, placed, arriveAs, arrive, complete, wait, enter}
 use Rattle.rules.specs.Refusals.{eventTests}
 use Rattle.rules.specs.Run.{decided, step, fresh}
-use Rattle.trace.specs.Header.{same, headerTests}
-use Rattle.trace.specs.Event.{eventFrom, eventOf, eventsOf}
+use Rattle.trace.specs.Header.{same, body, ruleIn, creditAt, headerTestsFor}
+use Rattle.trace.specs.Event.{kindIn, upperIn, eventFrom, eventOf, eventsOf}
 use Rattle.lines.specs.Line.{decimalIn, lineOf, traceRefused, refusalLine, titleLine}
 use Rattle.trace.specs.Printed.{answered, answersTo, tableAfter, linesFrom, lines, left, cut, finished, printed}
 
@@ -49,7 +49,7 @@ text =
 
 -- document 01's example, byte by byte
 pub example-printed : printed example ≡ text
-unfolding lowest down up idle counted settled ranges distinct lawful fair kept orderly sound ruled dueAt openAt passesAt sending earlier sooner dropped byWeight byReservation room choice shifted shiftedNext adjusted back shareTag stamped following placed arriveAs arrive complete wait enter eventTests decided step fresh same headerTests eventFrom eventOf eventsOf decimalIn lineOf answered answersTo tableAfter linesFrom lines left cut finished printed
+unfolding lowest down up idle counted settled ranges distinct lawful fair kept orderly sound ruled dueAt openAt passesAt sending earlier sooner dropped byWeight byReservation room choice shifted shiftedNext adjusted back shareTag stamped following placed arriveAs arrive complete wait enter eventTests decided step fresh same body ruleIn creditAt headerTestsFor kindIn upperIn eventFrom eventOf eventsOf decimalIn lineOf answered answersTo tableAfter linesFrom lines left cut finished printed
 example-printed = refl
 
 -- HEADERS AND EVENTS THAT ARE REFUSED
@@ -87,7 +87,7 @@ pub record Refusals : Type 0 where
 
 -- and they are so printed
 pub refusals : Refusals
-unfolding counted settled same headerTests eventFrom eventOf eventsOf decimalIn lineOf refusalLine answered answersTo tableAfter linesFrom lines left cut finished printed
+unfolding counted ruled settled same body ruleIn creditAt headerTestsFor kindIn upperIn eventFrom eventOf eventsOf decimalIn lineOf refusalLine answered answersTo tableAfter linesFrom lines left cut finished printed
 refusals =
     record {
       nothing-there = refl;

@@ -14,7 +14,7 @@ use Rattle.lists.specs.WordsLaws.{all-each}
 use Rattle.lists.specs.Tab.{length-tab}
 use Rattle.rules.specs.Tables.{Table}
 use Rattle.rules.specs.Answers.{shown, taken}
-use Rattle.rules.specs.Sound.{ruled, sound}
+use Rattle.rules.specs.Sound.{sound}
 use Rattle.rules.specs.declared.Event.{Event}
 use Rattle.rules.specs.declared.Event.the-variants.{Arrival, Completion, Tick}
 use Rattle.rules.specs.Refusals.{Test, Verdict, accept, refuse, judged, eventTests, openTests, verdict}
@@ -31,8 +31,8 @@ use Rattle.rules.specs.declared.Refusal.the-variants.{BadEvent, EventCut}
 use Rattle.rules.specs.declared.Answer.{Answer}
 use Rattle.rules.specs.declared.Answer.the-variants.{Refused}
 use Rattle.trace.specs.Little.{byteAt, fourAt, eightAt}
-use Rattle.trace.specs.Header.{depthOf, guestsOf, capacityOf, ruleOf, settingsAt, settingsIn, headerBy}
-use Rattle.trace.specs.Event.{eventFrom, eventOf, eventsOf}
+use Rattle.trace.specs.Header.{versionOf, depthOf, guestsOf, capacityOf, ruleOf, settingsAt, settingsIn, headerBy}
+use Rattle.trace.specs.Event.{kindIn, upperIn, eventFrom, eventOf, eventsOf}
 use Rattle.trace.specs.Printed.{answered}
 use Rattle.trace.specs.Answers.{byEvent, eventBytes, bytesAt, opening, tableAt, answerAt}
 use Rattle.trace.specs.Cases.{headerCases, Faulty, lineCases}
@@ -50,41 +50,44 @@ abbrev isBad : Read → Bool
 isBad = byEvent true (λ e. false)
 
 -- the tests of the event at the front of the bytes, at the table t
-abbrev lineTests : Table → List ℕ → List Test
-lineTests t bs =
+abbrev lineTests : (version : ℕ) → Table → List ℕ → List Test
+lineTests v t bs =
     record { refusal = EventCut; holds = ltb (length bs) 14 }
-    ∷ record { refusal = BadEvent; holds = isBad (eventOf bs) }
-    ∷ byEvent [] (eventTests t) (eventOf bs)
+    ∷ record { refusal = BadEvent; holds = isBad (eventOf v bs) }
+    ∷ byEvent [] (eventTests t) (eventOf v bs)
 
--- "event kind above 2, or a tick with non-zero guest or id"
-bad-is : (k g i t : ℕ) → (isBad (eventFrom k g i t) ≡ true) ↔ ((2 < k) ⊎ ((k ≡ 2) × ((0 < g) ⊎ (0 < i))))
+-- "event kind above 2, or a tick with non-zero guest or id", and by K9 "a non-zero upper part"
+bad-is : (k u g i t : ℕ) → (isBad (eventFrom k u g i t) ≡ true) ↔ ((2 < k) ⊎ ((0 < k) × (0 < u)) ⊎ ((k ≡ 2) × ((0 < g) ⊎ (0 < i))))
 unfolding eventFrom
-bad-is zero g i t = (λ e. absurd (false≢true e), λ p. absurd (⊎-elim (λ h. omega arith) (λ h. omega (arith, h .0)) p))
-bad-is (suc zero) g i t = (λ e. absurd (false≢true e), λ p. absurd (⊎-elim (λ h. omega arith) (λ h. omega (arith, h .0)) p))
-bad-is (suc (suc zero)) zero zero t =
-    (λ e. absurd (false≢true e), λ p. absurd (⊎-elim (λ h. omega arith) (λ h. ⊎-elim (λ u. omega arith) (λ u. omega arith) (h .1)) p))
-bad-is (suc (suc zero)) zero (suc i) t = (λ e. inr (refl, inr (omega arith)), λ p. simp (ne-eqb (suc i) 0 (λ e. omega arith)))
-bad-is (suc (suc zero)) (suc g) i t = (λ e. inr (refl, inl (omega arith)), λ p. simp (ne-eqb (suc g) 0 (λ e. omega arith)))
-bad-is (suc (suc (suc k))) g i t =
+bad-is zero u g i t = (λ e. absurd (false≢true e), λ p. absurd (⊎-elim (λ h. omega arith) (⊎-elim (λ h. omega (arith, h .0)) (λ h. omega (arith, h .0))) p))
+bad-is (suc zero) zero g i t =
+    (λ e. absurd (false≢true e), λ p. absurd (⊎-elim (λ h. omega arith) (⊎-elim (λ h. omega (arith, h .1)) (λ h. omega (arith, h .0))) p))
+bad-is (suc zero) (suc u) g i t = (λ e. inr (inl (omega arith, omega arith)), λ p. simp (ne-eqb (suc u) 0 (λ e. omega arith)))
+bad-is (suc (suc zero)) (suc u) g i t = (λ e. inr (inl (omega arith, omega arith)), λ p. simp (ne-eqb (suc u) 0 (λ e. omega arith)))
+bad-is (suc (suc zero)) zero zero zero t =
+    (λ e. absurd (false≢true e), λ p. absurd (⊎-elim (λ h. omega arith) (⊎-elim (λ h. omega (arith, h .1)) (λ h. ⊎-elim (λ u. omega arith) (λ u. omega arith) (h .1))) p))
+bad-is (suc (suc zero)) zero zero (suc i) t = (λ e. inr (inr (refl, inr (omega arith))), λ p. simp (ne-eqb (suc i) 0 (λ e. omega arith)))
+bad-is (suc (suc zero)) zero (suc g) i t = (λ e. inr (inr (refl, inl (omega arith))), λ p. simp (ne-eqb (suc g) 0 (λ e. omega arith)))
+bad-is (suc (suc (suc k))) u g i t =
     let n = suc (suc (suc k)) in
     (λ e. inl (omega arith), λ p. simp (ne-eqb n 0 (λ e. omega arith), ne-eqb n 1 (λ e. omega arith), ne-eqb n 2 (λ e. omega arith)))
 
-faulty-is : (bs : List ℕ) → (isBad (eventOf bs) ≡ true) ↔ Faulty bs
+pub faulty-is : (v : ℕ) (bs : List ℕ) → (isBad (eventOf v bs) ≡ true) ↔ Faulty v bs
 unfolding eventOf
-faulty-is bs = bad-is (byteAt bs 0) (byteAt bs 1) (fourAt bs 2) (eightAt bs 6)
+faulty-is v bs = bad-is (kindIn v (byteAt bs 0)) (upperIn v (byteAt bs 0)) (byteAt bs 1) (fourAt bs 2) (eightAt bs 6)
 
-module _ (t : Table) (s : sound t ≡ true) where
+module _ (v : ℕ) (t : Table) (s : sound t ≡ true) where
   -- the event that was read
   read-tested : (r : Read) → Tested (byEvent [] (eventTests t) r) (byEvent [] (eventCases t) r)
   read-tested (Good e) = event-tested t e s
   read-tested Bad = end
 
-  line-tested : (bs : List ℕ) → Tested (lineTests t bs) (lineCases t bs)
+  line-tested : (bs : List ℕ) → Tested (lineTests v t bs) (lineCases v t bs)
   unfolding lineCases
   line-tested bs =
       less (length bs) 14 .holds
-      and faulty-is bs
-      and read-tested (eventOf bs)
+      and faulty-is v bs
+      and read-tested (eventOf v bs)
 
   -- THE ANSWER follows from these tests
 
@@ -96,15 +99,15 @@ module _ (t : Table) (s : sound t ≡ true) where
   read-follows (Good e) = own-follows e
   read-follows Bad = refl
 
-  line-follows : (bs : List ℕ) → Follows (judged (lineTests t bs)) (if ltb (length bs) 14 then Refused EventCut else answered t (eventOf bs) .answer)
+  line-follows : (bs : List ℕ) → Follows (judged (lineTests v t bs)) (if ltb (length bs) 14 then Refused EventCut else answered t (eventOf v bs) .answer)
   line-follows bs = go (ltb (length bs) 14)
     where
       behind : Verdict
-      behind = judged (record { refusal = BadEvent; holds = isBad (eventOf bs) } ∷ byEvent [] (eventTests t) (eventOf bs))
+      behind = judged (record { refusal = BadEvent; holds = isBad (eventOf v bs) } ∷ byEvent [] (eventTests t) (eventOf v bs))
 
-      go : (b : Bool) → Follows (if b then refuse EventCut else behind) (if b then Refused EventCut else answered t (eventOf bs) .answer)
+      go : (b : Bool) → Follows (if b then refuse EventCut else behind) (if b then Refused EventCut else answered t (eventOf v bs) .answer)
       go true = refl
-      go false = read-follows (eventOf bs)
+      go false = read-follows (eventOf v bs)
 
 -- every number of a line is above 3
 read-above : (t : Table) (r : Read) → all (ltb 3) (map Case.number (byEvent [] (eventCases t) r)) ≡ true
@@ -114,41 +117,42 @@ read-above t (Good (Completion f now)) = refl
 read-above t (Good (Tick now)) = refl
 read-above t Bad = refl
 
-line-above : (t : Table) (bs : List ℕ) → all (ltb 3) (map Case.number (lineCases t bs)) ≡ true
+line-above : (v : ℕ) (t : Table) (bs : List ℕ) → all (ltb 3) (map Case.number (lineCases v t bs)) ≡ true
 unfolding lineCases
-line-above t bs = read-above t (eventOf bs)
+line-above v t bs = read-above t (eventOf v bs)
 
 -- A TRACE WITH A GOOD HEADER
 
 module _ (bs : List ℕ) (good : NoneHolds (headerCases bs)) where
   opening-sound : sound (opening bs) ≡ true
-  unfolding openTests ruled
+  unfolding openTests
   opening-sound =
-      let o = opened bs (depthOf bs) (guestsOf bs) (capacityOf bs) (ap (λ (v : Verdict). headerBy v bs) (header-good bs good)) in
-      let ok : judged (openTests false (depthOf bs) (guestsOf bs) (capacityOf bs) (ruleOf bs) (settingsIn bs)) ≡ accept = rw (o .counts, o .settings) refl in
-      fresh-sound false (depthOf bs) (guestsOf bs) (capacityOf bs) (ruleOf bs) (settingsIn bs) ok (length-tab (guestsOf bs) (settingsAt bs))
+      let o = opened bs (versionOf bs) (depthOf bs) (guestsOf bs) (capacityOf bs) (ruleOf bs) (ap (λ (v : Verdict). headerBy v bs) (header-good bs good)) in
+      let ok : judged (openTests false (depthOf bs) (guestsOf bs) (capacityOf bs) (ruleOf bs) (settingsIn bs)) ≡ accept = rw (o .counts, o .rules, o .settings) refl in
+      fresh-sound false (depthOf bs) (guestsOf bs) (capacityOf bs) (ruleOf bs) (settingsIn bs) ok (length-tab (guestsOf bs) (settingsAt (versionOf bs) bs))
 
   -- every event finds a sound table
   pub table-sound : (k : ℕ) → sound (tableAt bs k) ≡ true
   table-sound k =
-      let es = eventsOf k (eventBytes bs) in
+      let es = eventsOf (versionOf bs) k (eventBytes bs) in
       ap sound (table-run (opening bs) es) ∙ run-sound (run es) (opening bs) opening-sound
 
   -- what the line of event k shows, where a byte of it is there
   pub line-exactly : (k : ℕ) → k * 14 < length (eventBytes bs)
-      → RefusedExactly (lineCases (tableAt bs k) (bytesAt bs k)) (λ n. shown (answerAt bs k) ≡ X n) (taken (answerAt bs k) ≡ true)
+      → RefusedExactly (lineCases (versionOf bs) (tableAt bs k) (bytesAt bs k)) (λ n. shown (answerAt bs k) ≡ X n) (taken (answerAt bs k) ≡ true)
   line-exactly k h =
+      let v = versionOf bs in
       let t = tableAt bs k in
       let b = bytesAt bs k in
       let l : length b ≡ length (eventBytes bs) - k * 14 = length-drop (k * 14) (eventBytes bs) in
-      let a = answer-there (opening bs) (eventBytes bs) k (omega arith) ∙ first-answer t b (omega arith) in
-      exactly (line-tested t (table-sound k) b)
-      (subst (λ (x : Answer). Tells (judged (lineTests t b)) (λ n. shown x ≡ X n) (taken x ≡ true)) (sym a)
-      (shown-tells (judged (lineTests t b)) (if ltb (length b) 14 then Refused EventCut else answered t (eventOf b) .answer) (line-follows t (table-sound k) b)))
+      let a = answer-there v (opening bs) (eventBytes bs) k (omega arith) ∙ first-answer v t b (omega arith) in
+      exactly (line-tested v t (table-sound k) b)
+      (subst (λ (x : Answer). Tells (judged (lineTests v t b)) (λ n. shown x ≡ X n) (taken x ≡ true)) (sym a)
+      (shown-tells (judged (lineTests v t b)) (if ltb (length b) 14 then Refused EventCut else answered t (eventOf v b) .answer) (line-follows v t (table-sound k) b)))
 
   -- no line of an event ever shows 1, 2 or 3
   pub line-numbers : (k : ℕ) → k * 14 < length (eventBytes bs) → (n : ℕ) → shown (answerAt bs k) ≡ X n → 3 < n
   line-numbers k h n e =
-      let cases = lineCases (tableAt bs k) (bytesAt bs k) in
+      let cases = lineCases (versionOf bs) (tableAt bs k) (bytesAt bs k) in
       let m = listed cases n (line-exactly k h .number n .0 e) in
-      ltb-true 3 n (all-each (ltb 3) (map Case.number cases) (line-above (tableAt bs k) (bytesAt bs k)) n m)
+      ltb-true 3 n (all-each (ltb 3) (map Case.number cases) (line-above (versionOf bs) (tableAt bs k) (bytesAt bs k)) n m)

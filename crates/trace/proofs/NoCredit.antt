@@ -10,7 +10,7 @@ use Rattle.rules.specs.declared.Settings.{Settings}
 use Rattle.rules.specs.declared.Guest.{Guest}
 use Rattle.rules.specs.Run.{newcomer, fresh}
 use Rattle.rules.proofs.SameSettings.{SameSettings, run-settings, same-owner}
-use Rattle.trace.specs.Header.{guestsOf, settingsAt, settingsIn}
+use Rattle.trace.specs.Header.{versionOf, guestsOf, creditAt, settingsAt, settingsIn}
 use Rattle.trace.specs.Event.{eventsOf}
 use Rattle.trace.specs.Printed.{tableAfter}
 use Rattle.trace.specs.Answers.{eventBytes, opening, tableAt}
@@ -23,15 +23,15 @@ none-has (suc n) f h zero = h zero
 none-has (suc n) f h (suc g) = none-has n (λ k. f (suc k)) (λ k. h (suc k)) g
 
 -- so it is of the table that the header opens
-opens-without : (bs : List ℕ) (g : ℕ) → (owner ((opening bs) .guests) g) .settings .credit ≡ 0
-unfolding fresh
-opens-without bs g =
+opens-without : (bs : List ℕ) → versionOf bs ≡ 1 → (g : ℕ) → (owner ((opening bs) .guests) g) .settings .credit ≡ 0
+unfolding fresh creditAt
+opens-without bs one g =
     ap (λ (h : Guest). h .settings .credit) (List·getD-map newcomer (settingsIn bs) g (nobodys .settings))
-    ∙ none-has (guestsOf bs) (settingsAt bs) (λ k. refl) g
+    ∙ none-has (guestsOf bs) (settingsAt (versionOf bs) bs) (λ k. rw one refl) g
 
 -- and of the table that event k finds
-pub no-credit : (bs : List ℕ) (k g : ℕ) → (owner ((tableAt bs k) .guests) g) .settings .credit ≡ 0
-no-credit bs k g =
-    let es = eventsOf k (eventBytes bs) in
+pub no-credit : (bs : List ℕ) → versionOf bs ≡ 1 → (k g : ℕ) → (owner ((tableAt bs k) .guests) g) .settings .credit ≡ 0
+no-credit bs one k g =
+    let es = eventsOf (versionOf bs) k (eventBytes bs) in
     let same = subst (λ (u : Table). SameSettings u (opening bs)) (sym (table-run (opening bs) es)) (run-settings (run es) (opening bs)) in
-    ap Settings.credit (same-owner (tableAt bs k) (opening bs) same g) ∙ opens-without bs g
+    ap Settings.credit (same-owner (tableAt bs k) (opening bs) same g) ∙ opens-without bs one g

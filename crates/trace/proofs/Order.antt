@@ -13,6 +13,7 @@ use Rattle.rules.specs.Run.{step, fresh}
 use Rattle.rules.proofs.InOrder.{step-waits}
 use Rattle.rules.proofs.Answered.{step-taken}
 use Rattle.rules.specs.declared.Answer.{Answer}
+use Rattle.trace.specs.Header.{versionOf}
 use Rattle.trace.specs.Event.{whole}
 use Rattle.trace.specs.Printed.{answered, answersTo, tableAfter}
 use Rattle.trace.specs.Answers.{byEvent, eventBytes, opening, tableAt, readsOf, cutAnswer, answersOf, acceptedIds}
@@ -57,10 +58,10 @@ module _ (g : ℕ) where
 
   -- Of each guest, over a whole trace: what was accepted is, in this order, what left and what still waits.
   pub trace-in-order : (bs : List ℕ)
-      → acceptedIds g (readsOf (eventBytes bs)) (answersOf bs) ≡ left g (answersOf bs) ++ waits g (tableAt bs (whole (eventBytes bs)))
+      → acceptedIds g (readsOf (versionOf bs) (eventBytes bs)) (answersOf bs) ≡ left g (answersOf bs) ++ waits g (tableAt bs (whole (eventBytes bs)))
   unfolding fresh
   trace-in-order bs =
       let b = eventBytes bs in
       let rest = cutAnswer (drop (whole b * 14) b) in
-      run-waits (readsOf b) (opening bs) rest
-      ∙ ap (_++ waits g (tableAt bs (whole b))) (sym (cut-sends (answersTo (opening bs) (readsOf b)) (drop (whole b * 14) b)))
+      run-waits (readsOf (versionOf bs) b) (opening bs) rest
+      ∙ ap (_++ waits g (tableAt bs (whole b))) (sym (cut-sends (answersTo (opening bs) (readsOf (versionOf bs) b)) (drop (whole b * 14) b)))

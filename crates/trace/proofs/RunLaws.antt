@@ -48,15 +48,15 @@ lines-runs n t xs ys =
 
 -- ONE EVENT MORE of the bytes, as a loop goes over them
 
-pub table-more : (t : Table) (k : ℕ) (bs : List ℕ) → tableAfter t (eventsOf (k + 1) bs) ≡ answered (tableAfter t (eventsOf k bs)) (eventOf (drop (k * 14) bs)) .table
+pub table-more : (v : ℕ) (t : Table) (k : ℕ) (bs : List ℕ) → tableAfter t (eventsOf v (k + 1) bs) ≡ answered (tableAfter t (eventsOf v k bs)) (eventOf v (drop (k * 14) bs)) .table
 unfolding tableAfter
-table-more t k bs = ap (tableAfter t) (events-snoc k bs) ∙ table-append t (eventsOf k bs) (eventOf (drop (k * 14) bs) ∷ [])
+table-more v t k bs = ap (tableAfter t) (events-snoc v k bs) ∙ table-append t (eventsOf v k bs) (eventOf v (drop (k * 14) bs) ∷ [])
 
-pub lines-more : (n : ℕ) (t : Table) (k : ℕ) (bs : List ℕ)
-    → linesFrom n (answersTo t (eventsOf (k + 1) bs)) ≡ linesFrom n (answersTo t (eventsOf k bs)) ++ lineOf (n + k + 1) (answered (tableAfter t (eventsOf k bs)) (eventOf (drop (k * 14) bs)) .answer)
+pub lines-more : (v n : ℕ) (t : Table) (k : ℕ) (bs : List ℕ)
+    → linesFrom n (answersTo t (eventsOf v (k + 1) bs)) ≡ linesFrom n (answersTo t (eventsOf v k bs)) ++ lineOf (n + k + 1) (answered (tableAfter t (eventsOf v k bs)) (eventOf v (drop (k * 14) bs)) .answer)
 unfolding answersTo linesFrom
-lines-more n t k bs =
-    ap (λ (es : List Read). linesFrom n (answersTo t es)) (events-snoc k bs)
-    ∙ lines-runs n t (eventsOf k bs) (eventOf (drop (k * 14) bs) ∷ [])
-    ∙ ap (λ (j : ℕ). linesFrom n (answersTo t (eventsOf k bs)) ++ (lineOf (n + j + 1) (answered (tableAfter t (eventsOf k bs)) (eventOf (drop (k * 14) bs)) .answer) ++ [])) (length-events k bs)
-    ∙ ap (λ (l : List ℕ). linesFrom n (answersTo t (eventsOf k bs)) ++ l) (append-nil _)
+lines-more v n t k bs =
+    ap (λ (es : List Read). linesFrom n (answersTo t es)) (events-snoc v k bs)
+    ∙ lines-runs n t (eventsOf v k bs) (eventOf v (drop (k * 14) bs) ∷ [])
+    ∙ ap (λ (j : ℕ). linesFrom n (answersTo t (eventsOf v k bs)) ++ (lineOf (n + j + 1) (answered (tableAfter t (eventsOf v k bs)) (eventOf v (drop (k * 14) bs)) .answer) ++ [])) (length-events v k bs)
+    ∙ ap (λ (l : List ℕ). linesFrom n (answersTo t (eventsOf v k bs)) ++ l) (append-nil _)

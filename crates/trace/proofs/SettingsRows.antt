@@ -21,10 +21,10 @@ use Rattle.trace.specs.Header.{settingsAt}
 settings-exact : Exact settingsForm
 settings-exact = record { some = lit< tt; size = λ a. refl; back = λ a. refl; forth = λ v. refl }
 
-module _ (bs old : List ℕ) where
+module _ (v : ℕ) (bs old : List ℕ) where
   -- the list once k guests are in
   abbrev pub filled : ℕ → List ℕ
-  filled k = overRows settingsForm k (tab k (settingsAt bs)) old
+  filled k = overRows settingsForm k (tab k (settingsAt v bs)) old
 
   -- before the first it is as it was
   pub filled-none : filled 0 ≡ old
@@ -33,17 +33,17 @@ module _ (bs old : List ℕ) where
 
   -- it is as long as before
   pub length-filled : (k : ℕ) → length (filled k) ≡ length old
-  length-filled k = length-over-rows settingsForm settings-exact k (tab k (settingsAt bs)) old
+  length-filled k = length-over-rows settingsForm settings-exact k (tab k (settingsAt v bs)) old
 
   -- one guest more
   pub filled-next : (k : ℕ) → k * settingsWide + settingsWide ≤ length old
-      → stores (λ j. k * settingsWide + j) (λ j. getD (settingsForm .line (settingsAt bs k)) j 0) settingsWide (filled k) ≡ filled (k + 1)
+      → stores (λ j. k * settingsWide + j) (λ j. getD (settingsForm .line (settingsAt v bs k)) j 0) settingsWide (filled k) ≡ filled (k + 1)
   filled-next k room =
-      row-next settingsForm settings-exact k (tab k (settingsAt bs)) (settingsAt bs k) old (length-tab k (settingsAt bs)) room
-      ∙ ap (λ (l : List Settings). overRows settingsForm (k + 1) l old) (sym (tab-snoc k (settingsAt bs)) ∙ ap (λ (n : ℕ). tab n (settingsAt bs)) (sym (add-one k)))
+      row-next settingsForm settings-exact k (tab k (settingsAt v bs)) (settingsAt v bs k) old (length-tab k (settingsAt v bs)) room
+      ∙ ap (λ (l : List Settings). overRows settingsForm (k + 1) l old) (sym (tab-snoc k (settingsAt v bs)) ∙ ap (λ (n : ℕ). tab n (settingsAt v bs)) (sym (add-one k)))
 
   -- all guests are read again
-  pub settings-rows : (n : ℕ) → n * settingsWide ≤ length old → rowsOf settingsForm (filled n) n ≡ tab n (settingsAt bs)
+  pub settings-rows : (n : ℕ) → n * settingsWide ≤ length old → rowsOf settingsForm (filled n) n ≡ tab n (settingsAt v bs)
   settings-rows n room =
-      ap (rowsOf settingsForm (filled n)) (sym (length-tab n (settingsAt bs)))
-      ∙ rows-over settingsForm settings-exact n (tab n (settingsAt bs)) old room (omega (arith, length-tab n (settingsAt bs)))
+      ap (rowsOf settingsForm (filled n)) (sym (length-tab n (settingsAt v bs)))
+      ∙ rows-over settingsForm settings-exact n (tab n (settingsAt v bs)) old room (omega (arith, length-tab n (settingsAt v bs)))

@@ -21,9 +21,9 @@ at n l = getD l n 0
 -- two headers that are shown alike are equal
 pub header-shown-once : (a b : Header) → headerShown a ≡ headerShown b → a ≡ b
 unfolding at
-header-shown-once (Opened d n c) (Opened e m k) h = λ i. Opened (ap (at 1) h i) (ap (at 2) h i) (ap (at 3) h i)
-header-shown-once (Opened d n c) (Refused s) h = absurd (omega (arith, ap length h))
-header-shown-once (Refused r) (Opened e m k) h = absurd (omega (arith, ap length h))
+header-shown-once (Opened v d n c r) (Opened w e m k s) h = λ i. Opened (ap (at 1) h i) (ap (at 2) h i) (ap (at 3) h i) (ap (at 4) h i) (ap (at 5) h i)
+header-shown-once (Opened v d n c r) (Refused s) h = absurd (omega (arith, ap length h))
+header-shown-once (Refused r) (Opened w e m k s) h = absurd (omega (arith, ap length h))
 header-shown-once (Refused r) (Refused s) h = ap Refused (numberOf-once r s (ap (at 0) h))
 
 -- two events that are shown alike are equal

@@ -30,12 +30,12 @@ module _ (xs ys : List ℕ) where
   past : drop (whole xs * 14) (xs ++ ys) ≡ rest
   past = drop-append-le (whole xs * 14) xs ys fits
 
-  pub events-split : eventsOf (whole (xs ++ ys)) (xs ++ ys) ≡ eventsOf (whole xs) xs ++ eventsOf (whole rest) rest
-  events-split =
-      ap (λ (k : ℕ). eventsOf k (xs ++ ys)) count-split
-      ∙ events-add (whole xs) (whole rest) (xs ++ ys)
-      ∙ ap (λ (l : List Read). l ++ eventsOf (whole rest) (drop (whole xs * 14) (xs ++ ys))) (events-append (whole xs) xs ys fits)
-      ∙ ap (λ (l : List ℕ). eventsOf (whole xs) xs ++ eventsOf (whole rest) l) past
+  pub events-split : (v : ℕ) → eventsOf v (whole (xs ++ ys)) (xs ++ ys) ≡ eventsOf v (whole xs) xs ++ eventsOf v (whole rest) rest
+  events-split v =
+      ap (λ (k : ℕ). eventsOf v k (xs ++ ys)) count-split
+      ∙ events-add v (whole xs) (whole rest) (xs ++ ys)
+      ∙ ap (λ (l : List Read). l ++ eventsOf v (whole rest) (drop (whole xs * 14) (xs ++ ys))) (events-append v (whole xs) xs ys fits)
+      ∙ ap (λ (l : List ℕ). eventsOf v (whole xs) xs ++ eventsOf v (whole rest) l) past
 
   pub rest-split : drop (whole (xs ++ ys) * 14) (xs ++ ys) ≡ drop (whole rest * 14) rest
   rest-split =
@@ -49,9 +49,9 @@ module _ (xs ys : List ℕ) where
 lines-split : (p : Place) (ys : List ℕ) → lines (more p ys) ≡ lines p ++ lines (more (left p) ys)
 unfolding lines left
 lines-split p ys =
-    ap (λ (es : List Read). linesFrom (p .number) (answersTo (p .table) es)) (events-split (p .bytes) ys)
+    ap (λ (es : List Read). linesFrom (p .number) (answersTo (p .table) es)) (events-split (p .bytes) ys (p .version))
     ∙ lines-runs (p .number) (p .table) (events p) (events (more (left p) ys))
-    ∙ ap (λ (k : ℕ). linesFrom (p .number) (answersTo (p .table) (events p)) ++ linesFrom (p .number + k) (answersTo (tableAfter (p .table) (events p)) (events (more (left p) ys)))) (length-events (whole (p .bytes)) (p .bytes))
+    ∙ ap (λ (k : ℕ). linesFrom (p .number) (answersTo (p .table) (events p)) ++ linesFrom (p .number + k) (answersTo (tableAfter (p .table) (events p)) (events (more (left p) ys)))) (length-events (p .version) (whole (p .bytes)) (p .bytes))
 
 -- at the end of the input
 finished-split : (p : Place) (ys : List ℕ) → finished (more p ys) ≡ lines p ++ finished (more (left p) ys)
@@ -70,5 +70,5 @@ unfolding asRead joined
 reads-joined [] p = rw append-nil
 reads-joined (r ∷ rs) p =
     ap (λ (l : List ℕ). lines p ++ l) (reads-joined rs (more (left p) r))
-    ∙ ap (λ (l : List ℕ). lines p ++ finished (record { bytes = l; table = left p .table; number = left p .number })) (append-assoc (left p .bytes) r (joined rs))
+    ∙ ap (λ (l : List ℕ). lines p ++ finished (record { version = left p .version; bytes = l; table = left p .table; number = left p .number })) (append-assoc (left p .bytes) r (joined rs))
     ∙ sym (finished-split p (r ++ joined rs))

@@ -10,6 +10,7 @@ use Rattle.rules.specs.declared.Answer.{Answer}
 use Rattle.worth.specs.Worth.{Worth}
 use Rattle.worth.proofs.Worth.{limit-worth}
 use Rattle.trace.specs.Event.{whole}
+use Rattle.trace.specs.Header.{versionOf}
 use Rattle.trace.specs.Printed.{answered, answersTo}
 use Rattle.trace.specs.Answers.{eventBytes, bytesAt, opening, tableAt, readsOf, cutAnswer, toEvents, answersAfter}
 use Rattle.trace.specs.Cases.{headerCases}
@@ -28,8 +29,9 @@ to-run (Bad ∷ rs) t more = to-run rs t more
 
 -- of a trace with a good header, from event k on, counted from 0
 pub trace-worth : (bs : List ℕ) → NoneHolds (headerCases bs) → (k : ℕ) → k ≤ whole (eventBytes bs)
-    → Worth (tableAt bs k) (run (readsOf (bytesAt bs k))) (answersAfter bs k)
+    → Worth (tableAt bs k) (run (readsOf (versionOf bs) (bytesAt bs k))) (answersAfter bs k)
 trace-worth bs good k h =
     let b = bytesAt bs k in
-    rw (answers-later (opening bs) (eventBytes bs) k h, to-run (readsOf b) (tableAt bs k) (cutAnswer (drop (whole b * 14) b)))
-    (limit-worth (tableAt bs k) (run (readsOf b)) (table-sound bs good k))
+    let rs = readsOf (versionOf bs) b in
+    rw (answers-later (versionOf bs) (opening bs) (eventBytes bs) k h, to-run rs (tableAt bs k) (cutAnswer (drop (whole b * 14) b)))
+    (limit-worth (tableAt bs k) (run rs) (table-sound bs good k))

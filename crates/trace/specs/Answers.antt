@@ -13,7 +13,7 @@ use Rattle.rules.specs.Turn.{findsRoom}
 use Rattle.rules.specs.declared.Refusal.the-variants.{EventCut}
 use Rattle.rules.specs.declared.Answer.{Answer}
 use Rattle.rules.specs.declared.Answer.the-variants.{Nothing, Refused}
-use Rattle.trace.specs.Header.{depthOf, guestsOf, capacityOf, ruleOf, body, settingsIn}
+use Rattle.trace.specs.Header.{versionOf, depthOf, guestsOf, capacityOf, ruleOf, body, settingsIn}
 use Rattle.trace.specs.Event.{eventsOf, whole}
 use Rattle.trace.specs.Printed.{answered, answersTo, tableAfter}
 use Rattle.trace.specs.declared.Read.{Read}
@@ -28,7 +28,7 @@ byEvent bad f Bad = bad
 
 -- the bytes of its events: those behind the header
 abbrev pub eventBytes : List ℕ → List ℕ
-eventBytes bs = drop (body (guestsOf bs)) bs
+eventBytes bs = drop (body (versionOf bs) (guestsOf bs)) bs
 
 -- the bytes from event k on, counted from 0; "Per event 14 bytes"
 abbrev pub bytesAt : List ℕ → ℕ → List ℕ
@@ -40,11 +40,11 @@ opening bs = fresh (depthOf bs) (capacityOf bs) (ruleOf bs) (settingsIn bs)
 
 -- the table that event k finds: the fresh one, after the events before it
 abbrev pub tableAt : List ℕ → ℕ → Table
-tableAt bs k = tableAfter (opening bs) (eventsOf k (eventBytes bs))
+tableAt bs k = tableAfter (opening bs) (eventsOf (versionOf bs) k (eventBytes bs))
 
--- the whole events among these bytes, as they are read
-abbrev pub readsOf : List ℕ → List Read
-readsOf bs = eventsOf (whole bs) bs
+-- the whole events among these bytes, as they are read in a trace of this version
+abbrev pub readsOf : (version : ℕ) → List ℕ → List Read
+readsOf v bs = eventsOf v (whole bs) bs
 
 -- THE ANSWERS, one to a line
 
@@ -54,12 +54,12 @@ cutAnswer [] = []
 cutAnswer (b ∷ bs) = Refused EventCut ∷ []
 
 -- the answers to the events of these bytes from the table t on: to each whole one, and to a cut last one
-abbrev pub answersFrom : Table → List ℕ → List Answer
-answersFrom t bs = answersTo t (readsOf bs) ++ cutAnswer (drop (whole bs * 14) bs)
+abbrev pub answersFrom : (version : ℕ) → Table → List ℕ → List Answer
+answersFrom v t bs = answersTo t (readsOf v bs) ++ cutAnswer (drop (whole bs * 14) bs)
 
 -- the answers of a trace
 abbrev pub answersOf : List ℕ → List Answer
-answersOf bs = answersFrom (opening bs) (eventBytes bs)
+answersOf bs = answersFrom (versionOf bs) (opening bs) (eventBytes bs)
 
 -- the answer to event k
 abbrev pub answerAt : List ℕ → ℕ → Answer
@@ -85,7 +85,7 @@ freeAnswers t (r ∷ rs) (a ∷ l) =
 
 -- of the answers of a trace from event k on, those to these events
 abbrev pub freeFrom : List ℕ → ℕ → List Answer
-freeFrom bs k = freeAnswers (tableAt bs k) (readsOf (bytesAt bs k)) (drop k (answersOf bs))
+freeFrom bs k = freeAnswers (tableAt bs k) (readsOf (versionOf bs) (bytesAt bs k)) (drop k (answersOf bs))
 
 -- WHAT A LIMIT IS WORTH
 
@@ -97,4 +97,4 @@ toEvents (r ∷ rs) (a ∷ l) = byEvent [] (λ e. a ∷ []) r ++ toEvents rs l
 
 -- of the answers of a trace from event k on, those to events
 abbrev pub answersAfter : List ℕ → ℕ → List Answer
-answersAfter bs k = toEvents (readsOf (bytesAt bs k)) (drop k (answersOf bs))
+answersAfter bs k = toEvents (readsOf (versionOf bs) (bytesAt bs k)) (drop k (answersOf bs))

@@ -9,7 +9,7 @@ use Rattle.rules.specs.Run.{step, fresh}
 use Rattle.rules.specs.declared.Refusal.the-variants.{BadEvent, EventCut}
 use Rattle.rules.specs.declared.Answer.{Answer}
 use Rattle.rules.specs.declared.Answer.the-variants.{Refused}
-use Rattle.trace.specs.Header.{ruleOf, body, settingsIn, headerOf}
+use Rattle.trace.specs.Header.{body, settingsIn, headerOf}
 use Rattle.trace.specs.Event.{eventsOf, whole}
 use Rattle.lines.specs.Line.{lineOf, refusalLine, titleLine}
 use Rattle.trace.specs.declared.Header.{Header}
@@ -37,15 +37,16 @@ unfoldable pub linesFrom : ℕ → List Answer → List ℕ
 linesFrom n [] = []
 linesFrom n (a ∷ l) = lineOf (n + 1) a ++ linesFrom (n + 1) l
 
--- where the reading stands: bytes that are not judged yet, the table, and the number of the last event
+-- where the reading stands: the trace's version, bytes that are not judged yet, the table, and the number of the last event
 pub record Place : Type 0 where
+  pub version : ℕ
   pub bytes : List ℕ
   pub table : Table
   pub number : ℕ
 
 -- the whole events among the bytes
 abbrev pub events : Place → List Read
-events p = eventsOf (whole (p .bytes)) (p .bytes)
+events p = eventsOf (p .version) (whole (p .bytes)) (p .bytes)
 
 -- their lines
 unfoldable pub lines : Place → List ℕ
@@ -55,6 +56,7 @@ lines p = linesFrom (p .number) (answersTo (p .table) (events p))
 unfoldable pub left : Place → Place
 left p =
     record {
+      version = p .version;
       bytes = drop (whole (p .bytes) * 14) (p .bytes);
       table = tableAfter (p .table) (events p);
       number = p .number + whole (p .bytes);
@@ -70,13 +72,13 @@ unfoldable pub finished : Place → List ℕ
 finished p = lines p ++ cut (left p .number) (left p .bytes)
 
 -- where the reading of events begins: at the fresh table that the header opens
-abbrev pub begun : (depth guests capacity : ℕ) → List ℕ → Place
-begun d n c bs = record { bytes = drop (body n) bs; table = fresh d c (ruleOf bs) (settingsIn bs); number = 0 }
+abbrev pub begun : (version depth guests capacity rule : ℕ) → List ℕ → Place
+begun v d n c r bs = record { version = v; bytes = drop (body v n) bs; table = fresh d c r (settingsIn bs); number = 0 }
 
 -- "A bad header prints the one line `trace refused` and the number. Otherwise the header line `event answer`, then a line for each event"
 abbrev pub printedBy : Header → List ℕ → List ℕ
 printedBy (Unopened r) bs = refusalLine r
-printedBy (Opened d n c) bs = titleLine ++ finished (begun d n c bs)
+printedBy (Opened v d n c r) bs = titleLine ++ finished (begun v d n c r bs)
 
 -- WHAT IS PRINTED: from the bytes of a whole trace to the bytes that the program prints
 unfoldable pub printed : List ℕ → List ℕ

@@ -17,7 +17,7 @@ joined (r ∷ rs) = r ++ joined rs
 
 -- more bytes have come
 abbrev pub more : Place → List ℕ → Place
-more p r = record { bytes = p .bytes ++ r; table = p .table; number = p .number }
+more p r = record { version = p .version; bytes = p .bytes ++ r; table = p .table; number = p .number }
 
 -- the lines of events as they come: the whole ones are judged before each read, and the bytes of an unfinished one stay
 unfoldable pub asRead : Place → List (List ℕ) → List ℕ
@@ -27,7 +27,7 @@ asRead p (r ∷ rs) = lines p ++ asRead (more (left p) r) rs
 -- what is printed where the first bytes are judged as a header
 abbrev pub printedFirst : Header → List ℕ → List (List ℕ) → List ℕ
 printedFirst (Unopened r) bs rs = refusalLine r
-printedFirst (Opened d n c) bs rs = titleLine ++ asRead (begun d n c bs) rs
+printedFirst (Opened v d n c r) bs rs = titleLine ++ asRead (begun v d n c r bs) rs
 
 -- what is printed of a trace that comes in reads: the header is judged once `room` bytes are there or no more come
 unfoldable pub printedReads : (room : ℕ) → List ℕ → List (List ℕ) → List ℕ

@@ -1,4 +1,4 @@
-// The trace of document 01 as bytes: its header and its events, read from slices. What is printed of it is in specs/Printed.antt.
+// The trace of document 01, and its version 2 of document 02, as bytes: its header and its events, read from slices. What is printed of it is in specs/Printed.antt.
 use rules::Event;
 use rules::Refusal;
 
@@ -9,9 +9,11 @@ pub mod events; // one event
 // What the header of a trace opens, or why it is refused.
 pub enum Header {
     Opened {
+        version: u64,
         depth: u64,
         guests: u64,
         capacity: u64,
+        rule: u64,
     },
     Refused(Refusal),
 }

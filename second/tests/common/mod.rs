@@ -3,6 +3,7 @@
 
 use second::sample::Owned;
 use second::tables::{FLIGHT_NUMBERS, GATE_NUMBERS, GUEST_NUMBERS, WAITING_NUMBERS};
+use second::trace::{events, run, Event, Header, Next};
 use second::{open, Answer, Phase, Reply, Settings, State, Tables};
 
 pub const MS: u64 = 1_000_000;
@@ -90,6 +91,50 @@ pub fn opened_under(rule: u64, depth: u64, capacity: u64, settings: &[Settings])
     let reply = open(depth, count, capacity, rule, &list, &mut owned.lend());
     assert_eq!(reply.answer, Answer::Nothing);
     owned
+}
+
+/// An event without an upper part.
+pub fn event(kind: u8, guest: u8, id: u32, time: u64) -> Event {
+    Event {
+        kind,
+        upper: 0,
+        guest,
+        id,
+        time,
+    }
+}
+
+/// The good header of a trace, and its whole events.
+pub fn taken_apart(trace: &[u8]) -> (Header, Vec<Event>) {
+    let header = Header::read(trace).unwrap();
+    let whole = events(&header, trace).filter_map(|next| match next {
+        Next::Event(event) => Some(event),
+        Next::Cut => None,
+    });
+    let whole = whole.collect();
+    (header, whole)
+}
+
+/// The call an event stands for that is not 14.
+pub fn call_of(e: Event) -> Call {
+    match e.kind {
+        0 => Call::Arrive(e.guest as u64, e.id, e.time, e.cost()),
+        1 => Call::Complete(e.guest as u64, e.id, e.time),
+        _ => Call::Tick(e.time),
+    }
+}
+
+/// Tables opened as a header says.
+pub fn opened_by(header: &Header) -> Owned {
+    let (depth, capacity) = (header.depth as u64, header.capacity as u64);
+    opened_under(header.rule as u64, depth, capacity, &header.settings)
+}
+
+/// What the program prints for a trace.
+pub fn printed(trace: &[u8]) -> String {
+    let mut out = Vec::new();
+    run(trace, &mut out).unwrap();
+    String::from_utf8(out).unwrap()
 }
 
 #[derive(Clone, Copy, Debug)]

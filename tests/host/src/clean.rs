@@ -9,7 +9,8 @@ use second::kinds::{fixed, trace};
 use second::numbers::{MOST_COST, MOST_CREDIT};
 use second::sample::{Owned, Prng};
 use second::tables::{FLIGHT_NUMBERS, GATE_NUMBERS, GUEST_NUMBERS, WAITING_NUMBERS};
-use second::trace::{settings_of, Event, EVENT_BYTES, GUEST_BYTES, START_BYTES};
+use second::trace::{Event, Header, Version, EVENT_BYTES};
+use second::Settings;
 
 /// Numbers past the need of each table, which must stay as they are.
 const REST: usize = 3;
@@ -32,7 +33,7 @@ pub fn play(
     };
     let (mut rng, dearest) = (Prng::new(seed), dearest(kind, seed));
     let opening = opening(rule, &bytes, &mut rng);
-    let events = &bytes[START_BYTES + opening.guests as usize * GUEST_BYTES..];
+    let events = &bytes[header_of(&bytes).length()..];
     let mut tables = dusty(&opening);
     let mut make = |call: &Call, number: usize, tables: &mut Owned| {
         let answer = hold(call, tables, fences).map_err(|why| format!("event {number}, {why}"))?;
@@ -47,21 +48,23 @@ pub fn play(
     Ok(tables)
 }
 
+fn header_of(bytes: &[u8]) -> Header {
+    Header::read(bytes).expect("a good header")
+}
+
 /// What the header of a good trace asks for, under this rule and with any credits.
 fn opening(rule: u64, bytes: &[u8], rng: &mut Prng) -> Opening {
-    let guests = bytes[6] as usize;
-    let records = &bytes[START_BYTES..START_BYTES + guests * GUEST_BYTES];
-    let row = |record: &[u8]| {
-        let rates = settings_of(record);
+    let header = header_of(bytes);
+    let row = |rates: &Settings| {
         let credit = rng.pick(&[0, 0, 1, 2, 30, MOST_CREDIT]);
         [rates.reservation, rates.limit, rates.shares, credit]
     };
     Opening {
-        depth: bytes[5] as u64,
-        guests: guests as u64,
-        capacity: u16::from_le_bytes([bytes[7], bytes[8]]) as u64,
+        depth: header.depth.into(),
+        guests: header.settings.len() as u64,
+        capacity: header.capacity.into(),
         rule,
-        settings: records.chunks_exact(GUEST_BYTES).flat_map(row).collect(),
+        settings: header.settings.iter().flat_map(row).collect(),
     }
 }
 
@@ -86,7 +89,7 @@ fn dearest(kind: &str, seed: u64) -> u64 {
 
 /// The call that an event of a trace is; an arrival costs up to so much, a few of them what none may.
 fn call(bytes: &[u8], dearest: u64, tables: &Owned, rng: &mut Prng) -> Call {
-    let event = Event::from_bytes(bytes.try_into().expect("a whole event"));
+    let event = Event::from_bytes(Version::One, bytes.try_into().expect("a whole event"));
     let (guest, id, time) = (event.guest as u64, event.id, event.time);
     match event.kind {
         0 => Call::Arrive {

@@ -10,7 +10,8 @@ use std::sync::atomic::{AtomicU64, Ordering};
 
 const PAGE: usize = 4_096;
 const PAGES: usize = 16;
-const WORDS: usize = PAGES * PAGE / size_of::<u64>();
+const BYTES: usize = PAGES * PAGE;
+const WORDS: usize = BYTES / size_of::<u64>();
 
 /// More than the rubbish behind a table.
 const RUBBISH: usize = 64;
@@ -55,6 +56,28 @@ impl Fenced {
         let all = self.all();
         numbers.copy_from_slice(&all[at..]);
         all[at - MARKS..at].iter().all(|&mark| mark == MARK)
+    }
+
+    /// Puts bytes right before the fence, and gives where they begin.
+    pub fn put_bytes(&mut self, bytes: &[u8]) -> *mut u8 {
+        let at = BYTES - bytes.len();
+        let all = self.all_bytes();
+        all[at - MARKS..at].fill(MARK as u8);
+        all[at..].copy_from_slice(bytes);
+        all[at..].as_mut_ptr()
+    }
+
+    /// Takes the bytes back; false where a mark before them was overwritten.
+    pub fn take_bytes(&mut self, bytes: &mut [u8]) -> bool {
+        let at = BYTES - bytes.len();
+        let all = self.all_bytes();
+        bytes.copy_from_slice(&all[at..]);
+        all[at - MARKS..at].iter().all(|&mark| mark == MARK as u8)
+    }
+
+    fn all_bytes(&mut self) -> &mut [u8] {
+        // SAFETY: this memory is ours alone, and readable and writable up to the fence.
+        unsafe { slice::from_raw_parts_mut(self.start.cast(), BYTES) }
     }
 
     fn all(&mut self) -> &mut [u64] {

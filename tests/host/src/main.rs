@@ -1,6 +1,7 @@
 //! Hands random tables, most of them damaged, to each call of the library through the C interface, and compares the
 //! answer and every number of every table afterwards with the second program; then plays whole runs on sound tables,
-//! and hands batches of events over sound and damaged tables; and reads short clocks.
+//! and hands batches of events over sound and damaged tables; then moves traces from one version to the other, and reads
+//! short clocks.
 //!
 //!     host-tests [FIRST]     the seeds begin at FIRST, 1 where none is named
 //!
@@ -12,6 +13,7 @@ mod clean;
 mod clocks;
 mod damage;
 mod fence;
+mod moves;
 mod tally;
 
 use calls::{broken_rule, hold, Fences};
@@ -62,6 +64,7 @@ fn main() -> ExitCode {
     damaged(first, &mut fences, &mut tally);
     clean(first, &mut fences, &mut tally);
     batched(first, &mut fences, &mut tally);
+    moves::moved(first, &mut tally);
     clocks::test(first, &mut tally);
     println!("{} passed, {} failed", tally.passed, tally.failed);
     ExitCode::from(if tally.failed == 0 { 0 } else { 1 })

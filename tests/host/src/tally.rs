@@ -7,6 +7,16 @@ use std::collections::BTreeMap;
 /// Where nearly all fail, a few lines tell as much as thousands.
 const MOST_SHOWN: u64 = 20;
 
+/// The refusals that only the move of a trace gives.
+pub const OF_MOVES: [Refusal; 6] = [
+    Refusal::TraceMark,
+    Refusal::TraceVersion,
+    Refusal::TraceHeaderCut,
+    Refusal::TraceEventCut,
+    Refusal::NoWayBack,
+    Refusal::ShortRoom,
+];
+
 #[derive(Default)]
 pub struct Tally {
     pub passed: u64,
@@ -63,13 +73,14 @@ impl Seen {
         let [nothing, reservation, weight] = self.kinds;
         println!("  nothing {nothing}, sent by reservation {reservation}, by weight {weight}");
         let line = |&refusal: &Refusal| format!("{}: {}", refusal.number(), self.times(refusal));
-        let lines: Vec<_> = Refusal::ALL.iter().map(line).collect();
+        let gates = Refusal::ALL.iter().filter(|one| !OF_MOVES.contains(one));
+        let lines: Vec<_> = gates.map(line).collect();
         println!("  refused {}", lines.join(", "));
         let [never, now, later] = self.wakes;
         println!("  to wake never {never}, now {now}, later {later}");
     }
 
-    /// Whether an answer of each kind, each of these refusals and each time to wake was seen.
+    /// Whether an answer of each kind, each of these refusals that a gate gives and each time to wake was seen.
     pub fn all_seen(&self, refusals: &[Refusal]) -> Result<(), String> {
         if let Some(kind) = self.kinds.iter().position(|&times| times == 0) {
             return Err(format!("no answer was of kind {kind}"));
@@ -78,7 +89,8 @@ impl Seen {
             let when = ["never", "now", "later"][when];
             return Err(format!("no time to wake was {when}"));
         }
-        match refusals.iter().find(|&&refusal| self.times(refusal) == 0) {
+        let mut gates = refusals.iter().filter(|one| !OF_MOVES.contains(one));
+        match gates.find(|&&refusal| self.times(refusal) == 0) {
             Some(never) => Err(format!("{} was never given", never.number())),
             None => Ok(()),
         }

@@ -1,7 +1,7 @@
 use native.Mathlib.Omega.{arith}
-use Prim.Native.Nat.{ℕ, _+_, _-_, _*_}
+use Prim.Native.Nat.{ℕ, _-_}
 use mathlib.Core.Path.{ap, sym, _∙_}
-use lib.ListN.{take}
+use lib.ListN.{take, drop}
 use lib.Seq.{length-take-le}
 use Rattle.feed.proofs.Shift.{shift-front}
 use Rattle.begin.proofs.Begins.{sizes}
@@ -18,21 +18,16 @@ slice-aggregate-open-tables c = sym (length-take-le (c .before .before .before .
 open-tables-requires : tie.Need-open-tables-requires
 open-tables-requires c κs = search needs
 
-mul-shift : tie.Need-mul-shift
-mul-shift c =
+body-requires : tie.Need-body-requires
+body-requires c κs =
     let a = c .before .before .before .before .before .before .before .before .before .before .before .before .before .before .before .before .before .before .before .before .args in
-    omega (arith, sizes (take (a .have) (a .buffer .now)) (a .depth) (a .known) (a .capacity) (c .before .before .before .before .before .before .before .before .before .before .before .before .before .before .before .before .before .before .before .before .pre .1 .0) .guests)
-
-add-shift : tie.Need-add-shift
-add-shift c =
-    let a = c .before .before .before .before .before .before .before .before .before .before .before .before .before .before .before .before .before .before .before .before .args in
-    omega (arith, sizes (take (a .have) (a .buffer .now)) (a .depth) (a .known) (a .capacity) (c .before .before .before .before .before .before .before .before .before .before .before .before .before .before .before .before .before .before .before .before .pre .1 .0) .guests)
+    omega (arith, sizes (take (a .have) (a .buffer .now)) (a .version) (a .depth) (a .known) (a .capacity) (a .rule) (c .before .before .before .before .before .before .before .before .before .before .before .before .before .before .before .before .before .before .before .before .pre .1 .0) .guests)
 
 shift-requires : tie.Need-shift-requires
 shift-requires c κs =
-    let a = c .before .before .before .before .before .before .before .before .before .before .before .before .before .before .before .before .before .before .before .before .args in
-    let p = c .before .before .before .before .before .before .before .before .before .before .before .before .before .before .before .before .before .before .before .before .pre in
-    omega (arith, sizes (take (a .have) (a .buffer .now)) (a .depth) (a .known) (a .capacity) (p .1 .0) .whole, length-take-le (a .have) (a .buffer .now) (p .0), p .0)
+    let a = c .before .before .before .before .before .before .before .before .before .before .before .before .before .before .before .before .before .before .before .before .before .args in
+    let p = c .before .before .before .before .before .before .before .before .before .before .before .before .before .before .before .before .before .before .before .before .before .pre in
+    omega (arith, c .body .ensures, sizes (take (a .have) (a .buffer .now)) (a .version) (a .depth) (a .known) (a .capacity) (a .rule) (p .1 .0) .whole, length-take-le (a .have) (a .buffer .now) (p .0), p .0)
 
 same-length : tie.Need-same-length
 same-length c = search needs
@@ -51,17 +46,19 @@ same-length-5 c = search needs
 
 returns : tie.Need-returns
 returns c =
-    let a = c .before .before .before .before .before .before .before .before .before .before .before .before .before .before .before .before .before .before .before .before .before .before .before .args in
-    let p = c .before .before .before .before .before .before .before .before .before .before .before .before .before .before .before .before .before .before .before .before .before .before .before .pre in
+    let a = c .before .before .before .before .before .before .before .before .before .before .before .before .before .before .before .before .before .before .before .before .before .before .before .before .args in
+    let p = c .before .before .before .before .before .before .before .before .before .before .before .before .before .before .before .before .before .before .before .before .before .before .before .before .pre in
     let bs = take (a .have) (a .buffer .now) in
     let l = length-take-le (a .have) (a .buffer .now) (p .0) in
-    let z = sizes bs (a .depth) (a .known) (a .capacity) (p .1 .0) in
+    let z = sizes bs (a .version) (a .depth) (a .known) (a .capacity) (a .rule) (p .1 .0) in
     let s = c .before .before .shift in
-    let o = c .before .before .before .before .before .before .before .before .before .before .before .before .open-tables in (
+    let b = c .before .before .before .body in
+    let o = c .before .before .before .before .before .before .before .before .before .before .before .before .before .open-tables in (
       record {
         bytes = ap (λ (k : ℕ). take k (s .last .0)) (s .ensures .0)
-            ∙ ap (take (a .have - (9 + 12 * a .known))) (s .ensures .1)
-            ∙ shift-front (a .buffer .now) (9 + 12 * a .known) (a .have) (omega (arith, z .whole, l)) (p .0);
+            ∙ ap (take (a .have - b .result)) (s .ensures .1)
+            ∙ shift-front (a .buffer .now) (b .result) (a .have) (omega (arith, z .whole, l, b .ensures)) (p .0)
+            ∙ ap (λ (k : ℕ). drop k bs) (b .ensures);
         table = o .ensures .1;
         known = o .ensures .0 .known;
       },
@@ -75,8 +72,7 @@ begin-spec =
     slice-reshare-prefix-open-tables
     slice-aggregate-open-tables
     open-tables-requires
-    mul-shift
-    add-shift
+    body-requires
     shift-requires
     same-length
     same-length-2

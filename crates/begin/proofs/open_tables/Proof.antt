@@ -11,8 +11,8 @@ read-settings-requires : tie.Need-read-settings-requires
 read-settings-requires c κs =
     let a = c .before .before .before .before .before .before .args in
     let p = c .before .before .before .before .before .before .pre in
-    let z = sizes (a .bytes .now) (a .depth) (a .known) (a .capacity) (p .0) in
-    omega (arith, z .whole, z .guests, p .1 .settings)
+    let z = sizes (a .bytes .now) (a .version) (a .depth) (a .known) (a .capacity) (a .rule) (p .0) in
+    (omega (arith, z .guests), z .whole, omega (arith, z .guests, p .1 .settings))
 
 open-requires : tie.Need-open-requires
 open-requires c κs = search needs
@@ -34,9 +34,9 @@ returns c =
     let a = c .before .before .before .before .before .before .before .before .before .before .before .before .before .before .before .before .before .before .before .before .before .args in
     let p = c .before .before .before .before .before .before .before .before .before .before .before .before .before .before .before .before .before .before .before .before .before .pre in
     let o = c .before .before .before .before .before .before .before .open in
-    let e = o .ensures ∙ ap (λ ss. seen (opened (a .depth) (a .known) (a .capacity) 1 ss (a .guests .now) (a .waiting .now) (a .flight .now))) (c .before .before .before .before .before .before .before .before .before .before .before .before .before .before .read-settings .ensures) in (
-      opening-became (a .bytes .now) (a .settings .now) (a .guests .now) (a .waiting .now) (a .flight .now) (a .depth) (a .known) (a .capacity) (p .0) (p .1) (o .result) _ _ _ e,
-      opening-shows (a .bytes .now) (a .settings .now) (a .guests .now) (a .waiting .now) (a .flight .now) (a .depth) (a .known) (a .capacity) (p .0) (p .1) (o .result) _ _ _ e,
+    let e = o .ensures ∙ ap (λ ss. seen (opened (a .depth) (a .known) (a .capacity) (a .rule) ss (a .guests .now) (a .waiting .now) (a .flight .now))) (c .before .before .before .before .before .before .before .before .before .before .before .before .before .before .read-settings .ensures) in (
+      opening-became (a .bytes .now) (a .settings .now) (a .guests .now) (a .waiting .now) (a .flight .now) (a .version) (a .depth) (a .known) (a .capacity) (a .rule) (p .0) (p .1) (o .result) _ _ _ e,
+      opening-shows (a .bytes .now) (a .settings .now) (a .guests .now) (a .waiting .now) (a .flight .now) (a .version) (a .depth) (a .known) (a .capacity) (a .rule) (p .0) (p .1) (o .result) _ _ _ e,
     )
 
 pub open-tables-spec : {M : Type 1} → statement M

@@ -24,7 +24,7 @@ title-requires : tie.Need-title-requires
 title-requires c κs =
     let a = c .before .before .before .before .before .before .before .before .before .before .before .before .before .before .before .before .before .before .before .before .before .before .before .before .before .args in
     let p = c .before .before .before .before .before .before .before .before .before .before .before .before .before .before .before .before .before .before .before .before .before .before .before .before .before .pre in
-    (p .0 .2, title-next (a .log .now) (take (a .have) (a .buffer .now)) (a .depth) (a .known) (a .capacity) (p .1 .1 .1) (p .1 .0))
+    (p .0 .2, title-next (a .log .now) (take (a .have) (a .buffer .now)) (a .version) (a .depth) (a .known) (a .capacity) (a .rule) (p .1 .1 .1) (p .1 .0))
 
 same-length : tie.Need-same-length
 same-length c = search needs
@@ -50,7 +50,7 @@ returns c =
     let p = c .before .before .before .before .before .before .before .before .before .before .before .before .before .before .before .before .before .before .before .before .before .before .before .before .before .before .before .before .before .pre in
     let t = c .before .before .before .title in
     next-unwritten printed MOST (a .log .now) (t .last .1 .0) titleLine (t .result) (t .ensures)
-    (title-next (a .log .now) (take (a .have) (a .buffer .now)) (a .depth) (a .known) (a .capacity) (p .1 .1 .1) (p .1 .0))
+    (title-next (a .log .now) (take (a .have) (a .buffer .now)) (a .version) (a .depth) (a .known) (a .capacity) (a .rule) (p .1 .1 .1) (p .1 .0))
     (not-true _ (c .if1 .taken))
 
 close-requires : tie.Need-close-requires
@@ -64,10 +64,10 @@ close-requires c κs =
       (b .kept .0 ∙ p .0 .0, omega (arith, b .ensures .1, p .0 .1), t .kept .0 ∙ p .0 .2),
       (
         b .ensures .0 .known,
-        title-standing (a .log .now) bs (a .depth) (a .known) (a .capacity) (p .1 .1 .1) (p .1 .0) (t .last .1 .0) (t .result) true _ (t .ensures)
+        title-standing (a .log .now) bs (a .version) (a .depth) (a .known) (a .capacity) (a .rule) (p .1 .1 .1) (p .1 .0) (t .last .1 .0) (t .result) true _ (t .ensures)
             (not-false _ (c .before .before .before .before .before .before .before .if1 .left))
             (ap (λ (k : ℕ). ltb k 4096) l ∙ lt-ltb (a .have) 4096 (omega (arith, c .before .before .before .before .before .before .if2 .taken)))
-            (λ i. record { bytes = b .ensures .0 .bytes i; table = b .ensures .0 .table i; number = 0 }),
+            (λ i. record { version = a .version; bytes = b .ensures .0 .bytes i; table = b .ensures .0 .table i; number = 0 }),
       ),
     )
 
@@ -103,10 +103,10 @@ pump-requires c κs =
       (b .kept .0 ∙ p .0 .0, omega (arith, b .ensures .1, p .0 .1), t .kept .0 ∙ p .0 .2),
       (
         b .ensures .0 .known,
-        title-standing (a .log .now) bs (a .depth) (a .known) (a .capacity) (p .1 .1 .1) (p .1 .0) (t .last .1 .0) (t .result) false _ (t .ensures)
+        title-standing (a .log .now) bs (a .version) (a .depth) (a .known) (a .capacity) (a .rule) (p .1 .1 .1) (p .1 .0) (t .last .1 .0) (t .result) false _ (t .ensures)
             (not-false _ (c .before .before .before .before .before .before .before .if1 .left))
             (ap (λ (k : ℕ). ltb k 4096) l ∙ le-ltb (a .have) 4096 (omega (arith, c .before .before .before .before .before .before .if2 .left)))
-            (λ i. record { bytes = b .ensures .0 .bytes i; table = b .ensures .0 .table i; number = 0 }),
+            (λ i. record { version = a .version; bytes = b .ensures .0 .bytes i; table = b .ensures .0 .table i; number = 0 }),
       ),
     )
 

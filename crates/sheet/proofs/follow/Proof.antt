@@ -28,10 +28,10 @@ close-requires c κs =
     let l : length bs ≡ a .have = length-take-le (a .have) (a .buffer .now) (omega (arith, p .0)) in (
       (b .kept .0 ∙ p .0 .0, omega (arith, b .ensures .1, p .0 .1)),
       (
-        begun-firm (a .depth) (a .known) (a .capacity) bs _ (b .result .gate) _ _ _ (a .book .now) (a .figures .now) (z .last .0) (b .ensures .0) (p .1 .1 .1 .0) (z .ensures),
-        opened-standing (a .log .now) bs (p .1 .1 .1 .1) (a .depth) (a .known) (a .capacity) (p .1 .0) true
+        begun-firm (a .version) (a .depth) (a .known) (a .capacity) (a .rule) bs _ (b .result .gate) _ _ _ (a .book .now) (a .figures .now) (z .last .0) (b .ensures .0) (p .1 .1 .1 .0) (z .ensures),
+        opened-standing (a .log .now) bs (p .1 .1 .1 .1) (a .version) (a .depth) (a .known) (a .capacity) (a .rule) (p .1 .0) true
             (ap (λ (k : ℕ). ltb k 4096) l ∙ lt-ltb (a .have) 4096 (omega (arith, c .before .before .before .before .before .before .before .if1 .taken))) _
-            (begun-stands (a .depth) (a .known) (a .capacity) bs _ (b .result .gate) _ _ _ (a .book .now) (a .figures .now) (z .last .0) (b .ensures .0) (p .1 .1 .1 .0) (z .ensures)),
+            (begun-stands (a .version) (a .depth) (a .known) (a .capacity) (a .rule) bs _ (b .result .gate) _ _ _ (a .book .now) (a .figures .now) (z .last .0) (b .ensures .0) (p .1 .1 .1 .0) (z .ensures)),
       ),
     )
 
@@ -69,10 +69,10 @@ pump-requires c κs =
     let l : length bs ≡ a .have = length-take-le (a .have) (a .buffer .now) (omega (arith, p .0)) in (
       (b .kept .0 ∙ p .0 .0, omega (arith, b .ensures .1, p .0 .1)),
       (
-        begun-firm (a .depth) (a .known) (a .capacity) bs _ (b .result .gate) _ _ _ (a .book .now) (a .figures .now) (z .last .0) (b .ensures .0) (p .1 .1 .1 .0) (z .ensures),
-        opened-standing (a .log .now) bs (p .1 .1 .1 .1) (a .depth) (a .known) (a .capacity) (p .1 .0) false
+        begun-firm (a .version) (a .depth) (a .known) (a .capacity) (a .rule) bs _ (b .result .gate) _ _ _ (a .book .now) (a .figures .now) (z .last .0) (b .ensures .0) (p .1 .1 .1 .0) (z .ensures),
+        opened-standing (a .log .now) bs (p .1 .1 .1 .1) (a .version) (a .depth) (a .known) (a .capacity) (a .rule) (p .1 .0) false
             (ap (λ (k : ℕ). ltb k 4096) l ∙ le-ltb (a .have) 4096 (omega (arith, c .before .before .before .before .before .before .before .if1 .left))) _
-            (begun-stands (a .depth) (a .known) (a .capacity) bs _ (b .result .gate) _ _ _ (a .book .now) (a .figures .now) (z .last .0) (b .ensures .0) (p .1 .1 .1 .0) (z .ensures)),
+            (begun-stands (a .version) (a .depth) (a .known) (a .capacity) (a .rule) bs _ (b .result .gate) _ _ _ (a .book .now) (a .figures .now) (z .last .0) (b .ensures .0) (p .1 .1 .1 .0) (z .ensures)),
       ),
     )
 

@@ -19,7 +19,7 @@ slice-reshare-prefix-finish : tie.Need-slice-reshare-prefix-finish
 slice-reshare-prefix-finish c = search needs
 
 slice-aggregate-finish : tie.Need-slice-aggregate-finish
-slice-aggregate-finish c = let t = c .before .before .before .before .before .before .before .before .before .before .before .before .turn in sym (length-take-le (t .result .rest) (t .last .0) (t .ensures .1 .1 .1))
+slice-aggregate-finish c = let t = c .before .before .before .before .before .before .before .before .before .before .before .before .turn in sym (length-take-le (t .result .rest) (t .last .1 .0) (t .ensures .1 .1 .1))
 
 finish-requires : tie.Need-finish-requires
 finish-requires c κs =
@@ -28,8 +28,8 @@ finish-requires c κs =
     let t = c .before .before .before .before .before .before .before .before .before .before .before .before .before .before .turn in
     let w = t .ensures .0 in
     let l = length-take-le (a .have) (a .buffer .now) (omega (arith, p .0)) in
-    let few = length-take-le (t .result .rest) (t .last .0) (t .ensures .1 .1 .1) in (
-      (t .kept .1 .1 .1 .1 .1 .1 .1 .0 ∙ p .0 .2, omega (arith, went-number w, l, p .0)),
+    let few = length-take-le (t .result .rest) (t .last .1 .0) (t .ensures .1 .1 .1) in (
+      (t .kept .1 .1 .1 .1 .1 .1 .1 .1 .0 ∙ p .0 .2, omega (arith, went-number w, l, p .0)),
       standing-last _ _ (turned _ _ _ _ (t .result .written) w (c .before .before .before .if1 .taken) true (p .1 .1)) (omega (arith, few, t .ensures .1 .1 .0)),
     )
 

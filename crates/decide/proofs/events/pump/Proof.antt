@@ -19,13 +19,13 @@ use Rattle.decide.proofs.events.pump.Statement.{statement}
 use Rattle.decide.proofs.events.pump.Tie as tie
 
 abbrev Inv-loop : tie.InvT-loop
-Inv-loop buffer₀ first guests₀ waiting₀ flight₀ out₀ log₀ gate₀ have₀ done₀ turns₀ buffer guests waiting flight out log gate have done turns =
+Inv-loop version buffer₀ first guests₀ waiting₀ flight₀ out₀ log₀ gate₀ have₀ done₀ turns₀ buffer guests waiting flight out log gate have done turns =
     (length buffer ≡ length buffer₀) × (length guests ≡ length guests₀) × (length waiting ≡ length waiting₀) × (length flight ≡ length flight₀) × (length out ≡ length out₀)
     × (have ≤ 4096) × (done + 292 * turns ≤ 292 * 281474976710656) × Known gate guests waiting flight
-    × Pumping log (placeOf (take have buffer) done gate guests waiting flight) turns
+    × Pumping log (placeOf version (take have buffer) done gate guests waiting flight) turns
 
 abbrev μ-loop : tie.MeasureT-loop
-μ-loop buffer₀ first guests₀ waiting₀ flight₀ out₀ log₀ gate₀ have₀ done₀ turns₀ buffer guests waiting flight out log gate have done turns = turns
+μ-loop version buffer₀ first guests₀ waiting₀ flight₀ out₀ log₀ gate₀ have₀ done₀ turns₀ buffer guests waiting flight out log gate have done turns = turns
 
 loop-holds : tie.Need-loop-holds Inv-loop μ-loop
 loop-holds c =
@@ -36,8 +36,8 @@ loop-holds c =
 record Taken (c : tie.After-turn Inv-loop μ-loop) : Type 0 where
   rest : c .turn .result .rest ≤ 13
   counted : c .turn .result .number + 292 * c .before .before .before .before .before .before .before .before .loop .turns ≤ 292 * 281474976710656 + 292
-  buffer : length (c .turn .last .0) ≡ 4096
-  out : length (c .turn .last .1 .1 .1 .1 .1 .1 .1 .0) ≡ 20480
+  buffer : length (c .turn .last .1 .0) ≡ 4096
+  out : length (c .turn .last .1 .1 .1 .1 .1 .1 .1 .1 .0) ≡ 20480
 
 after : (c : tie.After-turn Inv-loop μ-loop) → Taken c
 after c =
@@ -48,8 +48,8 @@ after c =
     record {
       rest = omega (arith, t .ensures .1 .1 .0);
       counted = omega (arith, went-number (t .ensures .0), h, l .inv .6, l .inv .5);
-      buffer = t .kept .0 ∙ l .inv .0 ∙ p .0;
-      out = t .kept .1 .1 .1 .1 .1 .1 .1 .0 ∙ l .inv .4 ∙ p .2;
+      buffer = t .kept .1 .0 ∙ l .inv .0 ∙ p .0;
+      out = t .kept .1 .1 .1 .1 .1 .1 .1 .1 .0 ∙ l .inv .4 ∙ p .2;
     }
 
 turn-requires : tie.Need-turn-requires Inv-loop μ-loop
@@ -59,19 +59,19 @@ turn-requires c κs =
     ((omega (arith, l .inv .0, l .inv .5, p .0), omega (arith, l .inv .6, l .inv .5), omega (arith, l .inv .4, l .inv .5, p .2)), (l .inv .7, standing-next (l .inv .8 .standing)))
 
 same-length : tie.Need-same-length Inv-loop μ-loop
-same-length c = c .before .before .before .before .before .before .before .before .before .before .before .before .turn .kept .0 ∙ c .before .before .before .before .before .before .before .before .before .before .before .before .before .before .before .before .before .before .before .before .loop .inv .0
+same-length c = c .before .before .before .before .before .before .before .before .before .before .before .before .turn .kept .1 .0 ∙ c .before .before .before .before .before .before .before .before .before .before .before .before .before .before .before .before .before .before .before .before .loop .inv .0
 
 same-length-2 : tie.Need-same-length-2 Inv-loop μ-loop
-same-length-2 c = c .before .before .before .before .before .before .before .before .before .before .before .before .turn .kept .1 .1 .1 .1 .0 ∙ c .before .before .before .before .before .before .before .before .before .before .before .before .before .before .before .before .before .before .before .before .loop .inv .1
+same-length-2 c = c .before .before .before .before .before .before .before .before .before .before .before .before .turn .kept .1 .1 .1 .1 .1 .0 ∙ c .before .before .before .before .before .before .before .before .before .before .before .before .before .before .before .before .before .before .before .before .loop .inv .1
 
 same-length-3 : tie.Need-same-length-3 Inv-loop μ-loop
-same-length-3 c = c .before .before .before .before .before .before .before .before .before .before .before .before .turn .kept .1 .1 .1 .1 .1 .0 ∙ c .before .before .before .before .before .before .before .before .before .before .before .before .before .before .before .before .before .before .before .before .loop .inv .2
+same-length-3 c = c .before .before .before .before .before .before .before .before .before .before .before .before .turn .kept .1 .1 .1 .1 .1 .1 .0 ∙ c .before .before .before .before .before .before .before .before .before .before .before .before .before .before .before .before .before .before .before .before .loop .inv .2
 
 same-length-4 : tie.Need-same-length-4 Inv-loop μ-loop
-same-length-4 c = c .before .before .before .before .before .before .before .before .before .before .before .before .turn .kept .1 .1 .1 .1 .1 .1 .0 ∙ c .before .before .before .before .before .before .before .before .before .before .before .before .before .before .before .before .before .before .before .before .loop .inv .3
+same-length-4 c = c .before .before .before .before .before .before .before .before .before .before .before .before .turn .kept .1 .1 .1 .1 .1 .1 .1 .0 ∙ c .before .before .before .before .before .before .before .before .before .before .before .before .before .before .before .before .before .before .before .before .loop .inv .3
 
 same-length-5 : tie.Need-same-length-5 Inv-loop μ-loop
-same-length-5 c = c .before .before .before .before .before .before .before .before .before .before .before .before .turn .kept .1 .1 .1 .1 .1 .1 .1 .0 ∙ c .before .before .before .before .before .before .before .before .before .before .before .before .before .before .before .before .before .before .before .before .loop .inv .4
+same-length-5 c = c .before .before .before .before .before .before .before .before .before .before .before .before .turn .kept .1 .1 .1 .1 .1 .1 .1 .1 .0 ∙ c .before .before .before .before .before .before .before .before .before .before .before .before .before .before .before .before .before .before .before .before .loop .inv .4
 
 returns : tie.Need-returns Inv-loop μ-loop
 returns c =
@@ -83,7 +83,7 @@ read-on-requires c κs =
     let t = c .before .before .before .before .before .before .before .before .before .before .before .before .before .before .before .before .turn in
     let k = after (c .before .before .before .before .before .before .before .before .before .before .before .before .before .before .before .before) in (
       (t .ensures .1 .1 .0, omega (arith, k .counted), k .buffer, k .out),
-      (_, turned _ _ _ _ (t .result .written) (t .ensures .0) (not-false _ (c .before .before .before .before .if1 .left)) false (c .before .before .before .before .before .before .before .before .before .before .before .before .before .before .before .before .before .before .before .before .before .before .before .before .loop .inv .8 .standing)),
+      (_, _, turned _ _ _ _ (t .result .written) (t .ensures .0) (not-false _ (c .before .before .before .before .if1 .left)) false (c .before .before .before .before .before .before .before .before .before .before .before .before .before .before .before .before .before .before .before .before .before .before .before .before .loop .inv .8 .standing)),
     )
 
 enum-known-after : tie.Need-enum-known-after Inv-loop μ-loop
@@ -93,14 +93,14 @@ enum-known-after c = search needs
 record More (c : tie.After-known-told Inv-loop μ-loop) : Type 0 where
   some : 0 < c .before .after .given .0 .0
   most : c .before .after .given .0 .0 ≤ length (drop (c .before .before .before .before .before .before .before .before .before .before .before .before .before .before .before .before .before .before .before .before .before .before .before .before .turn .result .rest) (c .before .before .before .before .before .before .before .read-on .last .0))
-  goes : Goes (brought (Bytes (c .before .after .given .0 .0)) (drop (c .before .before .before .before .before .before .before .before .before .before .before .before .before .before .before .before .before .before .before .before .before .before .before .before .turn .result .rest) (c .before .before .before .before .before .before .before .read-on .last .0))) (c .before .before .before .before .before .before .before .before .before .before .before .before .before .before .before .before .before .before .before .before .before .before .before .before .turn .last .1 .1 .1 .1 .1 .1 .1 .1 .0) (c .before .before .before .before .before .before .before .read-on .last .1 .1 .1 .1 .0)
+  goes : Goes (brought (Bytes (c .before .after .given .0 .0)) (drop (c .before .before .before .before .before .before .before .before .before .before .before .before .before .before .before .before .before .before .before .before .before .before .before .before .turn .result .rest) (c .before .before .before .before .before .before .before .read-on .last .0))) (c .before .before .before .before .before .before .before .before .before .before .before .before .before .before .before .before .before .before .before .before .before .before .before .before .turn .last .1 .1 .1 .1 .1 .1 .1 .1 .1 .0) (c .before .before .before .before .before .before .before .read-on .last .1 .1 .1 .1 .0)
   fits : c .before .before .before .before .before .before .before .before .before .before .before .before .before .before .before .before .before .before .before .before .before .before .before .before .turn .result .rest + c .before .after .given .0 .0 ≤ 4096
 
 came : (c : tie.After-known-told Inv-loop μ-loop) → More c
 came c =
     let r = c .before .before .before .before .before .before .before .read-on in
     let k = after (c .before .before .before .before .before .before .before .before .before .before .before .before .before .before .before .before .before .before .before .before .before .before .before .before) in
-    let f = follows (r .result) (c .before .after .given .0 .0) (c .before .before .before .before .before .before .before .before .before .before .before .before .before .before .before .before .before .before .before .before .before .before .before .before .turn .last .1 .1 .1 .1 .1 .1 .1 .1 .0) (r .last .1 .1 .1 .1 .0) (drop (c .before .before .before .before .before .before .before .before .before .before .before .before .before .before .before .before .before .before .before .before .before .before .before .before .turn .result .rest) (r .last .0)) (c .before .after .given .1) (r .ensures .0) in
+    let f = follows (r .result) (c .before .after .given .0 .0) (c .before .before .before .before .before .before .before .before .before .before .before .before .before .before .before .before .before .before .before .before .before .before .before .before .turn .last .1 .1 .1 .1 .1 .1 .1 .1 .1 .0) (r .last .1 .1 .1 .1 .0) (drop (c .before .before .before .before .before .before .before .before .before .before .before .before .before .before .before .before .before .before .before .before .before .before .before .before .turn .result .rest) (r .last .0)) (c .before .after .given .1) (r .ensures .0) in
     record {
       some = f .0;
       most = f .1;
@@ -115,24 +115,24 @@ enum-known-after-2 : tie.Need-enum-known-after-2 Inv-loop μ-loop
 enum-known-after-2 c = search needs
 
 same-length-6 : tie.Need-same-length-6 Inv-loop μ-loop
-same-length-6 c = c .before .before .before .before .before .before .before .read-on .kept .0 ∙ c .before .before .before .before .before .before .before .before .before .before .before .before .before .before .before .before .before .before .before .before .before .before .before .before .turn .kept .0 ∙ c .before .before .before .before .before .before .before .before .before .before .before .before .before .before .before .before .before .before .before .before .before .before .before .before .before .before .before .before .before .before .before .before .loop .inv .0
+same-length-6 c = c .before .before .before .before .before .before .before .read-on .kept .0 ∙ c .before .before .before .before .before .before .before .before .before .before .before .before .before .before .before .before .before .before .before .before .before .before .before .before .turn .kept .1 .0 ∙ c .before .before .before .before .before .before .before .before .before .before .before .before .before .before .before .before .before .before .before .before .before .before .before .before .before .before .before .before .before .before .before .before .loop .inv .0
 
 same-length-7 : tie.Need-same-length-7 Inv-loop μ-loop
-same-length-7 c = c .before .before .before .before .before .before .before .before .before .before .before .before .before .before .before .before .before .before .before .before .before .before .before .before .turn .kept .1 .1 .1 .1 .0 ∙ c .before .before .before .before .before .before .before .before .before .before .before .before .before .before .before .before .before .before .before .before .before .before .before .before .before .before .before .before .before .before .before .before .loop .inv .1
+same-length-7 c = c .before .before .before .before .before .before .before .before .before .before .before .before .before .before .before .before .before .before .before .before .before .before .before .before .turn .kept .1 .1 .1 .1 .1 .0 ∙ c .before .before .before .before .before .before .before .before .before .before .before .before .before .before .before .before .before .before .before .before .before .before .before .before .before .before .before .before .before .before .before .before .loop .inv .1
 
 same-length-8 : tie.Need-same-length-8 Inv-loop μ-loop
-same-length-8 c = c .before .before .before .before .before .before .before .before .before .before .before .before .before .before .before .before .before .before .before .before .before .before .before .before .turn .kept .1 .1 .1 .1 .1 .0 ∙ c .before .before .before .before .before .before .before .before .before .before .before .before .before .before .before .before .before .before .before .before .before .before .before .before .before .before .before .before .before .before .before .before .loop .inv .2
+same-length-8 c = c .before .before .before .before .before .before .before .before .before .before .before .before .before .before .before .before .before .before .before .before .before .before .before .before .turn .kept .1 .1 .1 .1 .1 .1 .0 ∙ c .before .before .before .before .before .before .before .before .before .before .before .before .before .before .before .before .before .before .before .before .before .before .before .before .before .before .before .before .before .before .before .before .loop .inv .2
 
 same-length-9 : tie.Need-same-length-9 Inv-loop μ-loop
-same-length-9 c = c .before .before .before .before .before .before .before .before .before .before .before .before .before .before .before .before .before .before .before .before .before .before .before .before .turn .kept .1 .1 .1 .1 .1 .1 .0 ∙ c .before .before .before .before .before .before .before .before .before .before .before .before .before .before .before .before .before .before .before .before .before .before .before .before .before .before .before .before .before .before .before .before .loop .inv .3
+same-length-9 c = c .before .before .before .before .before .before .before .before .before .before .before .before .before .before .before .before .before .before .before .before .before .before .before .before .turn .kept .1 .1 .1 .1 .1 .1 .1 .0 ∙ c .before .before .before .before .before .before .before .before .before .before .before .before .before .before .before .before .before .before .before .before .before .before .before .before .before .before .before .before .before .before .before .before .loop .inv .3
 
 same-length-10 : tie.Need-same-length-10 Inv-loop μ-loop
-same-length-10 c = c .before .before .before .before .before .before .before .read-on .kept .1 .1 .1 .0 ∙ c .before .before .before .before .before .before .before .before .before .before .before .before .before .before .before .before .before .before .before .before .before .before .before .before .turn .kept .1 .1 .1 .1 .1 .1 .1 .0 ∙ c .before .before .before .before .before .before .before .before .before .before .before .before .before .before .before .before .before .before .before .before .before .before .before .before .before .before .before .before .before .before .before .before .loop .inv .4
+same-length-10 c = c .before .before .before .before .before .before .before .read-on .kept .1 .1 .1 .0 ∙ c .before .before .before .before .before .before .before .before .before .before .before .before .before .before .before .before .before .before .before .before .before .before .before .before .turn .kept .1 .1 .1 .1 .1 .1 .1 .1 .0 ∙ c .before .before .before .before .before .before .before .before .before .before .before .before .before .before .before .before .before .before .before .before .before .before .before .before .before .before .before .before .before .before .before .before .loop .inv .4
 
 returns-2 : tie.Need-returns-2 Inv-loop μ-loop
 returns-2 c =
     let r = c .before .before .before .before .before .before .before .read-on in
-    ends (r .result) _ (c .before .before .before .before .before .before .before .before .before .before .before .before .before .before .before .before .before .before .before .before .before .before .before .before .turn .last .1 .1 .1 .1 .1 .1 .1 .1 .0) (r .last .1 .1 .1 .1 .0) (drop (c .before .before .before .before .before .before .before .before .before .before .before .before .before .before .before .before .before .before .before .before .before .before .before .before .turn .result .rest) (r .last .0)) (c .before .after2 .given .1) (r .ensures .0)
+    ends (r .result) _ (c .before .before .before .before .before .before .before .before .before .before .before .before .before .before .before .before .before .before .before .before .before .before .before .before .turn .last .1 .1 .1 .1 .1 .1 .1 .1 .1 .0) (r .last .1 .1 .1 .1 .0) (drop (c .before .before .before .before .before .before .before .before .before .before .before .before .before .before .before .before .before .before .before .before .before .before .before .before .turn .result .rest) (r .last .0)) (c .before .after2 .given .1) (r .ensures .0)
 
 sub-turns : tie.Need-sub-turns Inv-loop μ-loop
 sub-turns c = omega (arith, c .before .before .before .before .before .before .before .before .before .before .before .before .before .before .before .before .before .before .before .before .before .before .before .before .before .before .before .before .before .before .before .loop-test .taken)
@@ -148,15 +148,15 @@ loop-again c =
     let m = came c in
     let more = c .before .after .given .0 .0 in
     let cs = r .last .0 in (
-      r .kept .0 ∙ t .kept .0 ∙ l .inv .0,
-      t .kept .1 .1 .1 .1 .0 ∙ l .inv .1,
-      t .kept .1 .1 .1 .1 .1 .0 ∙ l .inv .2,
-      t .kept .1 .1 .1 .1 .1 .1 .0 ∙ l .inv .3,
-      r .kept .1 .1 .1 .0 ∙ t .kept .1 .1 .1 .1 .1 .1 .1 .0 ∙ l .inv .4,
+      r .kept .0 ∙ t .kept .1 .0 ∙ l .inv .0,
+      t .kept .1 .1 .1 .1 .1 .0 ∙ l .inv .1,
+      t .kept .1 .1 .1 .1 .1 .1 .0 ∙ l .inv .2,
+      t .kept .1 .1 .1 .1 .1 .1 .1 .0 ∙ l .inv .3,
+      r .kept .1 .1 .1 .0 ∙ t .kept .1 .1 .1 .1 .1 .1 .1 .1 .0 ∙ l .inv .4,
       m .fits,
       omega (arith, after (c .before .before .before .before .before .before .before .before .before .before .before .before .before .before .before .before .before .before .before .before .before .before .before .before) .counted, c .before .before .before .before .before .before .before .before .before .before .before .before .before .before .before .before .before .before .before .before .before .before .before .before .before .before .before .before .before .before .before .loop-test .taken),
       t .ensures .1 .0,
-      subst (λ (b : List ℕ). Pumping (r .last .1 .1 .1 .1 .0) (placeOf b (t .result .number) (t .result .gate) (t .last .1 .1 .1 .1 .0) (t .last .1 .1 .1 .1 .1 .0) (t .last .1 .1 .1 .1 .1 .1 .0)) (l .turns - 1))
+      subst (λ (b : List ℕ). Pumping (r .last .1 .1 .1 .1 .0) (placeOf (c .before .before .before .before .before .before .before .before .before .before .before .before .before .before .before .before .before .before .before .before .before .before .before .before .before .before .before .before .before .before .before .before .before .before .before .before .before .before .args .version) b (t .result .number) (t .result .gate) (t .last .1 .1 .1 .1 .1 .0) (t .last .1 .1 .1 .1 .1 .1 .0) (t .last .1 .1 .1 .1 .1 .1 .1 .0)) (l .turns - 1))
           (ap (λ (b : List ℕ). b ++ take more (drop (t .result .rest) cs)) (sym (r .ensures .1)) ∙ sym (take-add (t .result .rest) more cs))
           (pumps _ _ _ _ _ (l .turns) (t .result .written) (t .ensures .0) (not-false _ (c .before .before .before .before .before .before .before .before .before .before .before .before .if1 .left)) (drop (t .result .rest) cs) more (m .goes) (m .some) (m .most) (omega (arith, c .before .before .before .before .before .before .before .before .before .before .before .before .before .before .before .before .before .before .before .before .before .before .before .before .before .before .before .before .before .before .before .loop-test .taken)) (l .inv .8)),
     )

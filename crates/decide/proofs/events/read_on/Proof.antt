@@ -37,7 +37,7 @@ finish-requires c κs =
     let few = length-take-le (a .have) (a .buffer .now) (omega (arith, p .0)) in (
       (p .0 .3, p .0 .1),
       subst (λ (l : List ℕ). Last printed (r .last .1 .1 .0) (cut (a .number) l)) (sym (r .ensures .1 .1))
-          (standing-last _ _ (read-none _ _ _ (r .result) (drop (a .have) (r .last .0)) (r .ensures .0) (p .1 .1) (c .before .before .before .enum-told .given .1)) (omega (arith, few, p .0))),
+          (standing-last _ _ (read-none _ _ _ (r .result) (drop (a .have) (r .last .0)) (r .ensures .0) (p .1 .2) (c .before .before .before .enum-told .given .1)) (omega (arith, few, p .0))),
     )
 
 enum-told-2 : tie.Need-enum-told-2
@@ -69,7 +69,7 @@ same-length-4 c = search needs
 returns-3 : tie.Need-returns-3
 returns-3 c =
     let r = c .before .before .before .before .refill in
-    (read-failed _ _ _ (r .result) (drop (c .before .before .before .before .before .before .before .before .before .args .have) (r .last .0)) (r .ensures .0) (c .before .before .before .before .before .before .before .before .before .pre .1 .1) (c .enum-told2 .given .1), r .ensures .1 .1)
+    (read-failed _ _ _ (r .result) (drop (c .before .before .before .before .before .before .before .before .before .args .have) (r .last .0)) (r .ensures .0) (c .before .before .before .before .before .before .before .before .before .pre .1 .2) (c .enum-told2 .given .1), r .ensures .1 .1)
 
 pub read-on-spec : {M : Type 1} → statement M
 read-on-spec =

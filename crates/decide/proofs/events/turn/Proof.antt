@@ -17,7 +17,7 @@ emit-requires : tie.Need-emit-requires
 emit-requires c κs =
     let a = c .before .before .before .before .before .before .before .before .before .before .before .before .before .before .before .before .before .before .before .before .before .before .before .before .args in
     let t = c .before .before .before .before .before .before .before .before .before .before .before .before .before .take-in in
-    (omega (arith, t .ensures .0 .room, t .kept .1 .1 .1 .1 .1 .1 .1 .0), subst (λ (l : List ℕ). Next printed (a .log .now) l) (sym (put-front (t .ensures .0 .lines) (t .ensures .0 .room))) (c .before .before .before .before .before .before .before .before .before .before .before .before .before .before .before .before .before .before .before .before .before .before .before .before .pre .1 .1))
+    (omega (arith, t .ensures .0 .room, t .kept .1 .1 .1 .1 .1 .1 .1 .1 .0), subst (λ (l : List ℕ). Next printed (a .log .now) l) (sym (put-front (t .ensures .0 .lines) (t .ensures .0 .room))) (c .before .before .before .before .before .before .before .before .before .before .before .before .before .before .before .before .before .before .before .before .before .before .before .before .pre .1 .1))
 
 same-length : tie.Need-same-length
 same-length c = search needs

@@ -33,8 +33,8 @@ shift-requires c κs =
     let p = c .before .before .before .before .before .before .before .before .before .before .before .before .before .before .before .before .before .before .before .before .before .pre in
     omega (arith, c .before .before .before .before .before .before .before .before .before .before .feed .ensures .taken, length-take-le (a .have) (a .buffer .now) (p .0 .0), p .0)
 
-add-t28 : tie.Need-add-t28
-add-t28 c =
+add-t29 : tie.Need-add-t29
+add-t29 c =
     let a = c .before .before .before .before .before .before .before .before .before .before .before .before .before .before .before .before .before .before .before .before .before .before .before .before .args in
     let p = c .before .before .before .before .before .before .before .before .before .before .before .before .before .before .before .before .before .before .before .before .before .before .before .before .pre in
     omega (arith, c .before .before .before .before .before .before .before .before .before .before .before .before .before .feed .ensures .taken, length-take-le (a .have) (a .buffer .now) (p .0 .0), p .0)
@@ -67,7 +67,7 @@ returns c =
     ∙ ap (take (a .have - f .result .events * 14)) (s .ensures .1)
     ∙ shift-front (a .buffer .now) (f .result .events * 14) (a .have) (omega (arith, n, l)) (p .0 .0)
     ∙ ap (λ (k : ℕ). drop (k * 14) bs) n in (
-      turned (a .gate) (a .guests .now) (a .waiting .now) (a .flight .now) (p .1) bs (a .number) (a .out .now) _ _ _ _ _ (f .result .events) (f .result .bytes) (f .ensures) n _ front _ (ap (λ (k : ℕ). a .number + k) n),
+      turned (a .gate) (a .guests .now) (a .waiting .now) (a .flight .now) (p .1) (a .version) bs (a .number) (a .out .now) _ _ _ _ _ (f .result .events) (f .result .bytes) (f .ensures) n _ front _ (ap (λ (k : ℕ). a .number + k) n),
       (omega (arith, s .ensures .0, n, l), omega (arith, s .ensures .0, n, l, s .kept .0, p .0 .0)),
     )
 
@@ -80,7 +80,7 @@ take-in-spec =
     feed-requires
     mul-shift
     shift-requires
-    add-t28
+    add-t29
     same-length
     same-length-2
     same-length-3

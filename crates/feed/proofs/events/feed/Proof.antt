@@ -7,18 +7,18 @@ use Rattle.feed.proofs.events.feed.Statement.{statement}
 use Rattle.feed.proofs.events.feed.Tie as tie
 
 abbrev Inv-loop : tie.InvT-loop
-Inv-loop bytes number guests₀ waiting₀ flight₀ out₀ n gate₀ i₀ at₀ guests waiting flight out gate i at =
+Inv-loop version bytes number guests₀ waiting₀ flight₀ out₀ n gate₀ i₀ at₀ guests waiting flight out gate i at =
     (i ≤ n) × (at ≤ 65 * i) × (length guests ≡ length guests₀) × (length waiting ≡ length waiting₀) × (length flight ≡ length flight₀) × (length out ≡ length out₀)
-    × (Going gate₀ guests₀ waiting₀ flight₀ bytes number out₀ i gate guests waiting flight out at)
+    × (Going version gate₀ guests₀ waiting₀ flight₀ bytes number out₀ i gate guests waiting flight out at)
 
 abbrev μ-loop : tie.MeasureT-loop
-μ-loop bytes number guests₀ waiting₀ flight₀ out₀ n gate₀ i₀ at₀ guests waiting flight out gate i at = n - i
+μ-loop version bytes number guests₀ waiting₀ flight₀ out₀ n gate₀ i₀ at₀ guests waiting flight out gate i at = n - i
 
 least-requires : tie.Need-least-requires Inv-loop μ-loop
 least-requires c κs = tt
 
 loop-holds : tie.Need-loop-holds Inv-loop μ-loop
-loop-holds c = (omega arith, omega arith, refl, refl, refl, refl, going-none _ _ _ _ (c .before .before .before .before .before .before .pre .0) _ _ _)
+loop-holds c = (omega arith, omega arith, refl, refl, refl, refl, going-none _ _ _ _ (c .before .before .before .before .before .before .pre .0) _ _ _ _)
 
 mul-one : tie.Need-mul-one Inv-loop μ-loop
 mul-one c = omega arith
@@ -44,14 +44,14 @@ loop-again : tie.Need-loop-again Inv-loop μ-loop
 loop-again c =
     let s = c .before .before .before .before .before .before .before .before .before .before .before .before .before .before .before .loop in
     let o = c .before .before .before .before .before .before .before .before .before .one in
-    let k = o .kept .1 .1 .1 .1 in (
+    let k = o .kept .1 .1 .1 .1 .1 in (
       omega (arith, c .before .before .before .before .before .before .before .before .before .before .before .before .before .before .loop-test .taken),
       omega (arith, o .ensures .short, s .inv .1),
       k .0 ∙ s .inv .2,
       k .1 .0 ∙ s .inv .3,
       k .1 .1 .0 ∙ s .inv .4,
       k .1 .1 .1 .0 ∙ s .inv .5,
-      going-next _ _ _ _ (c .before .before .before .before .before .before .before .before .before .before .before .before .before .before .before .before .before .before .before .before .before .before .pre .0) _ _ _ (s .i) _ _ _ _ (s .out) (s .at) _ _ _ _ _ _ (s .inv .6) (o .ensures),
+      going-next _ _ _ _ (c .before .before .before .before .before .before .before .before .before .before .before .before .before .before .before .before .before .before .before .before .before .before .pre .0) _ _ _ _ (s .i) _ _ _ _ (s .out) (s .at) _ _ _ _ _ _ (s .inv .6) (o .ensures),
     )
 
 same-length : tie.Need-same-length Inv-loop μ-loop
@@ -72,7 +72,7 @@ returns c =
     let a = c .before .before .before .before .before .before .before .before .args in
     let n = c .before .before .least in
     let e : s .i ≡ n .result = omega (arith, c .loop-test .left, s .inv .0) in
-    let w = subst (λ (k : ℕ). Going (a .first) (a .guests .now) (a .waiting .now) (a .flight .now) (a .bytes .now) (a .number) (a .out .now) k (s .gate) (s .guests) (s .waiting) (s .flight) (s .out) (s .at)) e (s .inv .6) in
+    let w = subst (λ (k : ℕ). Going (a .version) (a .first) (a .guests .now) (a .waiting .now) (a .flight .now) (a .bytes .now) (a .number) (a .out .now) k (s .gate) (s .guests) (s .waiting) (s .flight) (s .out) (s .at)) e (s .inv .6) in
     record { taken = n .ensures; became = w .became; lines = w .lines; room = omega (arith, n .ensures, s .inv .1, e) }
 
 pub feed-spec : {M : Type 1} → statement M

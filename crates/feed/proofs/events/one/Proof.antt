@@ -48,7 +48,7 @@ returns c =
     let a = c .before .before .before .before .before .before .before .before .before .before .before .before .before .before .before .before .before .before .before .before .before .before .args in
     let n : a .from + 14 - a .from ≡ 14 = omega arith in
     let x = c .before .before .before .before .before .before .before .before .before .before .before .before .before .before .before .read-event in
-    let e = read-shown-once (x .result) _ (x .ensures) ∙ ap (λ (k : ℕ). eventOf (take k (drop (a .from) (a .bytes .now)))) n ∙ event-take (drop (a .from) (a .bytes .now)) in
+    let e = read-shown-once (x .result) _ (x .ensures) ∙ ap (λ (k : ℕ). eventOf (a .version) (take k (drop (a .from) (a .bytes .now)))) n ∙ event-take (a .version) (drop (a .from) (a .bytes .now)) in
     let j = c .before .before .before .before .before .before .before .before .before .before .before .judge in
     let l = c .before .before .put-line in
     judged-by (a .gate) (a .guests .now) (a .waiting .now) (a .flight .now) _ _ e (a .number) (a .at) (l .result) (a .out .now) _ (j .result) _ _ _ (j .ensures .0) (j .ensures .1) (l .ensures .0) (l .ensures .1)

@@ -11,7 +11,7 @@ take-in-requires c κs = search needs
 finish-requires : tie.Need-finish-requires
 finish-requires c κs =
     let t = c .before .before .before .before .before .before .before .before .before .before .before .before .before .before .before .take-in in
-    closes _ (t .result .number) (take (t .result .rest) (t .last .0)) (t .result .gate) _ _ _ _ _ (t .ensures .1 .0) (turned (t .ensures .0) (c .before .before .before .before .before .before .before .before .before .before .before .before .before .before .before .before .before .before .before .before .before .before .before .before .before .before .before .before .pre .1 .1)) (omega (arith, length-take (t .result .rest) (t .last .0), t .ensures .1 .1 .0))
+    closes _ (t .result .number) _ (take (t .result .rest) (t .last .1 .0)) (t .result .gate) _ _ _ _ _ (t .ensures .1 .0) (turned (t .ensures .0) (c .before .before .before .before .before .before .before .before .before .before .before .before .before .before .before .before .before .before .before .before .before .before .before .before .before .before .before .before .pre .1 .1)) (omega (arith, length-take (t .result .rest) (t .last .1 .0), t .ensures .1 .1 .0))
 
 same-length : tie.Need-same-length
 same-length c = search needs

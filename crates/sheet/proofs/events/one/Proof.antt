@@ -58,7 +58,7 @@ returns c =
     let a = c .before .before .before .before .before .before .before .before .before .before .before .before .before .before .before .before .before .before .before .before .before .before .before .before .before .before .before .args in
     let n : a .from + 14 - a .from ≡ 14 = omega arith in
     let x = c .before .before .before .before .before .before .before .before .before .before .before .before .before .before .before .before .before .before .before .read-event in
-    let e = read-shown-once (x .result) _ (x .ensures) ∙ ap (λ (k : ℕ). eventOf (take k (drop (a .from) (a .bytes .now)))) n ∙ event-take (drop (a .from) (a .bytes .now)) in
+    let e = read-shown-once (x .result) _ (x .ensures) ∙ ap (λ (k : ℕ). eventOf (a .version) (take k (drop (a .from) (a .bytes .now)))) n ∙ event-take (a .version) (drop (a .from) (a .bytes .now)) in
     let t = c .before .before .before .before .before .before .before .before .before .before .turn .ensures in
     (t .0 ∙ ap (read (pageOf (a .gate) (a .guests .now) (a .waiting .now) (a .flight .now) (a .book .now) (a .figures .now))) (sym (c .before .before .before .before .before .before .before .before .before .before .before .before .before .before .before .before .before .event .given .1) ∙ e), record { known = t .1 .0; kept = t .1 .1 })
 
@@ -67,7 +67,7 @@ returns-2 c =
     let a = c .before .before .before .before .before .before .before .before .before .before .args in
     let n : a .from + 14 - a .from ≡ 14 = omega arith in
     let x = c .before .before .read-event in
-    let e = read-shown-once (x .result) _ (x .ensures) ∙ ap (λ (k : ℕ). eventOf (take k (drop (a .from) (a .bytes .now)))) n ∙ event-take (drop (a .from) (a .bytes .now)) in
+    let e = read-shown-once (x .result) _ (x .ensures) ∙ ap (λ (k : ℕ). eventOf (a .version) (take k (drop (a .from) (a .bytes .now)))) n ∙ event-take (a .version) (drop (a .from) (a .bytes .now)) in
     (ap (read (pageOf (a .gate) (a .guests .now) (a .waiting .now) (a .flight .now) (a .book .now) (a .figures .now))) (sym (c .enum-told .given .1) ∙ e), firm-passed (a .number) (a .gate) _ _ _ _ _ (c .before .before .before .before .before .before .before .before .before .before .pre .1))
 
 pub one-spec : {M : Type 1} → statement M

@@ -29,8 +29,8 @@ mul-shift c = search needs
 shift-requires : tie.Need-shift-requires
 shift-requires c κs = search needs
 
-add-t29 : tie.Need-add-t29
-add-t29 c = omega (arith, c .before .before .before .before .before .before .before .before .before .before .before .before .before .before .before .before .before .before .before .before .before .before .before .before .before .before .before .pre .0 .1)
+add-t30 : tie.Need-add-t30
+add-t30 c = omega (arith, c .before .before .before .before .before .before .before .before .before .before .before .before .before .before .before .before .before .before .before .before .before .before .before .before .before .before .before .pre .0 .1)
 
 same-length : tie.Need-same-length
 same-length c = search needs
@@ -64,9 +64,9 @@ returns c =
     ∙ ap (take (a .have - a .have / 14 * 14)) (s .ensures .1)
     ∙ shift-front (a .buffer .now) (a .have / 14 * 14) (a .have) (omega arith) (p .0 .0)
     ∙ ap (λ (k : ℕ). drop (k * 14) bs) w in (
-      λ i. record { bytes = front i; page = t .ensures .0 i },
+      λ i. record { version = a .version; bytes = front i; page = t .ensures .0 i },
       (
-        subst (λ (k : ℕ). Firm (a .number + k) (t .result) (t .last .1 .1 .1 .0) (t .last .1 .1 .1 .1 .0) (t .last .1 .1 .1 .1 .1 .0) (t .last .1 .1 .1 .1 .1 .1 .0) (t .last .1 .1 .1 .1 .1 .1 .1 .0)) (sym w) (t .ensures .1),
+        subst (λ (k : ℕ). Firm (a .number + k) (t .result) (t .last .1 .1 .1 .1 .0) (t .last .1 .1 .1 .1 .1 .0) (t .last .1 .1 .1 .1 .1 .1 .0) (t .last .1 .1 .1 .1 .1 .1 .1 .0) (t .last .1 .1 .1 .1 .1 .1 .1 .1 .0)) (sym w) (t .ensures .1),
         (omega (arith, s .ensures .0), omega arith),
       ),
     )
@@ -80,7 +80,7 @@ take-in-spec =
     turn-all-requires
     mul-shift
     shift-requires
-    add-t29
+    add-t30
     same-length
     same-length-2
     same-length-3

@@ -9,15 +9,15 @@ use Rattle.sheet.proofs.events.turn_all.Statement.{statement}
 use Rattle.sheet.proofs.events.turn_all.Tie as tie
 
 abbrev Inv-loop : tie.InvT-loop
-Inv-loop bytes number guests₀ waiting₀ flight₀ book₀ figures₀ n gate₀ i₀ guests waiting flight book figures gate i =
+Inv-loop version bytes number guests₀ waiting₀ flight₀ book₀ figures₀ n gate₀ i₀ guests waiting flight book figures gate i =
     (i ≤ n) × (length guests ≡ length guests₀) × (length waiting ≡ length waiting₀) × (length flight ≡ length flight₀) × (length book ≡ length book₀) × (length figures ≡ length figures₀)
-    × Going (pageOf gate₀ guests₀ waiting₀ flight₀ book₀ figures₀) bytes number i gate guests waiting flight book figures
+    × Going version (pageOf gate₀ guests₀ waiting₀ flight₀ book₀ figures₀) bytes number i gate guests waiting flight book figures
 
 abbrev μ-loop : tie.MeasureT-loop
-μ-loop bytes number guests₀ waiting₀ flight₀ book₀ figures₀ n gate₀ i₀ guests waiting flight book figures gate i = n - i
+μ-loop version bytes number guests₀ waiting₀ flight₀ book₀ figures₀ n gate₀ i₀ guests waiting flight book figures gate i = n - i
 
 loop-holds : tie.Need-loop-holds Inv-loop μ-loop
-loop-holds c = (omega arith, refl, refl, refl, refl, refl, going-none (c .before .before .before .before .before .before .args .bytes .now) (c .before .before .before .before .before .before .args .number) _ _ _ _ _ _ (c .before .before .before .before .before .before .pre .1))
+loop-holds c = (omega arith, refl, refl, refl, refl, refl, going-none _ (c .before .before .before .before .before .before .args .bytes .now) (c .before .before .before .before .before .before .args .number) _ _ _ _ _ _ (c .before .before .before .before .before .before .pre .1))
 
 mul-one : tie.Need-mul-one Inv-loop μ-loop
 mul-one c = omega arith
@@ -40,14 +40,14 @@ loop-again : tie.Need-loop-again Inv-loop μ-loop
 loop-again c =
     let s = c .before .before .before .before .before .before .before .before .before .before .before .before .before .before .before .before .before .loop in
     let o = c .before .before .before .before .before .before .before .before .before .before .one in
-    let k = o .kept .1 .1 .1 .1 in (
+    let k = o .kept .1 .1 .1 .1 .1 in (
       omega (arith, c .before .before .before .before .before .before .before .before .before .before .before .before .before .before .before .before .loop-test .taken),
       k .0 ∙ s .inv .1,
       k .1 .0 ∙ s .inv .2,
       k .1 .1 .0 ∙ s .inv .3,
       k .1 .1 .1 .0 ∙ s .inv .4,
       k .1 .1 .1 .1 .0 ∙ s .inv .5,
-      going-next _ (c .before .before .before .before .before .before .before .before .before .before .before .before .before .before .before .before .before .before .before .before .before .before .before .before .args .bytes .now) (c .before .before .before .before .before .before .before .before .before .before .before .before .before .before .before .before .before .before .before .before .before .before .before .before .args .number) (s .i) _ _ _ _ _ _ _ _ _ _ _ _ (s .inv .6) (o .ensures .0) (o .ensures .1),
+      going-next _ _ (c .before .before .before .before .before .before .before .before .before .before .before .before .before .before .before .before .before .before .before .before .before .before .before .before .args .bytes .now) (c .before .before .before .before .before .before .before .before .before .before .before .before .before .before .before .before .before .before .before .before .before .before .before .before .args .number) (s .i) _ _ _ _ _ _ _ _ _ _ _ _ (s .inv .6) (o .ensures .0) (o .ensures .1),
     )
 
 same-length : tie.Need-same-length Inv-loop μ-loop
@@ -70,7 +70,7 @@ returns c =
     let s = c .before .loop in
     let a = c .before .before .before .before .before .before .before .before .args in
     let e : s .i ≡ whole (a .bytes .now) = omega (arith, c .loop-test .left, s .inv .0) in
-    let w = subst (λ (k : ℕ). Going (pageOf (a .first) (a .guests .now) (a .waiting .now) (a .flight .now) (a .book .now) (a .figures .now)) (a .bytes .now) (a .number) k (s .gate) (s .guests) (s .waiting) (s .flight) (s .book) (s .figures)) e (s .inv .6) in
+    let w = subst (λ (k : ℕ). Going (a .version) (pageOf (a .first) (a .guests .now) (a .waiting .now) (a .flight .now) (a .book .now) (a .figures .now)) (a .bytes .now) (a .number) k (s .gate) (s .guests) (s .waiting) (s .flight) (s .book) (s .figures)) e (s .inv .6) in
     (w .page, w .firm)
 
 pub turn-all-spec : {M : Type 1} → statement M

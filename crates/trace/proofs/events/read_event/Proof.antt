@@ -5,6 +5,9 @@ use borrow.Author.Needs.{needs}
 use Rattle.trace.proofs.events.read_event.Statement.{statement}
 use Rattle.trace.proofs.events.read_event.Tie as tie
 
+shared-slice-read-first : tie.Need-shared-slice-read-first
+shared-slice-read-first c = search needs
+
 shared-slice-read-four : tie.Need-shared-slice-read-four
 shared-slice-read-four c = search needs
 
@@ -50,8 +53,11 @@ shared-slice-read-four-12 c = search needs
 four-requires-3 : tie.Need-four-requires-3
 four-requires-3 c κs = search needs
 
-shared-slice-read-event-from : tie.Need-shared-slice-read-event-from
-shared-slice-read-event-from c = search needs
+kind-in-requires : tie.Need-kind-in-requires
+kind-in-requires c κs = search needs
+
+upper-in-requires : tie.Need-upper-in-requires
+upper-in-requires c κs = search needs
 
 shared-slice-read-wide : tie.Need-shared-slice-read-wide
 shared-slice-read-wide c = search needs
@@ -69,12 +75,13 @@ returns : tie.Need-returns
 returns c =
     ap readShown
     (c .event-from .ensures
-    ∙ event-by _ _ _ _ _ _ (c .before .before .wide .ensures) (c .before .before .before .before .before .before .before .before .before .before .before .before .before .before .before .four .ensures) (c .before .before .before .before .before .before .before .before .before .before .four2 .ensures) (c .before .before .before .before .before .four3 .ensures) (c .before .eight .ensures))
+    ∙ event-by _ _ _ _ _ _ _ _ _ (c .before .before .before .before .before .kind-in .ensures) (c .before .before .before .before .upper-in .ensures) (c .before .before .wide .ensures) (c .before .before .before .before .before .before .before .before .before .before .before .before .before .before .before .before .four .ensures) (c .before .before .before .before .before .before .before .before .before .before .before .four2 .ensures) (c .before .before .before .before .before .before .four3 .ensures) (c .before .eight .ensures))
 
 pub read-event-spec : {M : Type 1} → statement M
 read-event-spec =
     tie.close
     (tie.spec
+    shared-slice-read-first
     shared-slice-read-four
     shared-slice-read-four-2
     shared-slice-read-four-3
@@ -90,7 +97,8 @@ read-event-spec =
     shared-slice-read-four-11
     shared-slice-read-four-12
     four-requires-3
-    shared-slice-read-event-from
+    kind-in-requires
+    upper-in-requires
     shared-slice-read-wide
     wide-requires
     eight-requires

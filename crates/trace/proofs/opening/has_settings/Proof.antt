@@ -1,4 +1,4 @@
-use Prim.Native.Nat.{ℕ, _≤_, _-_}
+use Prim.Native.Nat.{ℕ, _+_, _≤_, _-_}
 use native.Mathlib.Omega.{arith}
 use mathlib.Core.Path.{_≡_, refl, sym, _∙_, ap}
 use mathlib.Core.Bool.{true}
@@ -7,27 +7,27 @@ use Rattle.lists.specs.Words.{all}
 use Rattle.lists.specs.Tab.{tab}
 use Rattle.rules.specs.Sound.{settled}
 use Rattle.trace.specs.Header.{settingsAt}
-use Rattle.trace.proofs.HeaderLaws.{tab-fails, tab-passes}
+use Rattle.trace.proofs.HeaderLaws.{body-grows, tab-fails, tab-passes}
 use Rattle.trace.proofs.opening.has_settings.Statement.{statement}
 use Rattle.trace.proofs.opening.has_settings.Tie as tie
 
 abbrev Inv-loop : tie.InvT-loop
-Inv-loop bytes guests k₀ k = (k ≤ guests) × (all settled (tab k (settingsAt bytes)) ≡ true)
+Inv-loop bytes version guests k₀ k = (k ≤ guests) × (all settled (tab k (settingsAt version bytes)) ≡ true)
 
 abbrev μ-loop : tie.MeasureT-loop
-μ-loop bytes guests k₀ k = guests - k
+μ-loop bytes version guests k₀ k = guests - k
 
 loop-holds : tie.Need-loop-holds Inv-loop μ-loop
 loop-holds c = (omega arith, refl)
 
 has-settings-at-requires : tie.Need-has-settings-at-requires Inv-loop μ-loop
-has-settings-at-requires c κs = omega arith
+has-settings-at-requires c κs = (omega arith, omega (arith, body-grows (c .before .before .before .args .version) (c .before .loop .k + 1) (c .before .before .before .args .guests) (omega arith)))
 
 returns : tie.Need-returns Inv-loop μ-loop
 returns c =
     let s = c .before .before .before in
     let a = s .before .before .args in
-    sym (tab-fails settled (a .guests) (settingsAt (a .bytes .now)) (s .loop .k) (c .before .before .loop-test .taken) (sym (c .before .has-settings-at .ensures) ∙ not-true _ (c .if1 .taken)))
+    sym (tab-fails settled (a .guests) (settingsAt (a .version) (a .bytes .now)) (s .loop .k) (c .before .before .loop-test .taken) (sym (c .before .has-settings-at .ensures) ∙ not-true _ (c .if1 .taken)))
 
 add-k : tie.Need-add-k Inv-loop μ-loop
 add-k c = omega arith
@@ -45,7 +45,7 @@ returns-2 c =
     let s = c .before .loop in
     let a = c .before .before .before .args in
     let e : s .k ≡ a .guests = omega arith in
-    sym (s .inv .1) ∙ ap (λ (n : ℕ). all settled (tab n (settingsAt (a .bytes .now)))) e
+    sym (s .inv .1) ∙ ap (λ (n : ℕ). all settled (tab n (settingsAt (a .version) (a .bytes .now)))) e
 
 pub has-settings-spec : {M : Type 1} → statement M
 has-settings-spec =

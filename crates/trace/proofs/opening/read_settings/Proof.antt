@@ -7,23 +7,24 @@ use Rattle.lists.specs.Stores.{stores}
 use Rattle.table.specs.Columns.{settingsWide}
 use Rattle.table.specs.View.{settingsForm}
 use Rattle.trace.specs.Header.{settingsAt}
+use Rattle.trace.proofs.HeaderLaws.{body-grows}
 use Rattle.trace.proofs.SettingsRows.{filled, filled-none, length-filled, filled-next}
 use Rattle.trace.proofs.opening.read_settings.Statement.{statement}
 use Rattle.trace.proofs.opening.read_settings.Tie as tie
 
 abbrev Inv-loop : tie.InvT-loop
-Inv-loop bytes guests into₀ k₀ into k = (k ≤ guests) × (length into ≡ length into₀) × (into ≡ filled bytes into₀ k)
+Inv-loop bytes version guests into₀ k₀ into k = (k ≤ guests) × (length into ≡ length into₀) × (into ≡ filled version bytes into₀ k)
 
 abbrev μ-loop : tie.MeasureT-loop
-μ-loop bytes guests into₀ k₀ into k = guests - k
+μ-loop bytes version guests into₀ k₀ into k = guests - k
 
 loop-holds : tie.Need-loop-holds Inv-loop μ-loop
 loop-holds c =
     let a = c .before .before .args in
-    (omega arith, refl, sym (filled-none (a .bytes .now) (a .into .now)))
+    (omega arith, refl, sym (filled-none (a .version) (a .bytes .now) (a .into .now)))
 
 put-settings-requires : tie.Need-put-settings-requires Inv-loop μ-loop
-put-settings-requires c κs = omega arith
+put-settings-requires c κs = (omega arith, omega (arith, body-grows (c .before .before .before .before .before .args .version) (c .before .before .loop .k + 1) (c .before .before .before .before .before .args .guests) (omega arith)), omega arith)
 
 add-k : tie.Need-add-k Inv-loop μ-loop
 add-k c = omega arith
@@ -35,9 +36,9 @@ loop-again : tie.Need-loop-again Inv-loop μ-loop
 loop-again c =
     let s = c .before .before .before .before .before .loop in
     let a = c .before .before .before .before .before .before .before .before .args in
-    let put : List ℕ → List ℕ = λ (l : List ℕ). stores (λ j. s .k * settingsWide + j) (λ j. getD (settingsForm .line (settingsAt (a .bytes .now) (s .k))) j 0) settingsWide l in
-    let e = c .before .before .put-settings .ensures ∙ ap put (s .inv .2) ∙ filled-next (a .bytes .now) (a .into .now) (s .k) (omega arith) in
-    (omega arith, ap length e ∙ length-filled (a .bytes .now) (a .into .now) (s .k + 1), e)
+    let put : List ℕ → List ℕ = λ (l : List ℕ). stores (λ j. s .k * settingsWide + j) (λ j. getD (settingsForm .line (settingsAt (a .version) (a .bytes .now) (s .k))) j 0) settingsWide l in
+    let e = c .before .before .put-settings .ensures ∙ ap put (s .inv .2) ∙ filled-next (a .version) (a .bytes .now) (a .into .now) (s .k) (omega arith) in
+    (omega arith, ap length e ∙ length-filled (a .version) (a .bytes .now) (a .into .now) (s .k + 1), e)
 
 same-length : tie.Need-same-length Inv-loop μ-loop
 same-length c = c .before .loop .inv .1
@@ -47,7 +48,7 @@ returns c =
     let s = c .before .loop in
     let a = c .before .before .before .before .args in
     let e : s .k ≡ a .guests = omega arith in
-    s .inv .2 ∙ ap (filled (a .bytes .now) (a .into .now)) e
+    s .inv .2 ∙ ap (filled (a .version) (a .bytes .now) (a .into .now)) e
 
 pub read-settings-spec : {M : Type 1} → statement M
 read-settings-spec =

@@ -1,0 +1,10 @@
+pub mod First
+pub mod Plain
+pub mod Parts
+pub mod Bytes
+pub mod Returning
+pub mod Verdicts
+pub mod Movable
+pub mod Exactly
+pub mod Theorems
+pub mod Upward

@@ -1,0 +1,4 @@
+pub mod Result
+pub mod Moves
+pub mod Judging
+pub mod Cases

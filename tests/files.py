@@ -1,0 +1,266 @@
+#!/usr/bin/env python3
+"""Tests the program of files/, by which the words up and back of sgq move a trace over the library: what it writes, beside
+the second program; and for each fault one line, the status, and that an existing file is replaced by a whole result or not
+at all.
+
+The library is target/staticlib/libhost.a, which 'rt staticlib host' writes; the environment variable SGQ_LIB may name
+another archive, as to try these tests on a wrong one. Ends with 'N passed, M failed'."""
+import os
+import pathlib
+import resource
+import signal
+import stat
+import subprocess
+import sys
+import tempfile
+
+from kit import LIBRARY, ROOT, SECOND, Stop, build_second, need_library, random_trace, run_tests, sgqtext
+from machine import OWN, before_linked, compiler, say_how
+
+SOURCES = [ROOT / "files" / name for name in ("files.c", "whole.c")]
+WARNINGS = ["-Wall", "-Wextra", "-Wpedantic", "-Werror", "-Wshadow", "-Wconversion", "-Wcast-qual"]
+KINDS = ["small", "small2", "header", "header2", "cut", "cut2", "garbage", "garbage2", "waits", "waits2"]
+SEEDS = 12
+NOBODY = 65534
+MOST_SECONDS = 60
+
+HEAD = "depth 4\ncapacity 8\nguest 0 reservation 100 limit 250 shares 1\n"
+EVENTS = "arrival 0 1 at 5\ncompletion 0 1 at 6\ntick at 7\n"
+ONE, TWO = (sgqtext.to_bytes(f"version {version}\n{HEAD}{EVENTS}") for version in (1, 2))
+COSTLY = sgqtext.to_bytes(HEAD + EVENTS + "arrival 0 2 at 8 cost 3\n")
+# A word, a trace, and what is said of it.
+REFUSED = [
+    ("up", b"", "it ends within its header (13)"),
+    ("up", ONE[:20], "it ends within its header (13)"),
+    ("back", TWO[:9], "it ends within its header (13)"),
+    ("up", b"sgq" + ONE[3:], "it does not begin with the letters SGQ (11), so it is no trace, nor does it begin as a text does"),
+    ("up", TWO, "it is of version 2, and up takes version 1 (12)"),
+    ("back", ONE, "it is of version 1, and back takes version 2 (12)"),
+    ("back", TWO[:3] + b"\x03\x02" + TWO[5:], "it is of version 515, and back takes version 2 (12)"),
+    ("up", ONE[:5] + b"\0" + ONE[6:], "a setting in its header is out of range (1); samples/README.md has the ranges"),
+    ("up", ONE[:-14] + b"\x03" + ONE[-13:], "event 3 is of no known kind, or has a guest, an id or a cost that its kind does not have (14)"),
+    ("up", ONE[:-1], "it ends within event 3, its last one (15)"),
+    ("back", COSTLY, "event 4 has a cost other than 1, which version 1 cannot say (19)"),
+    ("back", TWO[:9] + b"\x02" + TWO[10:], "its rule is not 1 or a guest has credit, which version 1 cannot say (19)"),
+    ("back", TWO[:22] + b"\x01" + TWO[23:], "its rule is not 1 or a guest has credit, which version 1 cannot say (19)"),
+]
+
+
+class House:
+    """A folder with the program and a few traces."""
+
+    def __init__(self, folder):
+        self.folder, self.program = folder, folder / "files"
+        words = [*compiler("cc"), "-std=c99", "-O2", *WARNINGS, f"-I{ROOT / 'include'}", *SOURCES, LIBRARY, "-o", self.program]
+        made = subprocess.run([str(word) for word in words], capture_output=True, text=True)
+        if made.returncode != 0:
+            raise Stop(f"files/ was not built\n{made.stderr[-2000:]}")
+        folder.chmod(0o755)  # one test looks at it as another user
+        self.work = folder / "work"
+        self.work.mkdir()
+
+    def write(self, name, content):
+        path = self.work / name
+        path.write_bytes(content)
+        return path
+
+    def run(self, *words, **more):
+        settings = {"cwd": self.work, "capture_output": True, "timeout": MOST_SECONDS, **more}
+        return subprocess.run([*before_linked(), str(self.program), *map(str, words)], **settings)
+
+    def names(self):
+        return sorted(os.listdir(self.work))
+
+
+def check(tally, name, ended, status, said="", output=b""):
+    """Holds a run to its status, its output, and the one line that it says, or none."""
+    line = f"sgq: {said}\n" if said else ""
+    heard = ended.stderr.decode(errors="replace")
+    good = (ended.returncode, ended.stdout, heard) == (status, output, line)
+    tally.add(name, None if good else f"it ended with {ended}")
+
+
+def hold(tally, name, good, why="it does not"):
+    tally.add(name, None if good else why)
+
+
+def test_words(tally, house):
+    usage = "say 'up TRACE OUT' or 'back TRACE OUT'"
+    for words in ([], ["up"], ["up", "a"], ["down", "a", "b"], ["up", "a", "b", "c", "d"]):
+        check(tally, f"the words {words}", house.run(*words), 2, usage)
+    hold(tally, "nothing is made of them", house.names() == [], house.names())
+
+
+def test_moves(tally, house):
+    """New files, old ones, a file in its own place, standard output, names of any kind, links."""
+    for word, given, result in (("up", ONE, TWO), ("back", TWO, ONE)):
+        house.write("trace", given)
+        check(tally, f"{word}", house.run(word, "trace", "out"), 0)
+        hold(tally, f"what {word} writes", (house.work / "out").read_bytes() == result)
+        check(tally, f"{word} to standard output", house.run(word, "trace", "-"), 0, output=result)
+        check(tally, f"{word} in its place", house.run(word, "trace", "trace"), 0)
+        hold(tally, f"what {word} writes there", (house.work / "trace").read_bytes() == result)
+    house.write("trace", ONE)
+    old = house.write("old", b"a longer file than the result will be " * 9)
+    old.chmod(0o640)
+    (house.work / "link").symlink_to("old")
+    check(tally, "up over a link", house.run("up", "trace", "link"), 0)
+    hold(tally, "the file is replaced", old.read_bytes() == TWO and (house.work / "link").is_symlink())
+    hold(tally, "its mode stays", stat.S_IMODE(old.stat().st_mode) == 0o640, oct(old.stat().st_mode))
+    check(tally, "a new file", house.run("up", "trace", "new", preexec_fn=lambda: os.umask(0o027)), 0)
+    hold(tally, "its mode is that of any", stat.S_IMODE((house.work / "new").stat().st_mode) == 0o640)
+    check(tally, "a name with a space", house.run("up", "trace", "new one"), 0)
+    check(tally, "the longest name", house.run("up", "trace", "x" * 255), 0)
+    (house.work / ("x" * 255)).unlink()
+    check(tally, "a name with %s", house.run("up", "trace", "%s%n"), 0)
+    many = house.write("many", ONE + ONE[-14:] * 300_000)
+    check(tally, "a long trace", house.run("up", "many", "out"), 0)
+    hold(tally, "what it becomes", (house.work / "out").read_bytes() == TWO + ONE[-14:] * 300_000)
+    many.unlink()
+    left = ["%s%n", "link", "new", "new one", "old", "out", "trace"]
+    hold(tally, "nothing is left beside", house.names() == left, house.names())
+
+
+def test_refused(tally, house):
+    """What is refused is said with its meaning and its event, and leaves the file as it was, or none."""
+    for name in house.names():
+        (house.work / name).unlink()
+    for word, trace, said in REFUSED:
+        house.write("trace", trace)
+        for out in ("old", "none"):
+            house.write("old", b"old")
+            ended = house.run(word, "trace", out, "the trace")
+            check(tally, f"{word}, {said}", ended, 1, f"the trace is refused: {said}")
+            same = (house.work / "old").read_bytes() == b"old" and house.names() == ["old", "trace"]
+            hold(tally, f"it leaves all, {said}", same, house.names())
+    check(tally, "refused to standard output", house.run("up", "trace", "-"), 1, "trace is refused: it is of version 2, and up takes version 1 (12)")
+
+
+def test_beside_second(tally, house):
+    """Random traces, damaged ones too: the same bytes as the second program's, or the same refusal."""
+    for kind in KINDS:
+        for seed in range(1, SEEDS + 1):
+            trace = random_trace(kind, seed)
+            house.write("trace", trace)
+            for word in ("up", "back"):
+                tally.add(f"{word} of {kind} seed {seed}", beside_second(house, word, trace), trace)
+
+
+def beside_second(house, word, trace):
+    second = subprocess.run([SECOND, word], input=trace, capture_output=True)
+    ours = house.run(word, "trace", "-")
+    if second.returncode == 0:
+        same = (ours.returncode, ours.stdout, ours.stderr) == (0, second.stdout, b"")
+        return None if same else f"it ended with {ours.returncode}, {ours.stderr}, and second wrote {len(second.stdout)} bytes"
+    number, event = second.stdout.split()[1:]
+    heard = ours.stderr.decode()
+    good = (ours.returncode, ours.stdout) == (1, b"") and f"({int(number)})" in heard and heard.count("\n") == 1
+    good = good and (event == b"0" or f"event {int(event)}" in heard)
+    return None if good else f"it said {heard!r}, and second {second.stdout}"
+
+
+def test_faults(tally, house):
+    """Names that lead nowhere, what cannot be read, and what cannot be written."""
+    house.write("trace", ONE)
+    (house.work / "folder").mkdir()
+    os.mkfifo(house.work / "pipe")
+    for name, words, said in (
+        ("no trace", ["lost", "out"], "there is no file 'lost': name a trace"),
+        ("a folder for a trace", ["folder", "out"], "folder is a folder: name a file in it"),
+        ("a device for a trace", ["/dev/null", "out"], "/dev/null is no plain file: name one"),
+        ("a folder for a result", ["trace", "folder"], "folder is a folder: name a file in it"),
+        ("no folder for a result", ["trace", "lost/out"], "there is no folder 'lost' for lost/out: make it first"),
+        ("a file for a folder", ["trace", "trace/out"], "there is no folder 'trace' for trace/out: make it first"),
+        ("a pipe for a result", ["trace", "pipe"], "pipe is no plain file, and would be replaced: name one, or - for standard output"),
+        ("no name", ["trace", ""], "the result has no name: name a file"),
+        ("a long name", ["trace", "x" * 300], f"{'x' * 300} could not be written and is as it was: File name too long"),
+    ):
+        check(tally, name, house.run("up", *words), 1, said)
+    other = {"user": NOBODY, "group": NOBODY, "extra_groups": []} if os.geteuid() == 0 else {}
+    if other:
+        said = "out could not be written: Permission denied: look at its folder"
+        check(tally, "a folder that cannot be written", house.run("up", "trace", "out", **other), 1, said)
+    (house.work / "trace").chmod(0)
+    check(tally, "a trace that cannot be read", house.run("up", "trace", "-", **other), 1, "trace cannot be read: Permission denied")
+    (house.work / "trace").chmod(0o644)
+    old = house.write("out", b"old")
+    # The script's own process ignores the signal; the program is to do so too.
+    limit = lambda: resource.setrlimit(resource.RLIMIT_FSIZE, (20, 20))
+    said = "out could not be written and is as it was: File too large"
+    check(tally, "a disc that is full", house.run("up", "trace", "out", preexec_fn=limit), 1, said)
+    hold(tally, "the old file stays", old.read_bytes() == b"old")
+    with open("/dev/full", "wb") as full:
+        ended = house.run("up", "trace", "-", capture_output=False, stdout=full, stderr=subprocess.PIPE)
+    heard = ended.stderr.decode()
+    good = ended.returncode == 1 and heard == "sgq: standard output could not be written: No space left on device\n"
+    tally.add("standard output that is full", None if good else f"it ended with {ended}")
+    names = ["folder", "old", "out", "pipe", "trace"]
+    hold(tally, "nothing is left beside", house.names() == names, house.names())
+
+
+def test_full(tally, house):
+    """A file system without room, where this user may make one."""
+    place = house.work / "small"
+    place.mkdir()
+    made = subprocess.run(["mount", "-t", "tmpfs", "-o", "size=64k", "tmpfs", place], capture_output=True)
+    if made.returncode != 0:
+        print("no small file system could be mounted: a full disc was only tried as a limit of the file's length")
+        return
+    try:
+        (place / "out").write_bytes(b"old")
+        house.write("many", ONE + ONE[-14:] * 10_000)
+        said = "small/out could not be written and is as it was: No space left on device"
+        check(tally, "a file system that is full", house.run("up", "many", "small/out"), 1, said)
+        hold(tally, "the old file stays there", os.listdir(place) == ["out"] and (place / "out").read_bytes() == b"old")
+    finally:
+        subprocess.run(["umount", place], check=True)
+
+
+def loaded_before(house, source):
+    """What runs the program with this C loaded before the C library."""
+    library = house.folder / "before.so"
+    (house.folder / "before.c").write_text(source)
+    made = [*compiler("cc"), "-shared", "-fPIC", house.folder / "before.c", "-o", library]
+    subprocess.run([str(word) for word in made], check=True)
+    if OWN:
+        return lambda *words: house.run(*words, env=dict(os.environ, LD_PRELOAD=str(library)))
+    before = before_linked()
+    words_before = [*before[:2], "--preload", str(library), *before[2:], str(house.program)]
+    return lambda *words: subprocess.run([*words_before, *words], cwd=house.work, capture_output=True, timeout=MOST_SECONDS)
+
+
+def test_stopped(tally, house):
+    """A signal before the result is in its place leaves the old file and nothing beside it; a trace that becomes shorter
+    while it is read is told."""
+    house.write("trace", ONE)
+    house.write("out", b"old")
+    names = house.names()
+    signalled = loaded_before(house, "#include <signal.h>\nint fsync(int file) { return file < 0 ? 0 : raise(SIGTERM); }\n")
+    check(tally, "ended by a signal", signalled("up", "trace", "out"), 128 + signal.SIGTERM)
+    same = (house.work / "out").read_bytes() == b"old" and house.names() == names
+    hold(tally, "it leaves all", same, house.names())
+    lines = ["#define _GNU_SOURCE", "#include <sys/syscall.h>", "#include <unistd.h>"]
+    lines += ['int close(int file) { return truncate("trace", 0) != 0 ? -1 : (int)syscall(SYS_close, file); }', ""]
+    shortened = loaded_before(house, "\n".join(lines))
+    said = "the trace became shorter while it was read, so nothing was written: try again"
+    check(tally, "a trace that becomes shorter", shortened("up", "trace", "out", "the trace"), 1, said)
+    same = (house.work / "out").read_bytes() == b"old" and house.names() == names
+    hold(tally, "that leaves all too", same, house.names())
+
+
+def tests(tally):
+    need_library()
+    build_second()
+    say_how(linked=True)
+    with tempfile.TemporaryDirectory() as name:
+        house = House(pathlib.Path(name))
+        test_words(tally, house)
+        test_moves(tally, house)
+        test_refused(tally, house)
+        test_beside_second(tally, house)
+        test_faults(tally, house)
+        test_full(tally, house)
+        test_stopped(tally, house)
+
+
+sys.exit(run_tests(tests))
