@@ -1,0 +1,4 @@
+pub mod Fates
+pub mod Result
+pub mod Salvages
+pub mod Judging
