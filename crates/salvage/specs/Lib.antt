@@ -2,3 +2,4 @@ pub mod Fates
 pub mod Result
 pub mod Salvages
 pub mod Judging
+pub mod Cases
