@@ -5,3 +5,7 @@ pub mod Fields
 pub mod Reasons
 pub mod Rows
 pub mod Again
+pub mod Heads
+pub mod Exactly
+pub mod Theorems
+pub mod Example
