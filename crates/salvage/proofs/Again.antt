@@ -9,7 +9,7 @@ use lib.Seq.{length-take-le, take-all, take-add, take-at, drop-at, take-append-l
 use Rattle.lists.specs.Tab.{tab, tab-snoc, tab-ext}
 use Rattle.salvage.specs.Fates.{fateOf, reasonIn, after, lastAt, fateAt}
 use Rattle.salvage.specs.Result.{bytesBy, Row, rowBy, keptOf, rowsOf, eventCount}
-use Rattle.salvage.specs.Cases.{Within, none, both, skip}
+use Rattle.salvage.specs.Cases.{InOrder, none, both, skip}
 use Rattle.salvage.specs.declared.Last.{Last}
 use Rattle.salvage.specs.declared.Fate.{Fate}
 use Rattle.salvage.specs.declared.Fate.the-variants.{Kept, Dropped}
@@ -18,15 +18,15 @@ use Rattle.salvage.proofs.Fields.{some, kept-by, fate-append, fate-take
 
 -- THE OLD ORDER
 
-within-both : {A : Type 0} {xs ys : List A} (z : A) → Within xs ys → Within (xs ++ (z ∷ [])) (ys ++ (z ∷ []))
-within-both z none = both none
-within-both z (both w) = both (within-both z w)
-within-both z (skip w) = skip (within-both z w)
+order-both : {A : Type 0} {xs ys : List A} (z : A) → InOrder xs ys → InOrder (xs ++ (z ∷ [])) (ys ++ (z ∷ []))
+order-both z none = both none
+order-both z (both w) = both (order-both z w)
+order-both z (skip w) = skip (order-both z w)
 
-within-skip : {A : Type 0} {xs ys : List A} (z : A) → Within xs ys → Within xs (ys ++ (z ∷ []))
-within-skip z none = skip none
-within-skip z (both w) = both (within-skip z w)
-within-skip z (skip w) = skip (within-skip z w)
+order-skip : {A : Type 0} {xs ys : List A} (z : A) → InOrder xs ys → InOrder xs (ys ++ (z ∷ []))
+order-skip z none = skip none
+order-skip z (both w) = both (order-skip z w)
+order-skip z (skip w) = skip (order-skip z w)
 
 -- the bytes of event k
 abbrev pub piece : List ℕ → ℕ → List ℕ
@@ -76,7 +76,7 @@ pub record Again (v : ℕ) (bs : List ℕ) (k : ℕ) : Type 0 where
   pub last : lastAt v (keptOf v bs k) count ≡ lastAt v bs k
   pub kept : keptOf v (keptOf v bs k) count ≡ keptOf v bs k
   pub rows : rowsOf v (keptOf v bs k) count ≡ []
-  pub order : Within (tab count (piece (keptOf v bs k))) (tab k (piece bs))
+  pub order : InOrder (tab count (piece (keptOf v bs k))) (tab k (piece bs))
 
 module _ (v : ℕ) (bs : List ℕ) where
   -- one event more that is kept
@@ -102,9 +102,9 @@ module _ (v : ℕ) (bs : List ℕ) where
         kept = ap (λ (l : List ℕ). keptOf v l (suc m)) here
             ∙ (λ i. (kept-front v xs ys m fits ∙ a .kept) i ++ bytesBy (fate i) (own i)) ∙ sym here;
         rows = ap (λ (l : List ℕ). rowsOf v l (suc m)) here ∙ (λ i. (rows-front v xs ys m fits ∙ a .rows) i ++ rowBy (fate i) (m + 1));
-        order = subst (λ (l : List (List ℕ)). Within l (tab (suc k) (piece bs)))
+        order = subst (λ (l : List (List ℕ)). InOrder l (tab (suc k) (piece bs)))
             (sym (ap (λ (l : List ℕ). tab (suc m) (piece l)) here ∙ tab-snoc m (piece zs) ∙ (λ i. pieces-front v xs ys m fits i ++ (own i ∷ []))))
-            (subst (Within (tab m (piece xs) ++ (ys ∷ []))) (sym (tab-snoc k (piece bs))) (within-both ys (a .order)));
+            (subst (InOrder (tab m (piece xs) ++ (ys ∷ []))) (sym (tab-snoc k (piece bs))) (order-both ys (a .order)));
       }
 
   -- and one that is dropped
@@ -119,8 +119,8 @@ module _ (v : ℕ) (bs : List ℕ) where
         last = ap (λ (l : List ℕ). lastAt v l (a .count)) here ∙ a .last ∙ sym (ap (after (lastAt v bs k)) e);
         kept = ap (λ (l : List ℕ). keptOf v l (a .count)) here ∙ a .kept ∙ sym here;
         rows = ap (λ (l : List ℕ). rowsOf v l (a .count)) here ∙ a .rows;
-        order = subst (λ (l : List ℕ). Within (tab (a .count) (piece l)) (tab (suc k) (piece bs))) (sym here)
-            (subst (Within (tab (a .count) (piece xs))) (sym (tab-snoc k (piece bs))) (within-skip (piece bs k) (a .order)));
+        order = subst (λ (l : List ℕ). InOrder (tab (a .count) (piece l)) (tab (suc k) (piece bs))) (sym here)
+            (subst (InOrder (tab (a .count) (piece xs))) (sym (tab-snoc k (piece bs))) (order-skip (piece bs k) (a .order)));
       }
 
   pub again : (k : ℕ) → Again v bs k

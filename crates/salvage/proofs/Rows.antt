@@ -11,14 +11,13 @@ use Rattle.trace.specs.Answers.{eventBytes}
 use Rattle.salvage.specs.Fates.{fateOf, reasonIn, lastAt, fateAt}
 use Rattle.salvage.specs.Result.{Row, rowBy, keptOf, rowsOf, rowsIn, keptIn}
 use Rattle.salvage.specs.Judging.{bytesFor, rowsFor}
-use Rattle.salvage.specs.Cases.{eventsIn, reasonAt}
+use Rattle.salvage.specs.Cases.{eventsIn, reasonAt, rowAt}
 use Rattle.salvage.specs.declared.Fate.{Fate}
 use Rattle.salvage.specs.declared.Fate.the-variants.{Kept, Dropped}
 use Rattle.salvage.proofs.Counts.{length-kept-more, length-rows-more}
 use Rattle.salvage.proofs.Fields.{Some, some}
 
--- the row of an event and a reason
-abbrev pub row : ℕ → ℕ → Row
+abbrev row : ℕ → ℕ → Row
 row n r = record { number = n; reason = r }
 
 -- ONE EVENT
@@ -86,7 +85,7 @@ module _ (v : ℕ) (bs : List ℕ) where
 -- OF A TRACE
 
 -- an event and a reason stand in the list exactly where the event is dropped for it
-pub listed : (bs : List ℕ) (k r : ℕ) → List·Memᴰ (row (k + 1) r) (rowsIn bs) ↔ ((k < eventsIn bs) × (0 < r) × (reasonAt bs k ≡ r))
+pub listed : (bs : List ℕ) (k r : ℕ) → List·Memᴰ (rowAt k r) (rowsIn bs) ↔ ((k < eventsIn bs) × (0 < r) × (reasonAt bs k ≡ r))
 listed bs k r =
     (rows-in (versionOf bs) (eventBytes bs) (eventsIn bs) k r, λ p. in-rows (versionOf bs) (eventBytes bs) (eventsIn bs) k r (p .0) (p .1) (p .2))
 

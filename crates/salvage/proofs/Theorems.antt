@@ -23,7 +23,7 @@ use Rattle.moved.specs.Cases.{WellFormed}
 use Rattle.moved.proofs.Verdicts.{judged-accept}
 use Rattle.salvage.specs.Result.{Row, keptOf, rowsOf, eventCount, keptIn, rowsIn, salvaged, flat, listOf}
 use Rattle.salvage.specs.Salvages.{roomTests, salvageTests, salvagedShown, answerBy, roomBy, listBy, leavesBy, salvages}
-use Rattle.salvage.specs.Cases.{eventsIn, reasonAt, pieces, dropCases, Clean, Within}
+use Rattle.salvage.specs.Cases.{eventsIn, reasonAt, pieces, dropCases, Clean, Untouched, InOrder}
 use Rattle.salvage.specs.declared.Salvaged.{Salvaged}
 use Rattle.salvage.specs.declared.Salvaged.the-variants.{Written, Refused}
 use Rattle.salvage.proofs.Counts.{length-flat}
@@ -127,10 +127,10 @@ module _ (bs : List ℕ) (header : NoneHolds (headerCases bs)) where
       }
 
   -- its events stand in the old order
-  pub old-order : Within (pieces t) (pieces bs)
+  pub old-order : InOrder (pieces t) (pieces bs)
   old-order =
       let e : pieces t ≡ tab count (piece (keptIn bs)) = (λ i. tab (eventCount (events-there bs good i)) (piece (events-there bs good i))) ∙ ap (λ (n : ℕ). tab n (piece (keptIn bs))) kept-count in
-      subst (λ (l : List (List ℕ)). Within l (pieces bs)) (sym e) (again v (eventBytes bs) (eventsIn bs) .order)
+      subst (λ (l : List (List ℕ)). InOrder l (pieces bs)) (sym e) (again v (eventBytes bs) (eventsIn bs) .order)
 
 -- ONCE: two answers that are shown alike are equal, so a salvage admits one answer, one room and one list
 at : ℕ → List ℕ → ℕ
@@ -150,17 +150,6 @@ once bs room list a b xs ys zs ws p q =
     (salvaged-shown-once a b (ap (λ (x : List ℕ × List ℕ × List ℕ). x .0) e), ap (λ (x : List ℕ × List ℕ × List ℕ). x .1) e, ap (λ (x : List ℕ × List ℕ × List ℕ). x .2) e)
 
 -- UNTOUCHED: room and list are as long as before, and behind the bytes and the rows written they are as they were; nothing is written when refused
-abbrev pub bytesWritten : List ℕ × List ℕ × List ℕ → ℕ
-bytesWritten x = getD (x .0) 1 0
-
-abbrev pub rowsWritten : List ℕ × List ℕ × List ℕ → ℕ
-rowsWritten x = getD (x .0) 2 0
-
-pub record Untouched (x : List ℕ × List ℕ × List ℕ) (room list : List ℕ) : Type 0 where
-  pub room-long : length (x .1) ≡ length room
-  pub room-behind : drop (bytesWritten x) (x .1) ≡ drop (bytesWritten x) room
-  pub list-long : length (x .2) ≡ length list
-  pub list-behind : drop (rowsWritten x * 2) (x .2) ≡ drop (rowsWritten x * 2) list
 
 -- behind what was written at the front
 behind-sets : (xs ys : List ℕ) (n : ℕ) → length xs ≡ n → n ≤ length ys → drop n (sets ys 0 xs) ≡ drop n ys

@@ -4,7 +4,7 @@ use Prim.Native.Nat.{ℕ, _+_, _*_, _<_}
 use mathlib.Core.Path.{_≡_}
 use mathlib.Core.List.{List, [], _∷_, _++_}
 use mathlib.Core.Logic.{_⊎_}
-use lib.ListN.{length, take}
+use lib.ListN.{length, getD, take, drop}
 use Rattle.lists.specs.Tab.{tab}
 use Rattle.rules.specs.Numbers.{ceiling}
 use Rattle.rules.specs.Refused.{Case, NoneHolds, RefusedExactly}
@@ -13,7 +13,7 @@ use Rattle.trace.specs.Header.{versionOf}
 use Rattle.trace.specs.Answers.{eventBytes, bytesAt}
 use Rattle.trace.specs.Cases.{headerCases, Faulty}
 use Rattle.salvage.specs.Fates.{farthest, reasonIn, fateAt}
-use Rattle.salvage.specs.Result.{eventCount, salvaged, listOf}
+use Rattle.salvage.specs.Result.{Row, eventCount, salvaged, listOf}
 
 -- THE EVENTS of a trace
 
@@ -32,6 +32,10 @@ timeAt bs k = eightAt (bytesAt bs k) 6
 -- the bytes of each event, in order
 abbrev pub pieces : List ℕ → List (List ℕ)
 pieces bs = tab (eventsIn bs) (λ k. take 14 (bytesAt bs k))
+
+-- the row of event k, counted from 0, for a reason
+abbrev pub rowAt : (k reason : ℕ) → Row
+rowAt k r = record { number = k + 1; reason = r }
 
 -- THE REASONS, where `why` says for which reason each event is dropped, 0 where it is kept
 
@@ -69,10 +73,26 @@ roomCases bs room list = record { number = 21; condition = (room < length (salva
 abbrev pub salvageCases : List ℕ → (room list : ℕ) → List Case
 salvageCases bs room list = headerCases bs ++ roomCases bs room list
 
+-- WHAT IS LEFT of the answer, the room and the list
+
+-- the bytes and the rows that an answer says are written
+abbrev pub bytesWritten : List ℕ × List ℕ × List ℕ → ℕ
+bytesWritten x = getD (x .0) 1 0
+
+abbrev pub rowsWritten : List ℕ × List ℕ × List ℕ → ℕ
+rowsWritten x = getD (x .0) 2 0
+
+-- "Room past the results is unchanged": room and list are as long as before, and behind what is written they are as they were, from the front where nothing is
+pub record Untouched (x : List ℕ × List ℕ × List ℕ) (room list : List ℕ) : Type 0 where
+  pub room-long : length (x .1) ≡ length room
+  pub room-behind : drop (bytesWritten x) (x .1) ≡ drop (bytesWritten x) room
+  pub list-long : length (x .2) ≡ length list
+  pub list-behind : drop (rowsWritten x * 2) (x .2) ≡ drop (rowsWritten x * 2) list
+
 -- THE OLD ORDER
 
 -- the elements of a list stand in another in the same order, with others between them
-pub data Within {A : Type 0} : List A → List A → Type 0 where
-  none : Within [] []
-  both : {x : A} {xs ys : List A} → Within xs ys → Within (x ∷ xs) (x ∷ ys)
-  skip : {y : A} {xs ys : List A} → Within xs ys → Within xs (y ∷ ys)
+pub data InOrder {A : Type 0} : List A → List A → Type 0 where
+  none : InOrder [] []
+  both : {x : A} {xs ys : List A} → InOrder xs ys → InOrder (x ∷ xs) (x ∷ ys)
+  skip : {y : A} {xs ys : List A} → InOrder xs ys → InOrder xs (y ∷ ys)
