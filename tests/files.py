@@ -171,8 +171,9 @@ def test_salvage(tally, house):
     check(tally, "a second pass", house.run("salvage", "trace", "trace"), 0, output=printed)
     hold(tally, "what that leaves", (house.work / "trace").read_bytes() == kept)
     shown = (samples / "torn.list").read_text()
-    page = "".join(f"    {line}\n" for line in shown.splitlines())
-    hold(tally, "samples/README.md shows it", page in (samples / "README.md").read_text())
+    block = "".join(f"    {line}\n" for line in shown.splitlines())
+    for page in (ROOT / "README.md", samples / "README.md"):
+        hold(tally, f"{page.relative_to(ROOT)} shows it", block in page.read_text())
     many = ONE + (ONE[-14:] + bytes(14)) * 150_000
     house.write("many", many)
     rows = [(3 + 2 * at, 3) for at in range(1, 150_001)]
