@@ -1,5 +1,5 @@
 -- THE SALVAGE: a trace in which no event meets a reason comes out as it is, a second pass drops nothing, the result is well formed and its events stand in the old
--- order; each answer, room and list is one only, and room past the results is unchanged. Assumes nothing.
+-- order; each answer, room and list is one only, and room past the results is unchanged. Assumes nothing. Words in quotes are K12's.
 use Prim.Native.Nat.{ℕ, _+_, _*_, _%_, _≤_, _<_}
 use mathlib.Core.Path.{_≡_, refl, sym, ap, _∙_, subst}
 use mathlib.Core.List.{List, [], _∷_, _++_}

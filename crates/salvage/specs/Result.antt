@@ -1,4 +1,4 @@
--- Document 02, K12: what comes out of a trace with a good header: its bytes without those of the dropped events, and the list of these.
+-- Document 02, K12: what comes out of a trace with a good header: its bytes without those of the dropped events, and the list of these. Words in quotes are K12's.
 use Prim.Native.Nat.{ℕ, zero, suc, _+_, _*_, _/_}
 use mathlib.Core.List.{List, [], _∷_, _++_}
 use lib.ListN.{length, take, drop}
