@@ -5,10 +5,10 @@ use mathlib.Core.Path.{_≡_, refl, sym, ap, _∙_, subst}
 use mathlib.Core.List.{List, [], _∷_, _++_, append-nil}
 use native.Mathlib.Omega.{arith}
 use lib.ListN.{length, take, drop, length-append, length-drop}
-use lib.Seq.{length-take-le, take-all, take-add, take-at, drop-at, take-append-le, drop-append-le}
+use lib.Seq.{length-take-le, take-all, take-add, drop-at, take-append-le, drop-append-le}
 use Rattle.lists.specs.Tab.{tab, tab-snoc, tab-ext}
 use Rattle.salvage.specs.Fates.{fateOf, reasonIn, after, lastAt, fateAt}
-use Rattle.salvage.specs.Result.{bytesBy, Row, rowBy, keptOf, rowsOf, eventCount}
+use Rattle.salvage.specs.Result.{bytesBy, rowBy, keptOf, rowsOf, eventCount}
 use Rattle.salvage.specs.Cases.{InOrder, none, both, skip}
 use Rattle.salvage.specs.declared.Last.{Last}
 use Rattle.salvage.specs.declared.Fate.{Fate}

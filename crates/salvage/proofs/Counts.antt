@@ -71,9 +71,16 @@ length-flat (x ∷ xs) = let i = length-flat xs in omega arith
 -- ONE EVENT MORE
 
 module _ (v : ℕ) (bs : List ℕ) where
-  pub last-more : (k : ℕ) → lastAt v bs (k + 1) ≡ after (lastAt v bs k) (fateAt v bs k)
+  last-more : (k : ℕ) → lastAt v bs (k + 1) ≡ after (lastAt v bs k) (fateAt v bs k)
   unfolding lastAt
   last-more k = ap (lastAt v bs) (add-one k)
+
+  -- what became of event k, judged by the last kept before it, and the last kept after it
+  pub fate-here : (k : ℕ) (l : Last) (f : Fate) → f ≡ fateOf v l (drop (k * 14) bs) → l ≡ lastAt v bs k → f ≡ fateAt v bs k
+  fate-here k l f e i = e ∙ ap (λ (x : Last). fateOf v x (drop (k * 14) bs)) i
+
+  pub last-here : (k : ℕ) (l m : Last) (f : Fate) → m ≡ after l f → l ≡ lastAt v bs k → f ≡ fateAt v bs k → m ≡ lastAt v bs (k + 1)
+  last-here k l m f e i j = e ∙ (λ n. after (i n) (j n)) ∙ sym (last-more k)
 
   pub kept-more : (k : ℕ) → keptOf v bs (k + 1) ≡ keptOf v bs k ++ bytesBy (fateAt v bs k) (take 14 (drop (k * 14) bs))
   unfolding keptOf

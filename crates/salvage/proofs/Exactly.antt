@@ -1,11 +1,11 @@
 -- Each number of a salvage is given exactly where its condition holds and none before it does. Assumes nothing.
 use Prim.Native.Nat.{ℕ, zero, suc, _<_}
 use mathlib.Core.Path.{_≡_, refl, ap}
-use mathlib.Core.Bool.{Bool, true, false, _||_, false≢true, or-true}
+use mathlib.Core.Bool.{Bool, true, false, _||_, false≢true}
 use mathlib.Core.List.{List}
 use mathlib.Core.Logic.{_↔_, _⊎_, inl, inr}
 use native.Mathlib.Omega.{arith}
-use lib.ListN.{length, getD}
+use lib.ListN.{length}
 use Rattle.rules.specs.Answers.{numberOf}
 use Rattle.rules.specs.Refusals.{Verdict, accept, refuse, judged, isAccept}
 use Rattle.rules.specs.Refused.{RefusedExactly}

@@ -1,5 +1,5 @@
 -- What becomes of one event, by its fields: what it depends on, and what it says. Assumes nothing.
-use Prim.Native.Nat.{ℕ, zero, suc, _+_, _≤_, _<_}
+use Prim.Native.Nat.{ℕ, _+_, _≤_, _<_}
 use mathlib.Core.Path.{_≡_, refl, sym, ap, _∙_}
 use mathlib.Core.Bool.{Bool, true, false, _&&_}
 use mathlib.Core.List.{List, _++_}
@@ -18,7 +18,7 @@ use Rattle.trace.specs.declared.Read.{Read}
 use Rattle.trace.specs.declared.Read.the-variants.{Good, Bad}
 use Rattle.trace.proofs.EventLaws.{event-same, event-take}
 use Rattle.moved.specs.Moves.{isBad}
-use Rattle.salvage.specs.Fates.{farthest, fromTime, fromLast, byTime, byRead, fateOf, reasonIn}
+use Rattle.salvage.specs.Fates.{farthest, fromLast, byTime, byRead, fateOf, reasonIn}
 use Rattle.salvage.specs.declared.Last.{Last}
 use Rattle.salvage.specs.declared.Last.the-variants.{Nothing, At}
 use Rattle.salvage.specs.declared.Fate.{Fate}

@@ -1,8 +1,8 @@
 -- The header of what comes out is that of the trace, and the events behind it are the kept ones. Assumes nothing.
 use Prim.Native.Nat.{ℕ, _+_, _≤_, _<_}
-use mathlib.Core.Path.{_≡_, refl, sym, ap, _∙_, subst}
+use mathlib.Core.Path.{_≡_, refl, ap, _∙_}
 use mathlib.Core.Bool.{true, _&&_}
-use mathlib.Core.List.{List, _++_}
+use mathlib.Core.List.{List}
 use native.Mathlib.Omega.{arith}
 use lib.ListN.{length, take, drop, length-append, List·getD-append}
 use lib.Seq.{length-take-le, take-append-le, take-take, take-at, drop-at, getD-take}
@@ -14,7 +14,7 @@ use Rattle.rules.specs.Numbers.{within}
 use Rattle.rules.specs.Sound.{counted, ruled, settled}
 use Rattle.rules.specs.Refusals.{Verdict, accept, judged}
 use Rattle.trace.specs.Little.{byteAt, twoAt, fourAt}
-use Rattle.trace.specs.Header.{mark, same, firstVersion, lastVersion, isTwo, body, versionOf, depthOf, guestsOf, capacityOf, ruleIn, ruleOf, creditAt, settingsAt, settingsIn, headerTestsFor, headerTests, headerBy}
+use Rattle.trace.specs.Header.{mark, firstVersion, lastVersion, isTwo, body, versionOf, depthOf, guestsOf, capacityOf, ruleIn, ruleOf, creditAt, settingsAt, settingsIn, headerTestsFor, headerTests, headerBy}
 use Rattle.trace.specs.Answers.{eventBytes}
 use Rattle.trace.proofs.HeaderLaws.{Opens, opened, by-version, body-two, body-grows, body-least, record-fits, credit-fits, same-is}
 use Rattle.salvage.specs.Result.{keptIn, salvaged}

@@ -3,7 +3,7 @@ use Prim.Native.Nat.{ℕ, zero, suc, _+_, _*_, _≤_, _<_}
 use mathlib.Core.Path.{_≡_, refl, sym, ap, _∙_, subst}
 use mathlib.Core.Bool.{Bool, true, false, false≢true}
 use mathlib.Core.List.{List, [], _∷_}
-use mathlib.Core.Logic.{_↔_, _⊎_, inl, inr, ⊎-elim, Iff·rfl, Iff·trans}
+use mathlib.Core.Logic.{_↔_, _⊎_, inl, inr, ⊎-elim, Iff·rfl}
 use native.Mathlib.Omega.{arith}
 use native.Mathlib.Nat.{eq-or-lt-of-le}
 use lib.Dec.{ltb}
@@ -14,14 +14,12 @@ use Rattle.lists.specs.Tab.{lt-or-le}
 use Rattle.rules.specs.Numbers.{ceiling}
 use Rattle.rules.specs.Refused.{Case, FirstOf, NoneHolds, RefusedExactly}
 use Rattle.rules.proofs.Conditions.{less}
-use Rattle.trace.specs.Little.{eightAt}
 use Rattle.trace.specs.Header.{versionOf}
 use Rattle.trace.specs.Event.{eventOf}
 use Rattle.trace.specs.Answers.{eventBytes, bytesAt}
-use Rattle.trace.specs.Cases.{Faulty}
 use Rattle.trace.proofs.LineExactly.{faulty-is}
 use Rattle.moved.specs.Moves.{isBad}
-use Rattle.salvage.specs.Fates.{farthest, fromLast, fateOf, reasonIn, after, lastAt, fateAt}
+use Rattle.salvage.specs.Fates.{farthest, fromLast, reasonIn, after, lastAt, fateAt}
 use Rattle.salvage.specs.Cases.{eventsIn, reasonAt, timeAt, LastKept, dropCases, Rightly, Clean}
 use Rattle.salvage.specs.declared.Last.{Last}
 use Rattle.salvage.specs.declared.Last.the-variants.{Nothing, At}

@@ -1,14 +1,14 @@
 -- The rows of the list are those of the dropped events, each with its reason, and each event is kept or has a row. Assumes nothing.
 use Prim.Native.Nat.{ℕ, zero, suc, _+_, _*_, _≤_, _<_}
 use mathlib.Core.Path.{_≡_, refl, sym, ap, _∙_, subst}
-use mathlib.Core.List.{List, [], _∷_, _++_, List·Memᴰ, List·Memᴰ·head, List·Memᴰ·not-nil, List·Memᴰ·append-cases, List·Memᴰ·eq-of-singleton, Memᴰ·append-left, Memᴰ·append-right}
+use mathlib.Core.List.{List, [], List·Memᴰ, List·Memᴰ·head, List·Memᴰ·not-nil, List·Memᴰ·append-cases, List·Memᴰ·eq-of-singleton, Memᴰ·append-left, Memᴰ·append-right}
 use mathlib.Core.Logic.{_↔_, ⊎-elim}
 use native.Mathlib.Omega.{arith}
 use native.Mathlib.Nat.{eq-or-lt-of-le}
 use lib.ListN.{length, drop}
 use Rattle.trace.specs.Header.{versionOf}
 use Rattle.trace.specs.Answers.{eventBytes}
-use Rattle.salvage.specs.Fates.{fateOf, reasonIn, lastAt, fateAt}
+use Rattle.salvage.specs.Fates.{reasonIn, lastAt, fateAt}
 use Rattle.salvage.specs.Result.{Row, rowBy, keptOf, rowsOf, rowsIn, keptIn}
 use Rattle.salvage.specs.Judging.{bytesFor, rowsFor}
 use Rattle.salvage.specs.Cases.{eventsIn, reasonAt, rowAt}
@@ -17,6 +17,7 @@ use Rattle.salvage.specs.declared.Fate.the-variants.{Kept, Dropped}
 use Rattle.salvage.proofs.Counts.{length-kept-more, length-rows-more}
 use Rattle.salvage.proofs.Fields.{Some, some}
 
+-- a row of this number and reason
 abbrev row : ℕ → ℕ → Row
 row n r = record { number = n; reason = r }
 

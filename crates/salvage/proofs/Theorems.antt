@@ -1,6 +1,6 @@
 -- THE SALVAGE: a trace in which no event meets a reason comes out as it is, a second pass drops nothing, the result is well formed and its events stand in the old
 -- order; each answer, room and list is one only, and room past the results is unchanged. Assumes nothing. Words in quotes are K12's.
-use Prim.Native.Nat.{ℕ, _+_, _*_, _%_, _≤_, _<_}
+use Prim.Native.Nat.{ℕ, _+_, _*_, _≤_, _<_}
 use mathlib.Core.Path.{_≡_, refl, sym, ap, _∙_, subst}
 use mathlib.Core.List.{List, [], _∷_, _++_}
 use native.Mathlib.Omega.{arith}
@@ -10,19 +10,17 @@ use lib.Seq.{sets, sets-eq, length-sets, drop-append-seam}
 use borrow.Author.Tests.{ltb-false, leb-true}
 use Rattle.lists.specs.WordsLaws.{both, neither}
 use Rattle.lists.specs.Tab.{tab}
-use Rattle.rules.specs.Answers.{numberOf}
 use Rattle.rules.specs.Refusals.{Verdict, accept, refuse, judged, isAccept}
 use Rattle.rules.specs.Refused.{NoneHolds}
 use Rattle.rules.proofs.Judged.{numberOf-once, numberOf-some, judged-none, passed}
 use Rattle.trace.specs.Header.{firstVersion, lastVersion, body, versionOf, guestsOf, headerTestsFor, headerTests}
-use Rattle.trace.specs.Event.{whole}
-use Rattle.trace.specs.Answers.{eventBytes, bytesAt}
-use Rattle.trace.specs.Cases.{headerCases, Faulty}
+use Rattle.trace.specs.Answers.{eventBytes}
+use Rattle.trace.specs.Cases.{headerCases}
 use Rattle.trace.proofs.HeaderExactly.{header-tested, header-good}
 use Rattle.moved.specs.Cases.{WellFormed}
 use Rattle.moved.proofs.Verdicts.{judged-accept}
-use Rattle.salvage.specs.Result.{Row, keptOf, rowsOf, eventCount, keptIn, rowsIn, salvaged, flat, listOf}
-use Rattle.salvage.specs.Salvages.{roomTests, salvageTests, salvagedShown, answerBy, roomBy, listBy, leavesBy, salvages}
+use Rattle.salvage.specs.Result.{keptOf, rowsOf, eventCount, keptIn, rowsIn, salvaged, flat, listOf}
+use Rattle.salvage.specs.Salvages.{roomTests, salvageTests, salvagedShown, leavesBy, salvages}
 use Rattle.salvage.specs.Cases.{eventsIn, reasonAt, pieces, dropCases, Clean, Untouched, InOrder}
 use Rattle.salvage.specs.declared.Salvaged.{Salvaged}
 use Rattle.salvage.specs.declared.Salvaged.the-variants.{Written, Refused}

@@ -1,18 +1,17 @@
 -- The verdict on a salvage: a bad header, then the room. Assumes nothing.
 use Prim.Native.Nat.{ℕ, _≤_, _<_}
-use mathlib.Core.Path.{_≡_, refl, sym, ap, _∙_}
-use mathlib.Core.Bool.{Bool, true, or-true}
+use mathlib.Core.Path.{_≡_, refl, ap, _∙_}
+use mathlib.Core.Bool.{or-true}
 use mathlib.Core.List.{List}
 use native.Mathlib.Omega.{arith}
-use lib.Dec.{ltb}
 use lib.ListN.{length, take}
 use borrow.Author.Tests.{lt-ltb, le-ltb, not-false}
-use Rattle.rules.specs.Refusals.{Verdict, accept, refuse, judged, isAccept}
+use Rattle.rules.specs.Refusals.{accept, refuse, judged, isAccept}
 use Rattle.rules.specs.declared.Refusal.{Refusal}
 use Rattle.rules.specs.declared.Refusal.the-variants.{RoomShort}
 use Rattle.rules.proofs.Judged.{passed}
 use Rattle.rules.proofs.Conditions.{counted-means}
-use Rattle.trace.specs.Header.{mark, firstVersion, lastVersion, body, versionOf, guestsOf, headerTestsFor, headerTests, headerOf}
+use Rattle.trace.specs.Header.{mark, firstVersion, lastVersion, body, headerTestsFor, headerTests, headerOf}
 use Rattle.trace.specs.declared.Header.the-variants.{Opened, Refused as Unopened}
 use Rattle.trace.proofs.HeaderLaws.{same-is, body-least, opened}
 use Rattle.moved.proofs.Verdicts.{judged-refuse, judged-accept, header-verdict, header-accepts}

@@ -1,11 +1,10 @@
 -- What the functions within the crate tell each other.
-use Prim.Native.Nat.{ℕ, _+_, _≤_}
+use Prim.Native.Nat.{ℕ, _≤_}
 use mathlib.Core.Path.{_≡_}
 use mathlib.Core.List.{List}
 use lib.ListN.{length, take}
 use Rattle.trace.specs.Header.{mark, body, versionOf, guestsOf}
-use Rattle.trace.specs.Answers.{eventBytes}
-use Rattle.salvage.specs.Result.{keptOf, rowsOf, eventCount, flat, salvaged, listOf}
+use Rattle.salvage.specs.Result.{keptOf, rowsOf, eventCount, salvaged, listOf}
 use Rattle.salvage.specs.declared.Fate.{Fate}
 use Rattle.salvage.specs.declared.Fate.the-variants.{Kept, Dropped}
 

@@ -8,7 +8,6 @@ use lib.ListN.{length}
 use lib.Seq.{sets}
 use Rattle.rules.specs.Answers.{numberOf}
 use Rattle.rules.specs.Refusals.{Test, Verdict, accept, refuse, judged}
-use Rattle.rules.specs.declared.Refusal.{Refusal}
 use Rattle.rules.specs.declared.Refusal.the-variants.{RoomShort}
 use Rattle.trace.specs.Header.{headerTests}
 use Rattle.salvage.specs.Result.{salvaged, rowsIn, listOf}

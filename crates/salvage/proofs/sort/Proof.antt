@@ -1,10 +1,8 @@
-use Prim.Native.Nat.{ℕ, _+_, _*_, _/_, _≤_, _<_}
-use mathlib.Core.Path.{_≡_, sym, ap, _∙_}
+use mathlib.Core.Path.{sym, ap, _∙_}
 use mathlib.Core.List.{[], _∷_}
 use native.Mathlib.Omega.{arith}
 use lib.ListN.{length}
 use Rattle.rules.specs.Refusals.{Verdict}
-use Rattle.salvage.specs.Result.{salvaged, listOf}
 use Rattle.salvage.specs.Salvages.{leavesBy}
 use Rattle.salvage.proofs.Parts.{tally-bytes, tally-rows, tally-list, salvaged-fits}
 use Rattle.salvage.proofs.Verdicts.{room-short, list-short, room-enough}

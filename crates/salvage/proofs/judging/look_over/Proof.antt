@@ -1,13 +1,12 @@
 -- The tally after i events is that of the first i. Assumes nothing.
-use Prim.Native.Nat.{ℕ, _+_, _-_, _*_, _≤_}
-use mathlib.Core.Path.{_≡_, refl, sym, ap, _∙_}
+use Prim.Native.Nat.{ℕ, _+_, _-_, _≤_}
+use mathlib.Core.Path.{_≡_, refl, ap, _∙_}
 use native.Mathlib.Omega.{arith}
-use lib.ListN.{length, drop}
-use Rattle.salvage.specs.Fates.{fateOf, after, lastAt, fateAt}
+use lib.ListN.{length}
+use Rattle.salvage.specs.Fates.{lastAt}
 use Rattle.salvage.specs.Result.{keptOf, rowsOf, eventCount}
 use Rattle.salvage.specs.Judging.{bytesFor, rowsFor}
-use Rattle.salvage.specs.declared.Last.{Last}
-use Rattle.salvage.proofs.Counts.{last-more, length-kept-more, length-rows-more, kept-fits, rows-few}
+use Rattle.salvage.proofs.Counts.{fate-here, last-here, length-kept-more, length-rows-more, kept-fits, rows-few}
 use Rattle.salvage.proofs.judging.look_over.Statement.{statement}
 use Rattle.salvage.proofs.judging.look_over.Tie as tie
 
@@ -38,7 +37,7 @@ add-kept : tie.Need-add-kept Inv-loop μ-loop
 add-kept c =
     let a = c .before .before .before .before .before .before .args in
     let l = c .before .before .before .loop in
-    let f = c .before .fate-of .ensures ∙ ap (λ (x : Last). fateOf (a .version) x (drop (l .i * 14) (a .bytes .now))) (l .inv .1) in
+    let f = fate-here (a .version) (a .bytes .now) (l .i) (l .last) (c .before .fate-of .result) (c .before .fate-of .ensures) (l .inv .1) in
     omega (arith, l .inv .2, c .bytes-for .ensures, ap bytesFor f, length-kept-more (a .version) (a .bytes .now) (l .i), kept-fits (a .version) (a .bytes .now) (l .i + 1))
 
 rows-for-requires : tie.Need-rows-for-requires Inv-loop μ-loop
@@ -48,7 +47,7 @@ add-rows : tie.Need-add-rows Inv-loop μ-loop
 add-rows c =
     let a = c .before .before .before .before .before .before .before .args in
     let l = c .before .before .before .before .loop in
-    let f = c .before .before .fate-of .ensures ∙ ap (λ (x : Last). fateOf (a .version) x (drop (l .i * 14) (a .bytes .now))) (l .inv .1) in
+    let f = fate-here (a .version) (a .bytes .now) (l .i) (l .last) (c .before .before .fate-of .result) (c .before .before .fate-of .ensures) (l .inv .1) in
     omega (arith, l .inv .3, c .rows-for .ensures, ap rowsFor f, length-rows-more (a .version) (a .bytes .now) (l .i), rows-few (a .version) (a .bytes .now) (l .i + 1))
 
 after-requires : tie.Need-after-requires Inv-loop μ-loop
@@ -64,9 +63,9 @@ loop-again : tie.Need-loop-again Inv-loop μ-loop
 loop-again c =
     let a = c .before .before .before .before .before .before .before .before .args in
     let l = c .before .before .before .before .before .loop in
-    let f = c .before .before .before .fate-of .ensures ∙ ap (λ (x : Last). fateOf (a .version) x (drop (l .i * 14) (a .bytes .now))) (l .inv .1) in (
+    let f = fate-here (a .version) (a .bytes .now) (l .i) (l .last) (c .before .before .before .fate-of .result) (c .before .before .before .fate-of .ensures) (l .inv .1) in (
       omega arith,
-      c .after .ensures ∙ (λ j. after (l .inv .1 j) (f j)) ∙ sym (last-more (a .version) (a .bytes .now) (l .i)),
+      last-here (a .version) (a .bytes .now) (l .i) (l .last) (c .after .result) (c .before .before .before .fate-of .result) (c .after .ensures) (l .inv .1) f,
       omega (arith, l .inv .2, c .before .before .bytes-for .ensures, ap bytesFor f, length-kept-more (a .version) (a .bytes .now) (l .i)),
       omega (arith, l .inv .3, c .before .rows-for .ensures, ap rowsFor f, length-rows-more (a .version) (a .bytes .now) (l .i)),
     )

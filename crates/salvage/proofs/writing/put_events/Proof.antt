@@ -1,18 +1,17 @@
 -- After i events the room holds the kept ones of the first i, and the list the rows of the others. Assumes nothing.
 use Prim.Native.Nat.{ℕ, _+_, _-_, _*_, _≤_}
 use mathlib.Core.Path.{_≡_, refl, sym, ap, _∙_}
-use mathlib.Core.List.{List, _++_}
+use mathlib.Core.List.{_++_}
 use native.Mathlib.Omega.{arith}
 use native.Mathlib.Nat.{add-zero}
 use lib.ListN.{length, take, drop}
 use lib.Seq.{sets}
 use Rattle.lines.specs.Put.{Put}
 use Rattle.lines.proofs.PutLaws.{puts, put-as}
-use Rattle.salvage.specs.Fates.{fateOf, after, lastAt, fateAt}
+use Rattle.salvage.specs.Fates.{lastAt, fateAt}
 use Rattle.salvage.specs.Result.{bytesBy, rowBy, keptOf, rowsOf, eventCount, flat}
-use Rattle.salvage.specs.declared.Last.{Last}
 use Rattle.salvage.specs.declared.Fate.{Fate}
-use Rattle.salvage.proofs.Counts.{last-more, kept-more, rows-more, flat-append, kept-room, row-room}
+use Rattle.salvage.proofs.Counts.{fate-here, last-here, kept-more, rows-more, flat-append, kept-room, row-room}
 use Rattle.salvage.proofs.writing.put_events.Statement.{statement}
 use Rattle.salvage.proofs.writing.put_events.Tie as tie
 
@@ -41,7 +40,7 @@ put-kept-requires c κs =
     let s = c .before .before .before .before .before .before .before .before in
     let a = s .args in
     let l = c .before .before .before .loop in
-    let f = c .before .fate-of .ensures ∙ ap (λ (x : Last). fateOf (a .version) x (drop (l .i * 14) (a .bytes .now))) (l .inv .3) in
+    let f = fate-here (a .version) (a .bytes .now) (l .i) (l .last) (c .before .fate-of .result) (c .before .fate-of .ensures) (l .inv .3) in
     kept-room (a .version) (a .bytes .now) (l .i) (eventCount (a .bytes .now)) (c .before .fate-of .result) (a .first) (l .at) _ f (omega (arith, c .before .before .before .before .event-count .ensures, c .before .before .loop-test .taken)) (l .inv .4 .next) (omega (arith, s .pre .0, l .inv .1))
 
 add-put-row : tie.Need-add-put-row Inv-loop μ-loop
@@ -52,7 +51,7 @@ put-row-requires c κs =
     let s = c .before .before .before .before .before .before .before .before .before .before .before .before in
     let a = s .args in
     let l = c .before .before .before .before .before .before .before .loop in
-    let f = c .before .before .before .before .before .fate-of .ensures ∙ ap (λ (x : Last). fateOf (a .version) x (drop (l .i * 14) (a .bytes .now))) (l .inv .3) in
+    let f = fate-here (a .version) (a .bytes .now) (l .i) (l .last) (c .before .before .before .before .before .fate-of .result) (c .before .before .before .before .before .fate-of .ensures) (l .inv .3) in
     row-room (a .version) (a .bytes .now) (l .i) (eventCount (a .bytes .now)) (c .before .before .before .before .before .fate-of .result) (l .row) _ f (omega (arith, c .before .before .before .before .before .before .before .before .event-count .ensures, c .before .before .before .before .before .before .loop-test .taken)) (l .inv .5 .next) (omega (arith, s .pre .1, l .inv .2))
 
 after-requires : tie.Need-after-requires Inv-loop μ-loop
@@ -70,13 +69,13 @@ loop-again c =
     let l = c .before .before .before .before .before .before .before .before .before .before .before .loop in
     let v = a .version in
     let bs = a .bytes .now in
-    let f = c .before .before .before .before .before .before .before .before .before .fate-of .ensures ∙ ap (λ (x : Last). fateOf v x (drop (l .i * 14) bs)) (l .inv .3) in
+    let f = fate-here v bs (l .i) (l .last) (c .before .before .before .before .before .before .before .before .before .fate-of .result) (c .before .before .before .before .before .before .before .before .before .fate-of .ensures) (l .inv .3) in
     let p = c .before .before .before .before .before .before .before .put-kept in
     let q = c .before .before .before .put-row in (
       omega arith,
       p .kept .1 .1 .1 .0 ∙ l .inv .1,
       q .kept .1 .1 .0 ∙ l .inv .2,
-      c .after .ensures ∙ (λ j. after (l .inv .3 j) (f j)) ∙ sym (last-more v bs (l .i)),
+      last-here v bs (l .i) (l .last) (c .after .result) (c .before .before .before .before .before .before .before .before .before .fate-of .result) (c .after .ensures) (l .inv .3) f,
       put-as (kept-more v bs (l .i) ∙ ap (λ (x : Fate). keptOf v bs (l .i) ++ bytesBy x (take 14 (drop (l .i * 14) bs))) (sym f)) (puts (l .inv .4) (p .ensures)),
       put-as (ap flat (rows-more v bs (l .i)) ∙ flat-append (rowsOf v bs (l .i)) (rowBy (fateAt v bs (l .i)) (l .i + 1)) ∙ ap (λ (x : Fate). flat (rowsOf v bs (l .i)) ++ flat (rowBy x (l .i + 1))) (sym f)) (puts (l .inv .5) (q .ensures)),
     )

@@ -1,4 +1,3 @@
-use mathlib.Core.Path.{ap}
 use Rattle.lines.proofs.PutLaws.{puts, put-as}
 use Rattle.salvage.proofs.Parts.{head-part}
 use borrow.Author.Needs.{needs}

@@ -1,8 +1,7 @@
-use Prim.Native.Nat.{_+_, _≤_}
 use mathlib.Core.Path.{refl, sym, ap, _∙_}
 use native.Mathlib.Omega.{arith}
 use native.Mathlib.Nat.{add-zero}
-use lib.ListN.{length, take, drop}
+use lib.ListN.{take, drop}
 use Rattle.lines.proofs.PutLaws.{put-as}
 use Rattle.moved.proofs.Parts.{part-is, length-part}
 use Rattle.salvage.specs.Result.{bytesBy}

@@ -1,10 +1,10 @@
-use Prim.Native.Nat.{ℕ, suc, _+_, _≤_}
-use mathlib.Core.Path.{_≡_, refl, sym, ap, _∙_}
-use mathlib.Core.List.{List, [], _∷_}
+use Prim.Native.Nat.{ℕ, suc, _+_}
+use mathlib.Core.Path.{_≡_, refl, sym, ap}
+use mathlib.Core.List.{[], _∷_}
 use native.Mathlib.Omega.{arith}
 use native.Mathlib.Nat.{add-zero}
 use native.Mathlib.Numerals.{add-one}
-use lib.ListN.{length, set, length-set}
+use lib.ListN.{set, length-set}
 use Rattle.lines.specs.Put.{Put}
 use Rattle.lines.proofs.PutLaws.{put-as}
 use Rattle.salvage.specs.Result.{rowBy, flat}
@@ -21,22 +21,22 @@ enum-known-fate : tie.Need-enum-known-fate
 enum-known-fate c = search needs
 
 mul-list : tie.Need-mul-list
-mul-list c = let p : c .before .before .before .args .at + 2 ≤ length (c .before .before .before .args .list .now) = dropped-so (c .before .fate .given .1) (c .before .before .before .pre) in omega arith
+mul-list c = omega (arith, dropped-so (c .before .fate .given .1) (c .before .before .before .pre))
 
 slice-write-list : tie.Need-slice-write-list
-slice-write-list c = let p : c .before .before .before .args .at + 2 ≤ length (c .before .before .before .args .list .now) = dropped-so (c .before .fate .given .1) (c .before .before .before .pre) in omega arith
+slice-write-list c = omega (arith, dropped-so (c .before .fate .given .1) (c .before .before .before .pre))
 
 add-list : tie.Need-add-list
-add-list c = let p : c .before .before .before .args .at + 2 ≤ length (c .before .before .before .args .list .now) = dropped-so (c .before .fate .given .1) (c .before .before .before .pre) in omega arith
+add-list c = omega (arith, dropped-so (c .before .fate .given .1) (c .before .before .before .pre))
 
 mul-list-2 : tie.Need-mul-list-2
-mul-list-2 c = let p : c .before .before .before .args .at + 2 ≤ length (c .before .before .before .args .list .now) = dropped-so (c .before .fate .given .1) (c .before .before .before .pre) in omega arith
+mul-list-2 c = omega (arith, dropped-so (c .before .fate .given .1) (c .before .before .before .pre))
 
 slice-write-list-2 : tie.Need-slice-write-list-2
-slice-write-list-2 c = let p : c .before .before .before .args .at + 2 ≤ length (c .before .before .before .args .list .now) = dropped-so (c .before .fate .given .1) (c .before .before .before .pre) in simp length-set (omega arith)
+slice-write-list-2 c = simp length-set (omega (arith, dropped-so (c .before .fate .given .1) (c .before .before .before .pre)))
 
 add-result : tie.Need-add-result
-add-result c = let p : c .before .before .before .args .at + 2 ≤ length (c .before .before .before .args .list .now) = dropped-so (c .before .fate .given .1) (c .before .before .before .pre) in omega arith
+add-result c = omega (arith, dropped-so (c .before .fate .given .1) (c .before .before .before .pre))
 
 returns : tie.Need-returns
 unfolding flat

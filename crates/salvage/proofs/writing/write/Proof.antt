@@ -1,12 +1,12 @@
-use Prim.Native.Nat.{ℕ, _+_, _-_}
-use mathlib.Core.Path.{_≡_, refl, ap, _∙_}
+use Prim.Native.Nat.{_-_}
+use mathlib.Core.Path.{refl, ap, _∙_}
 use mathlib.Core.List.{List}
 use native.Mathlib.Omega.{arith}
-use lib.ListN.{length, take, drop}
+use lib.ListN.{length}
 use lib.Seq.{sets, length-take-le}
 use Rattle.lines.specs.Put.{Put}
 use Rattle.lines.proofs.PutLaws.{puts}
-use Rattle.salvage.specs.Result.{Row, keptOf, rowsOf, eventCount, flat}
+use Rattle.salvage.specs.Result.{Row, keptOf, eventCount, flat}
 use Rattle.salvage.proofs.Parts.{part, rows-there, whole-there, long-there}
 use borrow.Author.Needs.{needs}
 use Rattle.salvage.proofs.writing.write.Statement.{statement}
