@@ -64,9 +64,10 @@ pub fn judge_events(
             &said[at..],
             text,
         );
+        let answer = heard.answer;
         let long = heard.long;
         if long == 0 {
-            return wrong_at(i as u64 + 2, heard.answer);
+            return wrong_at(i as u64 + 2, answer);
         }
         gate = heard.gate;
         at += long;
