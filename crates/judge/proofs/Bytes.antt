@@ -1,12 +1,12 @@
 -- Lines as bytes: what it is to begin with some, and that a printed line begins with no other line of the same number. Assumes nothing.
-use Prim.Native.Nat.{ℕ, zero, suc, _+_, _*_, _/_, _%_, _≤_, _<_}
+use Prim.Native.Nat.{ℕ, zero, suc, _+_, _-_, _*_, _/_, _%_, _≤_, _<_}
 use mathlib.Core.Path.{_≡_, refl, sym, ap, _∙_}
 use mathlib.Core.Bool.{Bool, true, false, not, true≢false}
 use mathlib.Core.List.{List, [], _∷_, _++_, append-assoc, append-nil}
 use native.Mathlib.Omega.{arith}
 use lib.Dec.{ltb, eqb}
-use lib.ListN.{length, getD, take, drop, length-append, take-append-drop}
-use lib.Seq.{take-append-seam, drop-at}
+use lib.ListN.{length, getD, take, drop, length-append, length-drop, take-append-drop}
+use lib.Seq.{take-all, take-append-seam, drop-at}
 use borrow.Author.Tests.{eq-eqb, ne-eqb, not-true}
 use Rattle.lists.specs.Words.{if_then_else_, all}
 use Rattle.lists.specs.WordsLaws.{both, join, all-append}
@@ -35,6 +35,13 @@ is-begins xs rest = same-is xs (take (length xs) (xs ++ rest)) .1 (sym (take-app
 -- the rest, as it is reached
 pub behind-begin : (xs rest : List ℕ) → drop (length xs) (xs ++ rest) ≡ rest
 behind-begin xs rest = drop-at xs rest (length xs) refl
+
+-- what is lent on from a place is the rest from there
+abbrev pub part : (at : ℕ) → List ℕ → List ℕ
+part at xs = take (length xs - at) (drop at xs)
+
+pub part-rest : (at : ℕ) (xs : List ℕ) → part at xs ≡ drop at xs
+part-rest at xs = take-all (length xs - at) (drop at xs) (omega (arith, length-drop at xs))
 
 -- the test says just that
 pub begins-with : (xs ls : List ℕ) → begins xs ls ≡ true → Begins xs ls

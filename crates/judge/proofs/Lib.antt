@@ -4,4 +4,7 @@ pub mod Tied
 pub mod Sent
 pub mod OneLine
 pub mod Ties
+pub mod Heard
+pub mod Follows
 pub mod Going
+pub mod Heads

@@ -1,8 +1,8 @@
 // What the lines say that the other gate did at one event, on its tables, which are known to be sound; the tables then follow it.
+use crate::saying::says;
 use choose::latest_limit;
 use choose::send_by_reservation;
 use choose::send_by_weight;
-use crate::saying::says;
 use enter::Entered;
 use rules::Answer;
 use rules::Event;
@@ -239,7 +239,16 @@ fn hear_send(
     ensures { λ r. ⌜ Hears (heardIn number (now (said .entry)) phase (tableOf gate (now (guests .entry)) (now (waiting .entry)) (now (flight .entry))) (tagIn phase (at (waitingOf (now (waiting .entry)) (gate .waiting)) place))) (sentAt phase (tableOf gate (now (guests .entry)) (now (waiting .entry)) (now (flight .entry))) place .answer) number r (now (guests .exit)) (now (waiting .exit)) (now (flight .exit)) ⌝ }
 {
     let answer = send_of(&waiting[..], place, phase);
-    let told = find_tied(gate, &guests[..], &waiting[..], place, phase, number, said, text);
+    let told = find_tied(
+        gate,
+        &guests[..],
+        &waiting[..],
+        place,
+        phase,
+        number,
+        said,
+        text,
+    );
     let there = told.place;
     let long = told.long;
     if long == 0 {
@@ -349,12 +358,6 @@ pub fn hear(
     let event = trace::events::read_event(version, &bytes[from..from + 14]);
     match event {
         Read::Good(good) => hear_good(gate, guests, waiting, flight, good, number, said, text),
-        Read::Bad => hear_plain(
-            gate,
-            Answer::Refused(Refusal::BadEvent),
-            number,
-            said,
-            text,
-        ),
+        Read::Bad => hear_plain(gate, Answer::Refused(Refusal::BadEvent), number, said, text),
     }
 }

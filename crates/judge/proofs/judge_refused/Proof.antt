@@ -1,64 +1,71 @@
+use mathlib.Core.Path.{_≡_, sym, _∙_}
+use mathlib.Core.Bool.{true}
+use native.Mathlib.Omega.{arith}
+use lib.ListN.{length}
+use lib.Seq.{length-take-le}
+use borrow.Author.Tests.{not-true, not-false}
+use Rattle.lines.specs.Line.{refusalLine}
+use Rattle.judge.specs.Judging.{begins}
+use Rattle.judge.proofs.OneLine.{put-begins}
+use Rattle.judge.proofs.Heads.{begins-long, refused-wrong, refused-right}
 use borrow.Author.Needs.{needs}
 use Rattle.judge.proofs.judge_refused.Statement.{statement}
 use Rattle.judge.proofs.judge_refused.Tie as tie
-use Rattle.judge.proofs.judge_refused.Reads as reads
-use Rattle.judge.proofs.judge_refused.Lts as lts
-use Rattle.judge.proofs.ended.Reads as ended-reads
-use Rattle.judge.proofs.saying.begins.Reads as begins-reads
-use Rattle.judge.proofs.wrong_at.Reads as wrong-at-reads
-use Rattle.lines.proofs.put_refusal.Reads as put-refusal-reads
 
--- src/lib.rt:81:9
 put-refusal-requires : tie.Need-put-refusal-requires
 put-refusal-requires c κs = search needs
 
--- src/lib.rt:82:24
 slice-reshare-prefix-begins : tie.Need-slice-reshare-prefix-begins
 slice-reshare-prefix-begins c = search needs
 
--- src/lib.rt:82:24
 slice-aggregate-begins : tie.Need-slice-aggregate-begins
-slice-aggregate-begins c = ?
+slice-aggregate-begins c = sym (length-take-le _ _ (omega arith))
 
--- src/lib.rt:82:9
 begins-requires : tie.Need-begins-requires
 begins-requires c κs = search needs
 
--- src/lib.rt:83:9
 wrong-at-requires : tie.Need-wrong-at-requires
 wrong-at-requires c κs = search needs
 
--- src/lib.rt:83:9
 same-length : tie.Need-same-length
 same-length c = search needs
 
--- src/lib.rt:83:9
 returns : tie.Need-returns
-returns c = ?
+returns c =
+    let s = c .before .before .before .before .before .before .before .before .before .before .before in
+    let p = c .before .before .before .before .before .before .put-refusal in
+    refused-wrong (s .args .trace .now) (s .args .said .now) (s .args .why) (s .pre .1) _ (put-begins (p .ensures .0) (omega (arith, p .ensures .1, s .pre .0)) (s .args .said .now) _ (c .before .before .begins .ensures)) _ (not-true _ (c .before .if1 .taken)) (c .wrong-at .ensures)
 
--- src/lib.rt:85:14
 sub-ended : tie.Need-sub-ended
-sub-ended c = ?
+sub-ended c =
+    let s = c .before .before .before .before .before .before .before .before .before .before in
+    let p = c .before .before .before .before .before .put-refusal in
+    let b : begins (refusalLine (s .args .why)) (s .args .said .now) ≡ true = sym (put-begins (p .ensures .0) (omega (arith, p .ensures .1, s .pre .0)) (s .args .said .now) _ (c .before .begins .ensures)) ∙ not-false _ (c .if1 .left) in
+    let size : p .result ≡ length (refusalLine (s .args .why)) = omega (arith, p .ensures .0 .next) in
+    omega (arith, begins-long (refusalLine (s .args .why)) (s .args .said .now) b)
 
--- src/lib.rt:85:14
 part-ended-start : tie.Need-part-ended-start
-part-ended-start c = ?
+part-ended-start c =
+    let s = c .before .before .before .before .before .before .before .before .before .before in
+    let p = c .before .before .before .before .before .put-refusal in
+    let b : begins (refusalLine (s .args .why)) (s .args .said .now) ≡ true = sym (put-begins (p .ensures .0) (omega (arith, p .ensures .1, s .pre .0)) (s .args .said .now) _ (c .before .begins .ensures)) ∙ not-false _ (c .if1 .left) in
+    let size : p .result ≡ length (refusalLine (s .args .why)) = omega (arith, p .ensures .0 .next) in
+    omega (arith, begins-long (refusalLine (s .args .why)) (s .args .said .now) b)
 
--- src/lib.rt:85:14
 part-ended-end : tie.Need-part-ended-end
 part-ended-end c = search needs
 
--- src/lib.rt:85:5
 ended-requires : tie.Need-ended-requires
 ended-requires c κs = search needs
 
--- src/lib.rt:76:1
 same-length-2 : tie.Need-same-length-2
 same-length-2 c = search needs
 
--- src/lib.rt:76:1
 returns-2 : tie.Need-returns-2
-returns-2 c = ?
+returns-2 c =
+    let s = c .before .before .before .before .before .before .before .before .before .before .before .before in
+    let p = c .before .before .before .before .before .before .before .put-refusal in
+    refused-right (s .args .trace .now) (s .args .said .now) (s .args .why) (s .pre .1) _ (put-begins (p .ensures .0) (omega (arith, p .ensures .1, s .pre .0)) (s .args .said .now) _ (c .before .before .before .begins .ensures)) _ (not-false _ (c .before .before .if1 .left)) (p .result) (omega (arith, p .ensures .0 .next)) (c .ended .ensures)
 
 pub judge-refused-spec : {M : Type 1} → statement M
 judge-refused-spec =

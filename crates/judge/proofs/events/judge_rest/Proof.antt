@@ -1,75 +1,68 @@
+use native.Mathlib.Omega.{arith}
+use mathlib.Core.List.{[]}
+use Rattle.judge.specs.Judging.{accepted}
+use Rattle.judge.proofs.Going.{rest-none, rest-wrong, rest-right, rest-fits}
 use borrow.Author.Needs.{needs}
 use Rattle.judge.proofs.events.judge_rest.Statement.{statement}
 use Rattle.judge.proofs.events.judge_rest.Tie as tie
-use Rattle.judge.proofs.events.judge_rest.Reads as reads
-use Rattle.judge.proofs.events.judge_rest.Lts as lts
-use Rattle.judge.proofs.ended.Reads as ended-reads
-use Rattle.judge.proofs.saying.says.Reads as says-reads
-use Rattle.judge.proofs.wrong_at.Reads as wrong-at-reads
 
--- src/events.rt:25:22
 add-ended : tie.Need-add-ended
 add-ended c = search needs
 
--- src/events.rt:25:9
 ended-requires : tie.Need-ended-requires
 ended-requires c κs = search needs
 
--- src/events.rt:25:9
 returns : tie.Need-returns
-returns c = ?
+returns c =
+    let s = c .before .before .before .before .before in
+    λ u. rest-none (s .args .number) u (s .args .said .now) (s .args .rest .now) (c .before .if1 .taken) _ (c .ended .ensures)
 
--- src/events.rt:28:27
 add-says : tie.Need-add-says
 add-says c = search needs
 
--- src/events.rt:28:9
 says-requires : tie.Need-says-requires
 says-requires c κs = search needs
 
--- src/events.rt:30:25
 add-wrong-at : tie.Need-add-wrong-at
 add-wrong-at c = search needs
 
--- src/events.rt:30:9
 wrong-at-requires : tie.Need-wrong-at-requires
 wrong-at-requires c κs = search needs
 
--- src/events.rt:30:9
 same-length : tie.Need-same-length
 same-length c = search needs
 
--- src/events.rt:30:9
 returns-2 : tie.Need-returns-2
-returns-2 c = ?
+returns-2 c =
+    let s = c .before .before .before .before .before .before .before .before .before .before in
+    λ u. rest-wrong (s .args .number) u (s .args .said .now) (s .args .rest .now) (c .before .before .before .before .before .before .if1 .left) _ (c .before .before .before .before .says .ensures) _ (c .before .if2 .taken) (c .wrong-at .ensures)
 
--- src/events.rt:32:11
 add-ended-2 : tie.Need-add-ended-2
 add-ended-2 c = search needs
 
--- src/events.rt:32:23
 sub-ended : tie.Need-sub-ended
-sub-ended c = ?
+sub-ended c =
+    let s = c .before .before .before .before .before .before .before .before .before in
+    omega (arith, rest-fits (s .args .number) (record { setup = record { depth = 0; capacity = 0; rule = 0 }; time = 0; guests = []; waiting = []; flight = [] }) (s .args .said .now) (s .args .rest .now) (c .before .before .before .before .before .if1 .left) _ (c .before .before .before .says .ensures) accepted)
 
--- src/events.rt:32:23
 part-ended-start : tie.Need-part-ended-start
-part-ended-start c = ?
+part-ended-start c =
+    let s = c .before .before .before .before .before .before .before .before .before in
+    omega (arith, rest-fits (s .args .number) (record { setup = record { depth = 0; capacity = 0; rule = 0 }; time = 0; guests = []; waiting = []; flight = [] }) (s .args .said .now) (s .args .rest .now) (c .before .before .before .before .before .if1 .left) _ (c .before .before .before .says .ensures) accepted)
 
--- src/events.rt:32:23
 part-ended-end : tie.Need-part-ended-end
 part-ended-end c = search needs
 
--- src/events.rt:32:5
 ended-requires-2 : tie.Need-ended-requires-2
 ended-requires-2 c κs = search needs
 
--- src/events.rt:20:1
 same-length-2 : tie.Need-same-length-2
 same-length-2 c = search needs
 
--- src/events.rt:20:1
 returns-3 : tie.Need-returns-3
-returns-3 c = ?
+returns-3 c =
+    let s = c .before .before .before .before .before .before .before .before .before .before .before in
+    λ u. rest-right (s .args .number) u (s .args .said .now) (s .args .rest .now) (c .before .before .before .before .before .before .before .if1 .left) _ (c .before .before .before .before .before .says .ensures) _ (c .before .before .if2 .left) (c .ended2 .ensures)
 
 pub judge-rest-spec : {M : Type 1} → statement M
 judge-rest-spec =

@@ -51,7 +51,7 @@ returns c =
     let l = c .before .before .before .before .before .before .loop in
     let fs = s .pre .0 .0 in
     λ es. tells-any (s .args .number) (s .args .said .now) (s .args .gate) (s .args .guests .now) (s .args .waiting .now) fs es (s .args .phase) (s .args .place) _ _
-        (tells-one (s .args .gate) (s .args .guests .now) (s .args .waiting .now) (s .pre .0 .0) (s .pre .0 .1) (s .args .place) (s .args .phase) (s .pre .1 .0 (s .pre .0 .0)) _ (c .before .before .before .before .before .before .before .before .tag-at .ensures) (s .args .number) (s .args .said .now) (l .i) _ (omega arith) (l .inv .3 fs (s .pre .0 .1)) (c .if1 .taken) (c .before .before .before .says-tied .ensures fs))
+    (tells-one (s .args .gate) (s .args .guests .now) (s .args .waiting .now) (s .pre .0 .0) (s .pre .0 .1) (s .args .place) (s .args .phase) (s .pre .1 .0 (s .pre .0 .0)) _ (c .before .before .before .before .before .before .before .before .tag-at .ensures) (s .args .number) (s .args .said .now) (l .i) _ (omega arith) (l .inv .3 fs (s .pre .0 .1)) (c .if1 .taken) (c .before .before .before .says-tied .ensures fs))
 
 add-i : tie.Need-add-i Inv-loop μ-loop
 add-i c = omega arith
@@ -62,8 +62,7 @@ loop-less c = omega arith
 loop-again : tie.Need-loop-again Inv-loop μ-loop
 loop-again c =
     let s = c .before .before .before .before .before .before .before .before .before .before .before .before .before in
-    let l = c .before .before .before .before .before .before .loop in
-    (
+    let l = c .before .before .before .before .before .before .loop in (
       omega arith,
       omega arith,
       omega arith,
@@ -81,7 +80,7 @@ returns-2 c =
     let l = c .before .loop in
     let fs = s .pre .0 .0 in
     λ es. tells-any (s .args .number) (s .args .said .now) (s .args .gate) (s .args .guests .now) (s .args .waiting .now) fs es (s .args .phase) (s .args .place) _ _
-        (tells-none (s .args .gate) (s .args .guests .now) (s .args .waiting .now) (s .pre .0 .0) (s .pre .0 .1) (s .args .place) (s .args .phase) (s .pre .1 .0 (s .pre .0 .0)) _ (c .before .before .before .tag-at .ensures) (s .args .number) (s .args .said .now) (l .i) _ (omega arith) (l .inv .3 fs (s .pre .0 .1)))
+    (tells-none (s .args .gate) (s .args .guests .now) (s .args .waiting .now) (s .pre .0 .0) (s .pre .0 .1) (s .args .place) (s .args .phase) (s .pre .1 .0 (s .pre .0 .0)) _ (c .before .before .before .tag-at .ensures) (s .args .number) (s .args .said .now) (l .i) _ (omega arith) (l .inv .3 fs (s .pre .0 .1)))
 
 pub find-tied-spec : {M : Type 1} → statement M
 find-tied-spec =

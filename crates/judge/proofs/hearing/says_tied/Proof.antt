@@ -19,7 +19,7 @@ returns c =
     let s = c .before .before .before .before .before .before in
     let line = lineOf (s .args .number) (Sent (s .args .phase) (waitingAt (s .args .waiting .now) (s .args .place) GUEST) (waitingAt (s .args .waiting .now) (s .args .place) ID)) in
     λ es. size-untied (s .args .gate) (s .args .guests .now) (s .args .waiting .now) (s .pre .0 .0 .0) (s .pre .0 .0 .1) (s .args .place) (s .pre .0 .1) (s .args .phase) (s .args .tag) (s .args .number) (s .args .said .now) _ (c .before .is-tied .ensures (s .pre .0 .0 .0)) (not-true _ (c .if1 .taken))
-        ∙ ap (λ (b : Bool). sizeIf b line) (named-any (s .args .gate) (s .args .guests .now) (s .args .waiting .now) (s .pre .0 .0 .0) (s .pre .0 .0 .1) (s .args .place) (s .pre .0 .1) (s .args .phase) (s .args .tag) (s .args .number) (s .args .said .now) es)
+    ∙ ap (λ (b : Bool). sizeIf b line) (named-any (s .args .gate) (s .args .guests .now) (s .args .waiting .now) (s .pre .0 .0 .0) (s .pre .0 .0 .1) (s .args .place) (s .pre .0 .1) (s .args .phase) (s .args .tag) (s .args .number) (s .args .said .now) es)
 
 send-of-requires : tie.Need-send-of-requires
 send-of-requires c κs =
@@ -37,7 +37,7 @@ returns-2 c =
     let s = c .before .before .before .before .before .before .before .before .before .before .before in
     let line = lineOf (s .args .number) (Sent (s .args .phase) (waitingAt (s .args .waiting .now) (s .args .place) GUEST) (waitingAt (s .args .waiting .now) (s .args .place) ID)) in
     λ es. size-tied (s .args .gate) (s .args .guests .now) (s .args .waiting .now) (s .pre .0 .0 .0) (s .pre .0 .0 .1) (s .args .place) (s .pre .0 .1) (s .args .phase) (s .args .tag) (s .args .number) (s .args .said .now) _ (c .before .before .before .before .before .before .is-tied .ensures (s .pre .0 .0 .0)) (not-false _ (c .before .before .before .before .before .if1 .left)) _ (c .before .before .before .before .send-of .ensures) _ (c .before .before .says .ensures)
-        ∙ ap (λ (b : Bool). sizeIf b line) (named-any (s .args .gate) (s .args .guests .now) (s .args .waiting .now) (s .pre .0 .0 .0) (s .pre .0 .0 .1) (s .args .place) (s .pre .0 .1) (s .args .phase) (s .args .tag) (s .args .number) (s .args .said .now) es)
+    ∙ ap (λ (b : Bool). sizeIf b line) (named-any (s .args .gate) (s .args .guests .now) (s .args .waiting .now) (s .pre .0 .0 .0) (s .pre .0 .0 .1) (s .args .place) (s .pre .0 .1) (s .args .phase) (s .args .tag) (s .args .number) (s .args .said .now) es)
 
 pub says-tied-spec : {M : Type 1} → statement M
 says-tied-spec =
