@@ -8,3 +8,4 @@ pub mod Heard
 pub mod Follows
 pub mod Going
 pub mod Heads
+pub mod Exactly
