@@ -95,7 +95,7 @@ other : (b x : ℕ) → (x ≡ b → ⊥) → not (eqb x b) ≡ true
 other b x h = ap not (ne-eqb x b h)
 
 -- digits are 48 and above
-digits-free : (b : ℕ) → b < 48 → (f n : ℕ) → free b (decimalIn f n) ≡ true
+pub digits-free : (b : ℕ) → b < 48 → (f n : ℕ) → free b (decimalIn f n) ≡ true
 unfolding decimalIn
 digits-free b h zero n = join (other b (48 + n) (λ e. omega arith)) refl
 digits-free b h (suc f) n = go (ltb n 10) (digits-free b h f (n / 10))
@@ -105,7 +105,7 @@ digits-free b h (suc f) n = go (ltb n 10) (digits-free b h f (n / 10))
     go false i = all-append (λ x. not (eqb x b)) (decimalIn f (n / 10)) ((48 + n % 10) ∷ []) i (join (other b (48 + n % 10) (λ e. omega arith)) refl)
 
 -- so numbers behind spaces have no byte 10
-spaced-free : (vs : List ℕ) → free 10 (spaced vs) ≡ true
+pub spaced-free : (vs : List ℕ) → free 10 (spaced vs) ≡ true
 spaced-free [] = refl
 spaced-free (v ∷ vs) = all-append (λ x. not (eqb x 10)) (decimalOf v) (spaced vs) (digits-free 10 (omega arith) v v) (spaced-free vs)
 

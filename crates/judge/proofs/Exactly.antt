@@ -163,7 +163,7 @@ wrong-judged (r ∷ rs) (x ∷ xs) n t firm s ls rest e d a =
 -- A WHOLE TRACE
 
 -- a good header opens a sound table
-opening-sound : (bs : List ℕ) (v d n c r : ℕ) → headerOf bs ≡ Opened v d n c r → sound (opening bs) ≡ true
+pub opening-sound : (bs : List ℕ) (v d n c r : ℕ) → headerOf bs ≡ Opened v d n c r → sound (opening bs) ≡ true
 unfolding openTests
 opening-sound bs v d n c r e =
     let o = opened bs v d n c r e in
@@ -232,7 +232,7 @@ module _ (bs ls : List ℕ) where
   unfolding judgedOf
   headed rest e = rw (ap (begins (headLine bs)) e ∙ is-begins (headLine bs) rest) (ap (judgedFrom 0 (opening bs) (asked bs)) (ap (drop (length (headLine bs))) e ∙ behind-begin (headLine bs) rest))
 
-  acceptable-judged : Acceptable bs ls → judgedOf bs ls ≡ accepted
+  pub acceptable-judged : Acceptable bs ls → judgedOf bs ls ≡ accepted
   acceptable-judged a =
       headed (linesOf (a .results)) (a .lines)
       ∙ by-header (headerOf bs) refl (λ xs. Stands (opening bs) xs (a .results) → judgedFrom 0 (opening bs) xs (linesOf (a .results)) ≡ accepted) (none-right (opening bs) (a .results))

@@ -9,3 +9,7 @@ pub mod Follows
 pub mod Going
 pub mod Heads
 pub mod Exactly
+pub mod Own
+pub mod Counted
+pub mod Once
+pub mod Readings
