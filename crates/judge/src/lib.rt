@@ -28,6 +28,7 @@ mod events; // all events of a trace
 
 // The number of the first line that is wrong, missing or surplus, the header line being 1, or 0 where all lines may stand; and what was due there, numbered as an
 // answer through C is: kind (4 where no line is due any more), guest, id and refusal.
+#[repr(C)]
 pub struct Judged {
     pub line: u64,
     pub kind: u64,

@@ -36,6 +36,11 @@ use Rattle.trace.proofs.NoCredit.{no-credit}
 use Rattle.moved.proofs.Exactly.{move-exactly, bad-event, dear-event}
 use Rattle.moved.proofs.Theorems.{accepted-leaves, up-back, back-up, up-printed, back-printed, once, untouched}
 use Rattle.moved.proofs.Upward.{well-formed-goes-up}
+use Rattle.judge.proofs.Exactly.{accepted-exactly, wrong-exactly}
+use Rattle.judge.proofs.Own.{own-accepted}
+use Rattle.judge.proofs.Counted.{lines-counted}
+use Rattle.judge.proofs.Once.{once as judged-once}
+use Rattle.judge.proofs.Readings.{readings as judge-readings}
 use Rattle.trace.proofs.RuleOne.{rule-kept, rule-1}
 use Rattle.trace.proofs.Order.{trace-in-order}
 use Rattle.trace.proofs.Demand3.{trace-demand-3-places}
@@ -55,7 +60,7 @@ use Rattle.clock.proofs.Exactly.{read-exactly, refusal-keeps as reading-keeps, 
 use Rattle.clock.proofs.Once.{read-once}
 use Rattle.clock.proofs.Rising.{never-falls}
 use Rattle.clock.proofs.TrueTime.{true-time, first-past, unseen}
-use Rattle.promises.proofs.Promises.{OnTheRules, OverLent, OfABatch, ThroughC, OfATrace, OfTheMoves, OfTheSheet, OfTheClock, Promises}
+use Rattle.promises.proofs.Promises.{OnTheRules, OverLent, OfABatch, ThroughC, OfATrace, OfTheMoves, OfTheJudge, OfTheSheet, OfTheClock, Promises}
 
 rules-kept : OnTheRules
 rules-kept =
@@ -180,6 +185,17 @@ move-back-kept =
       moved-untouched = untouched 2 1;
     }
 
+judge-kept : OfTheJudge
+judge-kept =
+    record {
+      lines-accepted-exactly = accepted-exactly;
+      first-wrong-exactly = wrong-exactly;
+      judged-once = judged-once;
+      lines-counted = lines-counted;
+      own-accepted = own-accepted;
+      judge-readings = judge-readings;
+    }
+
 sheet-kept : OfTheSheet
 sheet-kept =
     record {
@@ -220,6 +236,7 @@ promises =
       of-the-move-up = move-up-kept;
       of-the-move-back = move-back-kept;
       goes-up = well-formed-goes-up;
+      of-the-judge = judge-kept;
       of-the-sheet = sheet-kept;
       of-the-clock = clock-kept;
     }

@@ -53,7 +53,7 @@ use Rattle.gate.proofs.Runs.{Runs}
 use Rattle.records.specs.Promise.{records}
 use Rattle.records.proofs.Lawful.{records-lawful}
 use Rattle.gate.proofs.Lending.{numbers-lawful}
-use Rattle.gate.specs.Replies.{fourOf, never, fifthOf}
+use Rattle.gate.specs.Replies.{Four, fourOf, never, fifthOf}
 use Rattle.host.specs.Host.{gateIn, hosted}
 use Rattle.host.specs.Calls.{Lent, inside, shownBy, through, kept, heldBy, fours, Refuses, Takes, freeFours}
 use Rattle.host.specs.Traces.{threeOf}
@@ -77,6 +77,11 @@ use Rattle.moved.specs.Cases.{Dear, moveCases, FirstEvent, WellFormed}
 use Rattle.moved.specs.declared.Moved.{Moved}
 use Rattle.moved.proofs.Exactly.{refusalIn}
 use Rattle.moved.proofs.Theorems.{writtenIn}
+use Rattle.judge.specs.Acceptable.{headLine, linesOf, Acceptable, FirstWrong}
+use Rattle.judge.specs.Judging.{wrongAt, accepted as acceptedLines, judgedOf}
+use Rattle.judge.specs.declared.Judged.{Judged as JudgedLines}
+use Rattle.judge.proofs.Counted.{ends}
+use Rattle.judge.proofs.Readings.{Readings as JudgeReadings}
 use Rattle.batch.specs.Rows.{countOf, answerWide}
 use Rattle.batch.specs.Promise.{BatchIn, outcomes, batchTests, batchedIn, seenBatchIn}
 use Rattle.batch.specs.Batches.{Batch, batchCases, Refuses as RefusesAll, Takes as TakesAll, goods, good, allDone, heldBatches, freeAnswers}
@@ -243,6 +248,20 @@ pub record OfTheMoves (from to : ℕ) : Type 0 where
   pub moved-untouched : (bs room : List ℕ)
       → (length (moves from to bs room .1) ≡ length room) × (drop (writtenIn (moves from to bs room)) (moves from to bs room .1) ≡ drop (writtenIn (moves from to bs room)) room)
 
+-- OF THE JUDGE of another gate's lines, of any bytes of a trace and of lines: document 02, K10; the same through C
+
+pub record OfTheJudge : Type 0 where
+  -- K10: "Accept its lines exactly when" all of them may stand, ties between guests broken "as it likes"; "Otherwise give the number of the first wrong, missing or surplus
+  -- line, the header line being 1", here with what was due there; any two answers that the promise admits are equal
+  pub lines-accepted-exactly : (bs ls : List ℕ) → (judgedOf bs ls ≡ acceptedLines) ↔ Acceptable bs ls
+  pub first-wrong-exactly : (bs ls : List ℕ) (n : ℕ) (d : Four) → ((judgedOf bs ls ≡ wrongAt n d) × (0 < n)) ↔ FirstWrong bs ls n d
+  pub judged-once : (bs ls : List ℕ) (a b : JudgedLines) → a ≡ judgedOf bs ls → b ≡ judgedOf bs ls → a ≡ b
+  -- the number counts lines that end with byte 10: as many ended before it, less one
+  pub lines-counted : (bs : List ℕ) (rs : List Result) → ends (headLine bs ++ linesOf rs) ≡ length rs + 1
+  -- K10: "Our own lines are always accepted.", and two outputs of one trace that both are
+  pub own-accepted : (bs : List ℕ) → judgedOf bs (printed bs) ≡ acceptedLines
+  pub judge-readings : JudgeReadings
+
 -- OF THE SHEET
 
 pub record OfTheSheet : Type 0 where
@@ -288,5 +307,6 @@ pub record Promises : Type 0 where
   pub of-the-move-back : OfTheMoves 2 1
   -- K9: "work on well-formed traces only", and on each of version 1 that has room
   pub goes-up : (bs : List ℕ) (room : ℕ) → WellFormed 1 bs → length (movedBytes 2 bs) ≤ room → judged (moveTests 1 2 bs room) ≡ accept
+  pub of-the-judge : OfTheJudge
   pub of-the-sheet : OfTheSheet
   pub of-the-clock : OfTheClock
