@@ -1,5 +1,5 @@
 -- What the judge answers is what document 02, K10, says in plain facts: the lines are accepted exactly where all may stand, and else the number is that of the
--- first line that may not stand, with what was due there. Any two answers that the facts admit are equal. Assumes nothing.
+-- first line that may not stand, with what was due there. Any two answers that the facts admit are equal. Assumes nothing. Words in quotes are K10's.
 use Prim.Native.Nat.{ℕ, _+_, _<_}
 use mathlib.Core.Path.{_≡_, refl, sym, ap, _∙_, subst}
 use mathlib.Core.Bool.{Bool, true, false}
@@ -23,7 +23,7 @@ use Rattle.trace.specs.Answers.{opening}
 use Rattle.trace.specs.declared.Header.{Header}
 use Rattle.trace.specs.declared.Header.the-variants.{Opened, Refused as Unopened}
 use Rattle.trace.proofs.HeaderLaws.{opened}
-use Rattle.judge.specs.Acceptable.{Asked, May, ours, asked, askedBy, headBy, headLine, Stands, linesOf, Acceptable, Begins, lastOf, noneDue, headDue, Amiss, FirstWrong, heading, later}
+use Rattle.judge.specs.Acceptable.{Asked, May, ours, asked, askedBy, headLine, Stands, linesOf, Acceptable, lastOf, noneDue, headDue, Amiss, FirstWrong, heading, later}
 use Rattle.judge.specs.Judging.{begins, Heard, follows, wrong, heard, wrongAt, accepted, ended, onward, judgedFrom, judgedOf}
 use Rattle.judge.specs.declared.Judged.{Judged}
 use Rattle.judge.proofs.Bytes.{begins-is, is-begins, behind-begin, begins-with, begins-not}

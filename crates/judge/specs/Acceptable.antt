@@ -65,7 +65,7 @@ May t (entire (Good e)) r = MayDecide (verdict t e) t e r
 May t (entire Bad) r = r ≡ refusing t BadEvent
 May t cutOff r = r ≡ refusing t EventCut
 
--- what our rules come to there, "ties to the earlier accepted"
+-- what our rules come to there, by document 01 "ties to the earlier accepted"
 abbrev pub ours : Table → Asked → Result
 ours t (entire e) = answered t e
 ours t cutOff = refusing t EventCut
