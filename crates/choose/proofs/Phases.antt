@@ -26,7 +26,6 @@ use Rattle.walks.specs.LeastLaws.{least-ext, open-by-tag}
 use Rattle.moves.specs.Moves.{fallOf}
 use Rattle.walks.specs.Walks.{Picks, Owned, Rising, SharesFit}
 use Rattle.walks.specs.declared.Found.{Found}
-use Rattle.walks.specs.declared.Found.the-variants.{At}
 use Rattle.table.proofs.Facts.{Facts, facts, rows-ask, row-is, guest-is}
 use Rattle.choose.specs.Firsts.{FirstOf}
 use Rattle.choose.proofs.Rising.{rising-rows}

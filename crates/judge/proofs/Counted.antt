@@ -11,7 +11,6 @@ use Rattle.lists.specs.Words.{if_then_else_}
 use Rattle.lists.specs.WordsLaws.{both}
 use Rattle.rules.specs.Answers.{numberOf}
 use Rattle.rules.specs.Choice.{Result}
-use Rattle.rules.specs.declared.Refusal.{Refusal}
 use Rattle.rules.specs.declared.Answer.{Answer}
 use Rattle.lines.specs.Line.{decimalOf, spaced, answerOf, lineOf, traceRefused, refusalLine}
 use Rattle.trace.specs.Header.{headerOf}

@@ -23,7 +23,7 @@ use Rattle.trace.specs.Answers.{opening}
 use Rattle.trace.specs.declared.Header.{Header}
 use Rattle.trace.specs.declared.Header.the-variants.{Opened, Refused as Unopened}
 use Rattle.trace.proofs.HeaderLaws.{opened}
-use Rattle.judge.specs.Acceptable.{Asked, May, ours, asked, askedBy, headBy, headLine, Stands, linesOf, Acceptable, Begins, lastOf, noneDue, headDue, Amiss, FirstWrong, heading, later}
+use Rattle.judge.specs.Acceptable.{Asked, May, ours, asked, askedBy, headLine, Stands, linesOf, Acceptable, lastOf, noneDue, headDue, Amiss, FirstWrong, heading, later}
 use Rattle.judge.specs.Judging.{begins, Heard, follows, wrong, heard, wrongAt, accepted, ended, onward, judgedFrom, judgedOf}
 use Rattle.judge.specs.declared.Judged.{Judged}
 use Rattle.judge.proofs.Bytes.{begins-is, is-begins, behind-begin, begins-with, begins-not}

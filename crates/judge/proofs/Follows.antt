@@ -17,13 +17,12 @@ use Rattle.rules.specs.Chosen.{at, Foremost, NoneIs, unsent}
 use Rattle.rules.specs.Events.{enter}
 use Rattle.rules.specs.Refusals.{Verdict, accept, refuse, verdict, isAccept}
 use Rattle.rules.specs.declared.Event.{Event}
-use Rattle.rules.specs.declared.Flight.{Flight}
 use Rattle.rules.specs.declared.Phase.{Phase}
 use Rattle.rules.specs.declared.Phase.the-variants.{Reservation, Weight}
 use Rattle.rules.specs.declared.Refusal.the-variants.{BadEvent, EventCut}
 use Rattle.rules.specs.declared.Answer.{Answer}
-use Rattle.rules.specs.declared.Answer.the-variants.{Nothing, Sent, Refused}
-use Rattle.rules.proofs.Facts.{Sound, sound-is, is-sound}
+use Rattle.rules.specs.declared.Answer.the-variants.{Sent}
+use Rattle.rules.proofs.Facts.{Sound, is-sound}
 use Rattle.rules.proofs.EnterSound.{enter-sound}
 use Rattle.rules.proofs.Places.{Says as Picked, least-place, least-none}
 use Rattle.walks.specs.declared.Found.{Found}
@@ -31,7 +30,7 @@ use Rattle.walks.specs.declared.Found.the-variants.{At, Nothing as NoPlace}
 use Rattle.lines.specs.Line.{lineOf}
 use Rattle.trace.specs.declared.Read.the-variants.{Good, Bad}
 use Rattle.judge.specs.Acceptable.{MayGo, MayChoose, full, reservation, weight, nothing, Asked, entire, cutOff, refusing, MayDecide, May}
-use Rattle.judge.specs.Judging.{begins, Heard, follows, wrong, told, okIn, tagIn, sentAt, ties, named, placeFrom, sentIn, heardIn, heardWeight, heardReservation, heardChoice, heardBy, heard}
+use Rattle.judge.specs.Judging.{begins, follows, wrong, told, okIn, tagIn, sentAt, ties, named, placeFrom, sentIn, heardIn, heardWeight, heardReservation, heardChoice, heardBy, heard}
 use Rattle.judge.proofs.Bytes.{begins-is, line-once}
 use Rattle.judge.proofs.Places.{Says, place-says, place-found}
 use Rattle.judge.proofs.Tied.{ties-first, first-of}

@@ -8,7 +8,6 @@ use lib.ListN.{length, drop, length-append, length-drop}
 use lib.Seq.{drop-drop}
 use Rattle.lists.specs.Words.{if_then_else_}
 use Rattle.rules.specs.Tables.{Table}
-use Rattle.rules.specs.Choice.{Result}
 use Rattle.rules.specs.declared.Gate.{Gate}
 use Rattle.rules.specs.declared.Refusal.the-variants.{EventCut}
 use Rattle.rules.specs.declared.Answer.{Answer}
@@ -18,12 +17,12 @@ use Rattle.gate.specs.Replies.{fourOf}
 use Rattle.lines.specs.Line.{lineOf}
 use Rattle.trace.specs.Event.{eventOf, eventsOf, whole}
 use Rattle.trace.specs.Printed.{answered}
-use Rattle.judge.specs.Acceptable.{Asked, entire, cutOff, refusing, ours, cutAsked, askedFrom}
+use Rattle.judge.specs.Acceptable.{Asked, entire, cutOff, refusing, cutAsked, askedFrom}
 use Rattle.judge.specs.Judging.{begins, Heard, follows, wrong, told, heard, wrongAt, accepted, ended, onward, judgedFrom}
 use Rattle.judge.specs.Hearing.{sizeIf, Followed, Hears}
 use Rattle.judge.specs.declared.Judged.{Judged}
 use Rattle.judge.specs.declared.hearing.Said.{Said}
-use Rattle.judge.proofs.Bytes.{part, part-rest, begins-is, line-long}
+use Rattle.judge.proofs.Bytes.{part, part-rest, begins-is}
 use Rattle.judge.proofs.Ties.{size-zero, size-some}
 use Rattle.judge.proofs.Follows.{heard-may}
 

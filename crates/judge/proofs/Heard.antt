@@ -1,21 +1,20 @@
 -- What the functions over one event know at their ends: what the lines say is what the definition hears. Assumes nothing.
 use Prim.Native.Nat.{ℕ, _≤_, _<_}
 use mathlib.Core.Path.{_≡_, refl, sym, ap, _∙_, subst}
-use mathlib.Core.Bool.{Bool, true, false, _&&_}
+use mathlib.Core.Bool.{true, _&&_}
 use mathlib.Core.List.{List}
 use native.Mathlib.Omega.{arith}
 use lib.Dec.{eqb, leb}
 use lib.ListN.{length}
 use borrow.Author.Tests.{lt-ltb, le-ltb, eqb-true}
-use Rattle.lists.specs.Words.{if_then_else_}
 use Rattle.lists.specs.Tab.{removeAt}
 use Rattle.lists.specs.WordsLaws.{both}
 use Rattle.lists.specs.RowsLaws.{length-rows}
 use Rattle.rules.specs.Tables.{Request, Table, settingsOf}
 use Rattle.rules.specs.Choice.{Result, Pick, nobody, picked, least, dueAt, due, open?, room, byWeight, byReservation, choice}
-use Rattle.rules.specs.Chosen.{at, unsent}
+use Rattle.rules.specs.Chosen.{at}
 use Rattle.rules.specs.Events.{enter}
-use Rattle.rules.specs.Refusals.{Verdict, accept, refuse, verdict, isAccept}
+use Rattle.rules.specs.Refusals.{Verdict, isAccept}
 use Rattle.rules.specs.Run.{decided, step}
 use Rattle.rules.specs.declared.Event.{Event}
 use Rattle.rules.specs.declared.Gate.{Gate}
@@ -45,8 +44,8 @@ use Rattle.trace.specs.Printed.{answered}
 use Rattle.trace.specs.declared.Read.{Read}
 use Rattle.trace.specs.declared.Read.the-variants.{Good, Bad}
 use Rattle.judge.specs.Acceptable.{entire, refusing}
-use Rattle.judge.specs.Judging.{begins, Heard, follows, wrong, told, okIn, tagIn, sentAt, ties, named, placeFrom, sentIn, heardIn, heardWeight, heardReservation, heardChoice, heardBy, heard}
-use Rattle.judge.specs.Hearing.{sizeIf, saidOf, Tells, Sends, Followed, Hears}
+use Rattle.judge.specs.Judging.{begins, Heard, told, okIn, tagIn, sentAt, ties, named, sentIn, heardIn, heardWeight, heardReservation, heardChoice, heardBy, heard}
+use Rattle.judge.specs.Hearing.{sizeIf, saidOf, Tells, Sends, Hears}
 use Rattle.judge.specs.declared.hearing.Said.{Said}
 use Rattle.judge.proofs.Places.{First, Says, place-says}
 use Rattle.judge.proofs.Tied.{ties-first, first-of}

@@ -1,8 +1,8 @@
 -- What the functions over one printed line know at their ends. Assumes nothing.
-use Prim.Native.Nat.{ℕ, _≤_, _<_}
+use Prim.Native.Nat.{ℕ, _≤_}
 use mathlib.Core.Path.{_≡_, refl, sym, ap, _∙_, subst}
 use mathlib.Core.Bool.{Bool, true, false}
-use mathlib.Core.List.{List, []}
+use mathlib.Core.List.{List}
 use native.Mathlib.Omega.{arith}
 use lib.ListN.{length, take}
 use Rattle.lists.specs.Words.{if_then_else_}
@@ -12,8 +12,8 @@ use Rattle.table.specs.View.{tableOf, Known}
 use Rattle.lines.specs.Line.{lineOf}
 use Rattle.lines.specs.Put.{Put}
 use Rattle.lines.proofs.PutLaws.{put-front}
-use Rattle.judge.specs.Judging.{begins, Heard, follows, wrong, told}
-use Rattle.judge.specs.Hearing.{sizeIf, saidOf, Sends, Followed, Hears}
+use Rattle.judge.specs.Judging.{begins, follows, wrong, told}
+use Rattle.judge.specs.Hearing.{sizeIf, saidOf, Hears}
 use Rattle.judge.specs.declared.hearing.Said.{Said}
 use Rattle.judge.proofs.Bytes.{line-long}
 

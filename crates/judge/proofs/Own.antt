@@ -1,15 +1,12 @@
 -- "Our own lines are always accepted", for every trace; and what a line's number counts. Assumes nothing.
 use Prim.Native.Nat.{ℕ, _+_, _*_}
 use mathlib.Core.Path.{_≡_, refl, sym, ap, _∙_}
-use mathlib.Core.Bool.{Bool, true, false}
+use mathlib.Core.Bool.{true}
 use mathlib.Core.List.{List, [], _∷_, _++_, map, append-nil}
-use native.Mathlib.Omega.{arith}
-use lib.Dec.{eqb}
-use lib.ListN.{length, drop, length-map}
-use Rattle.lists.specs.Words.{if_then_else_}
-use Rattle.rules.specs.Tables.{Request, Table}
+use lib.ListN.{drop}
+use Rattle.rules.specs.Tables.{Table}
 use Rattle.rules.specs.Sound.{sound}
-use Rattle.rules.specs.Choice.{Result, due, open?, choice}
+use Rattle.rules.specs.Choice.{Result, choice}
 use Rattle.rules.specs.Chosen.{Foremost, Chosen, full, reservation, weight, nothing}
 use Rattle.rules.specs.Events.{enter}
 use Rattle.rules.specs.Refusals.{Verdict, accept, refuse, verdict, isAccept, judged}
@@ -20,17 +17,17 @@ use Rattle.rules.specs.declared.Answer.{Answer}
 use Rattle.rules.proofs.Facts.{Sound}
 use Rattle.rules.proofs.EnterSound.{enter-sound}
 use Rattle.rules.proofs.Chosen.{chosen}
-use Rattle.lines.specs.Line.{lineOf, refusalLine, titleLine}
+use Rattle.lines.specs.Line.{refusalLine, titleLine}
 use Rattle.trace.specs.Header.{versionOf, headerTests, headerBy, headerOf}
 use Rattle.trace.specs.Event.{whole}
 use Rattle.trace.specs.Printed.{answered, answersTo, linesFrom, printedBy, printed}
-use Rattle.trace.specs.Answers.{eventBytes, opening, readsOf, cutAnswer, answersOf}
+use Rattle.trace.specs.Answers.{eventBytes, opening, readsOf, cutAnswer}
 use Rattle.trace.specs.declared.Header.{Header}
-use Rattle.trace.specs.declared.Header.the-variants.{Opened, Refused as Unopened}
+use Rattle.trace.specs.declared.Header.the-variants.{Refused as Unopened}
 use Rattle.trace.specs.declared.Read.{Read}
 use Rattle.trace.specs.declared.Read.the-variants.{Good, Bad}
 use Rattle.trace.proofs.Answers.{printed-lines}
-use Rattle.judge.specs.Acceptable.{MayGo, MayChoose, full as fullToo, reservation as reservationToo, weight as weightToo, nothing as nothingToo, Asked, entire, cutOff, MayDecide, May, ours, cutAsked, askedBy, asked, headBy, headLine, Stands, linesOf, Acceptable}
+use Rattle.judge.specs.Acceptable.{MayGo, MayChoose, full as fullToo, reservation as reservationToo, weight as weightToo, nothing as nothingToo, Asked, entire, cutOff, MayDecide, May, ours, cutAsked, askedBy, headBy, Stands, linesOf, Acceptable}
 use Rattle.judge.specs.Judging.{okIn, tagIn, accepted, judgedOf}
 use Rattle.judge.proofs.Tied.{ties-first}
 use Rattle.judge.proofs.Follows.{may-sound}

@@ -11,8 +11,7 @@ use Rattle.lists.specs.Tab.{removeAt}
 use Rattle.lists.specs.WordsLaws.{join, all-append, all-mid}
 use Rattle.lists.specs.RowsLaws.{length-rows}
 use Rattle.rules.specs.Tables.{Request, Table, name, names}
-use Rattle.rules.specs.Sound.{sound}
-use Rattle.rules.specs.Choice.{Result, room, sending, dropped}
+use Rattle.rules.specs.Choice.{room, sending}
 use Rattle.rules.specs.Chosen.{at}
 use Rattle.rules.specs.declared.Flight.{Flight}
 use Rattle.rules.specs.declared.Gate.{Gate}
@@ -21,11 +20,11 @@ use Rattle.rules.specs.declared.Phase.the-variants.{Reservation, Weight}
 use Rattle.rules.proofs.Facts.{Sound, sound-is, is-sound}
 use Rattle.rules.proofs.Names.{names-mid, names-sent}
 use Rattle.rules.proofs.SameSettings.{SameSettings, same-count, sending-settings, dropped-settings}
-use Rattle.rules.proofs.Picks.{Between, Goes}
+use Rattle.rules.proofs.Picks.{Between}
 use Rattle.rules.proofs.Drops.{dropped-names}
 use Rattle.rules.proofs.ChoiceSound.{sent-known, sending-sound, drop-fits, dropped-sound}
 use Rattle.table.specs.declared.gates.Decision.{Decision}
-use Rattle.table.specs.View.{requestForm, flightForm, tableOf, identified, Known}
+use Rattle.table.specs.View.{requestForm, flightForm, tableOf, Known}
 use Rattle.table.specs.Does.{Leaves}
 use Rattle.table.proofs.Left.{left-shown, left-known}
 use Rattle.enter.proofs.Entering.{narrow}

@@ -1,14 +1,14 @@
 -- In a sound table a request that may be chosen in a phase, with the smallest tag of all that may, is the first waiting of its guest: within a guest tags rise by
 -- spacings that are not 0. Assumes nothing.
 use Prim.Native.Nat.{ℕ, zero, suc, _+_, _-_, _*_, _≤_, _<_}
-use mathlib.Core.Path.{_≡_, refl, sym, ap, _∙_, subst}
+use mathlib.Core.Path.{_≡_, refl, sym, ap, _∙_}
 use mathlib.Core.Bool.{Bool, true, false, true≢false}
 use mathlib.Core.List.{List, [], _∷_}
 use mathlib.Core.Logic.{⊎-elim}
 use native.Mathlib.Omega.{arith}
 use native.Mathlib.Nat.{div-lt-iff-lt-mul}
 use lib.Dec.{ltb, leb}
-use lib.ListN.{length, getD, drop, length-drop}
+use lib.ListN.{length, drop, length-drop}
 use lib.Seq.{getD-drop}
 use borrow.Author.Tests.{ltb-true, leb-true, eq-eqb, eqb-true}
 use Rattle.lists.specs.Words.{if_then_else_, all}
@@ -20,7 +20,6 @@ use Rattle.rules.specs.Sound.{counted, ranges, settled, fair, priced, kept}
 use Rattle.rules.specs.Choice.{due, open?}
 use Rattle.rules.specs.Chosen.{blank, at, Open, Due}
 use Rattle.rules.specs.Refused.{Good}
-use Rattle.rules.specs.declared.Settings.{Settings}
 use Rattle.rules.specs.declared.Guest.{Guest}
 use Rattle.rules.specs.declared.Phase.{Phase}
 use Rattle.rules.specs.declared.Phase.the-variants.{Reservation, Weight}

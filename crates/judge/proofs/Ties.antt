@@ -1,7 +1,7 @@
 -- The rows that tie, over the lent numbers: what the functions that look for another gate's request know. Assumes nothing.
 use Prim.Native.Nat.{ℕ, zero, suc, _+_, _*_, _≤_, _<_}
 use mathlib.Core.Path.{_≡_, refl, sym, ap, _∙_, subst}
-use mathlib.Core.Bool.{Bool, true, false, not, _&&_, true≢false, false≢true}
+use mathlib.Core.Bool.{Bool, true, false, not, _&&_, true≢false}
 use mathlib.Core.List.{List, [], _∷_, _++_, map}
 use mathlib.Core.Logic.{⊎-elim}
 use native.Mathlib.Omega.{arith}
@@ -9,14 +9,14 @@ use native.Mathlib.Nat.{zero-add}
 use lib.Dec.{ltb, leb, eqb}
 use lib.ListN.{length}
 use borrow.Author.Tests.{lt-ltb, le-leb, lt-leb, eq-eqb, eqb-true, ne-eqb, not-true}
-use Rattle.lists.specs.Words.{if_then_else_, all}
-use Rattle.lists.specs.Tab.{removeAt, lt-or-le}
-use Rattle.lists.specs.WordsLaws.{both, join, left-fails, right-fails, all-at, all-parts}
+use Rattle.lists.specs.Words.{all}
+use Rattle.lists.specs.Tab.{lt-or-le}
+use Rattle.lists.specs.WordsLaws.{both, join, left-fails, right-fails, all-parts}
 use Rattle.lists.specs.RowsLaws.{length-rows}
-use Rattle.rules.specs.Tables.{Request, Table, reserved, owner, settingsOf, name, names, same, lacks}
+use Rattle.rules.specs.Tables.{Request, Table, reserved, owner, settingsOf, name, same, lacks}
 use Rattle.rules.specs.Sound.{distinct}
-use Rattle.rules.specs.Choice.{picked, least, dueAt, passes, due, open?}
-use Rattle.rules.specs.Chosen.{blank, at, Foremost}
+use Rattle.rules.specs.Choice.{dueAt, passes, open?}
+use Rattle.rules.specs.Chosen.{at, Foremost}
 use Rattle.rules.specs.declared.Guest.{Guest}
 use Rattle.rules.specs.declared.Flight.{Flight}
 use Rattle.rules.specs.declared.Gate.{Gate}
@@ -32,11 +32,11 @@ use Rattle.table.specs.View.{requestForm, waitingOf, tableOf, Known}
 use Rattle.table.proofs.Facts.{facts, rows-ask, row-is, guest-is}
 use Rattle.walks.specs.LeastLaws.{open-by-tag}
 use Rattle.walks.specs.Walks.{Picks}
-use Rattle.walks.specs.declared.Found.the-variants.{At, Nothing as NoPlace}
+use Rattle.walks.specs.declared.Found.the-variants.{At}
 use Rattle.choose.proofs.Phases.{limit-zero, passes-by-tag}
 use Rattle.lines.specs.Line.{lineOf}
 use Rattle.judge.specs.Judging.{begins, okIn, tagIn, ties, named, placeFrom}
-use Rattle.judge.specs.Hearing.{sizeIf, tagColumn, latestIn, Timely, Lending, Tells}
+use Rattle.judge.specs.Hearing.{sizeIf, tagColumn, latestIn, Timely, Tells}
 use Rattle.judge.proofs.Bytes.{line-long}
 use Rattle.judge.proofs.Places.{place-found, place-none}
 

@@ -23,7 +23,6 @@ ghost use mathlib.Core.Path.{_≡_};
 ghost use mathlib.Core.List.{List};
 ghost use Prim.Native.Nat.{ℕ, _+_, _*_, _≤_, _<_};
 ghost use lib.ListN.{length, drop};
-ghost use Rattle.rules.specs.Tables.{Request};
 ghost use Rattle.rules.specs.Choice.{choice};
 ghost use Rattle.rules.specs.Chosen.{at};
 ghost use Rattle.rules.specs.Run.{step};

@@ -1,3 +1,4 @@
+-- `ended` meets its contract, with bytes left and without. Assumes nothing.
 use Rattle.judge.proofs.Going.{ended-none, ended-some}
 use Rattle.judge.proofs.ended.Statement.{statement}
 use Rattle.judge.proofs.ended.Tie as tie

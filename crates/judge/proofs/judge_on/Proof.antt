@@ -1,3 +1,4 @@
+-- `judge_on` meets its contract, by the header. Assumes nothing.
 use mathlib.Core.Path.{sym, _∙_}
 use Rattle.trace.proofs.Shown.{header-shown-once}
 use borrow.Author.Needs.{needs}

@@ -1,3 +1,4 @@
+-- `judge_opened` meets its contract: the tables show the fresh one, and the events follow. Assumes nothing.
 use mathlib.Core.Path.{refl, sym, _∙_}
 use native.Mathlib.Omega.{arith}
 use borrow.Author.Tests.{not-true, not-false}

@@ -1,3 +1,4 @@
+-- `wrong_at` meets its contract: an answer's first four numbers. Assumes nothing.
 use mathlib.Core.Path.{ap}
 use Rattle.gate.specs.declared.replies.Reply.{Reply}
 use Rattle.judge.specs.Judging.{wrongAt}

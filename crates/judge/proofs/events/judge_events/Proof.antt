@@ -1,7 +1,9 @@
-use Prim.Native.Nat.{ℕ, _-_, _*_, _≤_, _<_, _/_}
-use mathlib.Core.Path.{_≡_, refl, sym, _∙_}
+-- `events::judge_events` meets its contract. The loop's invariant: what is left to judge, from the tables and the place in the lines that were reached, is what was to
+-- judge. The measure is what is left of the events. Assumes nothing.
+use Prim.Native.Nat.{_-_, _≤_}
+use mathlib.Core.Path.{_≡_, refl}
 use native.Mathlib.Omega.{arith}
-use lib.ListN.{length, length-drop}
+use lib.ListN.{length}
 use Rattle.judge.proofs.Going.{Reached, reached-none, reached-wrong, reached-fits, reached-next, reached-all}
 use Rattle.judge.proofs.events.judge_events.Statement.{statement}
 use Rattle.judge.proofs.events.judge_events.Tie as tie

@@ -1,3 +1,4 @@
+-- `events::judge_rest` meets its contract, with a cut event and without. Assumes nothing.
 use native.Mathlib.Omega.{arith}
 use mathlib.Core.List.{[]}
 use Rattle.judge.specs.Judging.{accepted}

@@ -1,3 +1,4 @@
+-- `hearing::hear_choice` meets its contract, by what the walk finds. Assumes nothing.
 use native.Mathlib.Omega.{arith}
 use Rattle.choose.proofs.Phases.{line-asks}
 use Rattle.judge.proofs.Heard.{choice-full, due-at, choice-due, open-at, choice-open, choice-none}

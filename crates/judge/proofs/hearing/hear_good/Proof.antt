@@ -1,5 +1,5 @@
+-- `hearing::hear_good` meets its contract: a refusal, or the choice on what entered. Assumes nothing.
 use mathlib.Core.Path.{_∙_}
-use native.Mathlib.Omega.{arith}
 use Rattle.judge.proofs.Heard.{good-refused, good-known, good-entered}
 use borrow.Author.Needs.{needs}
 use Rattle.judge.proofs.hearing.hear_good.Statement.{statement}

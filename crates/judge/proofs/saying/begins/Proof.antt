@@ -1,3 +1,4 @@
+-- `saying::begins` meets its contract: too few bytes begin with nothing so long, and else the first of them are compared. Assumes nothing.
 use mathlib.Core.Path.{sym}
 use lib.Seq.{length-take-le}
 use native.Mathlib.Omega.{arith}

@@ -1,3 +1,4 @@
+-- `saying::says` meets its contract: what was put is what is compared. Assumes nothing.
 use mathlib.Core.Path.{sym}
 use lib.Seq.{length-take-le}
 use native.Mathlib.Omega.{arith}
