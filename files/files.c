@@ -1,12 +1,14 @@
 /* The words of sgq that need a whole file, over the proved library: it maps the trace, makes the one call, and writes the
  * result whole or not at all.
  *
- *   files up TRACE OUT [TITLE]        a trace of version 1 becomes one of version 2
- *   files back TRACE OUT [TITLE]      and back
- *   files salvage TRACE OUT [TITLE]   the good events of a torn trace; prints which it drops, and why
+ *   files up TRACE OUT [TITLE]               a trace of version 1 becomes one of version 2
+ *   files back TRACE OUT [TITLE]             and back
+ *   files salvage TRACE OUT [TITLE]          the good events of a torn trace; prints which it drops, and why
+ *   files judge TRACE LINES [TITLE [TITLE]]  whether another gate printed the right lines, in a sentence
  *
- * OUT may be '-', standard output. TITLE is what the trace is called where something is said of it. The status is 0, 1
- * where the trace is refused or something failed, and 2 for wrong words. */
+ * OUT may be '-', standard output. A TITLE is what the trace, and then the lines, are called where something is said of
+ * them. The status is 0, 1 where the trace is refused, the lines are not accepted or something failed, and 2 for wrong
+ * words. */
 #include "sgq.h"
 #include "words.h"
 
@@ -15,8 +17,8 @@
 
 static const struct word {
     const char *name;
-    void (*run)(const char *path, const char *out, const char *title);
-} words[] = {{"up", move_up}, {"back", move_back}, {"salvage", salvage_trace}};
+    int (*run)(struct named trace, struct named other);
+} words[] = {{"up", move_up}, {"back", move_back}, {"salvage", salvage_trace}, {"judge", judge_lines}};
 
 void refuse(const char *title, struct whole trace, uint64_t refusal, const char *takes)
 {
@@ -37,10 +39,11 @@ void refuse(const char *title, struct whole trace, uint64_t refusal, const char 
 int main(int count, char **given)
 {
     for (size_t at = 0; at < SGQ_COUNT(words); at++)
-        if ((count == 4 || count == 5) && strcmp(given[1], words[at].name) == 0) {
-            words[at].run(given[2], given[3], count == 5 ? given[4] : given[2]);
-            return 0;
+        if (count >= 4 && count <= 6 && strcmp(given[1], words[at].name) == 0) {
+            struct named trace = {given[2], count > 4 ? given[4] : given[2]};
+            struct named other = {given[3], count > 5 ? given[5] : given[3]};
+            return words[at].run(trace, other);
         }
-    say("say 'up TRACE OUT', 'back TRACE OUT' or 'salvage TRACE OUT'");
+    say("say 'up TRACE OUT', 'back TRACE OUT', 'salvage TRACE OUT' or 'judge TRACE LINES'");
     return 2;
 }

@@ -17,10 +17,11 @@ static void say_event(const char *title, sgq_moved moved)
     fail("%s is refused: event %" PRIu64 " has a cost other than 1, which version 1 cannot say (19)", title, moved.event);
 }
 
-static void run(move *call, const char *takes, const char *path, const char *out, const char *title)
+static int run(move *call, const char *takes, struct named from, const char *out)
 {
+    const char *title = from.title;
     want_out(out);
-    struct whole trace = map_file(path, title);
+    struct whole trace = map_file(from);
     size_t most = trace.length + SGQ_MOST_GROWTH;
     uint8_t *room = make_room(most);
     sgq_moved moved = call(trace.bytes, trace.length, room, most);
@@ -31,14 +32,15 @@ static void run(move *call, const char *takes, const char *path, const char *out
     if (moved.refusal != 0)
         refuse(title, trace, moved.refusal, takes);
     write_whole(out, room, moved.written);
+    return 0;
 }
 
-void move_up(const char *path, const char *out, const char *title)
+int move_up(struct named trace, struct named out)
 {
-    run(sgq_trace_up, "up takes version 1", path, out, title);
+    return run(sgq_trace_up, "up takes version 1", trace, out.path);
 }
 
-void move_back(const char *path, const char *out, const char *title)
+int move_back(struct named trace, struct named out)
 {
-    run(sgq_trace_back, "back takes version 2", path, out, title);
+    return run(sgq_trace_back, "back takes version 2", trace, out.path);
 }

@@ -44,22 +44,23 @@ static uint64_t events_in(struct whole trace)
     return (trace.length - header + SGQ_EVENT_BYTES - 1) / SGQ_EVENT_BYTES;
 }
 
-void salvage_trace(const char *path, const char *out, const char *title)
+int salvage_trace(struct named from, struct named out)
 {
-    want_out(out);
-    struct whole trace = map_file(path, title);
+    want_out(out.path);
+    struct whole trace = map_file(from);
     size_t most = sgq_most_dropped(trace.length);
     uint8_t *room = make_room(trace.length);
     sgq_dropped *list = make_room(most * sizeof *list);
     sgq_salvaged found = sgq_salvage_rows(trace.bytes, trace.length, room, trace.length, list, most);
     if (found.refusal != 0)
-        refuse(title, trace, found.refusal, "salvage takes versions 1 and 2");
-    write_whole(out, room, found.written);
+        refuse(from.title, trace, found.refusal, "salvage takes versions 1 and 2");
+    write_whole(out.path, room, found.written);
     /* The list stands beside the result: on standard error where that is standard output. */
-    FILE *to = strcmp(out, "-") == 0 ? stderr : stdout;
+    FILE *to = strcmp(out.path, "-") == 0 ? stderr : stdout;
     setvbuf(to, NULL, _IOFBF, BUFSIZ);
     print_list(to, list, found.rows);
     fprintf(to, "%" PRIu64 " of %" PRIu64 " events are kept\n", events_in(trace) - found.rows, events_in(trace));
     if (ferror(to) || fflush(to) != 0)
         fail("the result is written, but the list could not be: %s", strerror(errno));
+    return 0;
 }

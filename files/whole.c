@@ -46,27 +46,53 @@ void fail(const char *form, ...)
 
 /* Reading. */
 
-static const char *being_read;
+/* What is mapped, and what it is called. */
+static struct mapped {
+    struct whole file;
+    const char *title;
+} mapped[2];
+static size_t mapped_count;
+
+static void write_words(const char *words)
+{
+    if (write(STDERR_FILENO, words, strlen(words)) < 0)
+        _exit(1);
+}
 
 /* A mapped file that becomes shorter meanwhile cannot be read to its end. */
-static void on_bus(int number)
+static void on_bus(int number, siginfo_t *told, void *context)
 {
-    static const char said[] = " became shorter while it was read, so nothing was written: try again\n";
-    (void)number;
-    if (write(STDERR_FILENO, "sgq: ", 5) < 0 || write(STDERR_FILENO, being_read, strlen(being_read)) < 0
-        || write(STDERR_FILENO, said, sizeof said - 1) < 0)
-        _exit(1);
+    (void)number, (void)context;
+    const uint8_t *place = (const uint8_t *)told->si_addr;
+    const char *title = "a file";
+    for (size_t at = 0; at < mapped_count; at++)
+        if (place >= mapped[at].file.bytes && place < mapped[at].file.bytes + mapped[at].file.length)
+            title = mapped[at].title;
+    write_words("sgq: ");
+    write_words(title);
+    write_words(" became shorter while it was read, so nothing was written: try again\n");
     _exit(1);
 }
 
-struct whole map_file(const char *path, const char *title)
+static void watch(struct whole file, const char *title)
+{
+    struct sigaction action;
+    memset(&action, 0, sizeof action);
+    action.sa_sigaction = on_bus;
+    action.sa_flags = SA_SIGINFO;
+    mapped[mapped_count++] = (struct mapped){file, title};
+    sigaction(SIGBUS, &action, NULL);
+}
+
+struct whole map_file(struct named from)
 {
     static const uint8_t nothing[1];
     struct whole file = {nothing, 0};
     struct stat found;
-    int opened = open(path, O_RDONLY | O_CLOEXEC);
+    const char *title = from.title;
+    int opened = open(from.path, O_RDONLY | O_CLOEXEC);
     if (opened < 0 && errno == ENOENT)
-        fail("there is no file '%s': name a trace", title);
+        fail("there is no file '%s': name one that is there", title);
     if (opened < 0 || fstat(opened, &found) != 0)
         fail("%s cannot be read: %s", title, strerror(errno));
     if (S_ISDIR(found.st_mode))
@@ -79,8 +105,7 @@ struct whole map_file(const char *path, const char *title)
         if (bytes == MAP_FAILED)
             fail("%s cannot be read: %s", title, strerror(errno));
         file.bytes = (const uint8_t *)bytes;
-        being_read = title;
-        signal(SIGBUS, on_bus);
+        watch(file, title);
     }
     close(opened);
     return file;

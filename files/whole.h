@@ -5,6 +5,12 @@
 #include <stddef.h>
 #include <stdint.h>
 
+/* A file, and what it is called where something is said of it. */
+struct named {
+    const char *path;
+    const char *title;
+};
+
 /* The bytes of a file, as long as the program runs. */
 struct whole {
     const uint8_t *bytes;
@@ -17,8 +23,8 @@ __attribute__((format(printf, 1, 2))) void say(const char *form, ...);
 /* The same, and ends the program with status 1. */
 __attribute__((format(printf, 1, 2), noreturn)) void fail(const char *form, ...);
 
-/* Maps a file. Title is what it is called where it cannot be read. */
-struct whole map_file(const char *path, const char *title);
+/* Maps a file; there may be two. */
+struct whole map_file(struct named from);
 
 /* Room for this many bytes. */
 void *make_room(size_t length);

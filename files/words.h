@@ -6,11 +6,12 @@
 
 #include <stdint.h>
 
-/* Each word over the path of its trace and of its result; title is what the trace is called where something is said of
- * it. They return where all went well, and else end the program with status 1. */
-void move_up(const char *path, const char *out, const char *title);
-void move_back(const char *path, const char *out, const char *title);
-void salvage_trace(const char *path, const char *out, const char *title);
+/* Each word over its trace and its other file, which is the result or, of judge, the lines. They give the status, 0 where
+ * all went well, or end the program with status 1. */
+int move_up(struct named trace, struct named out);
+int move_back(struct named trace, struct named out);
+int salvage_trace(struct named trace, struct named out);
+int judge_lines(struct named trace, struct named lines);
 
 /* Says what a refusal of the whole trace means to a person, and ends the program; nothing was written. Takes is what the
  * word takes, as 'up takes version 1'. */

@@ -10,8 +10,8 @@
  * refusal changes no lent number and not the time."
  *
  * What the host owes, since C does not check it:
- * - A pointer is never NULL, points to 64-bit numbers, to bytes of a trace or to a clock, and the length beside it is
- *   true. A length is a count of numbers or of bytes in the calls, and a count of records in the helpers below, where a
+ * - A pointer is never NULL, points to 64-bit numbers, to bytes of a trace or of lines or to a clock, and the length beside
+ *   it is true. A length is a count of numbers or of bytes in the calls, and a count of records in the helpers below, where a
  *   table of no records may be NULL.
  * - The gate, the tables, events and answers do not overlap, nor a trace and what is lent beside it, and nobody else
  *   reads or writes them during a call, nor a clock. Calls on different gates and clocks may run at the same time.
@@ -29,7 +29,7 @@
 /* The version of this header and of the library that it belongs to. While the major number is 0, another minor number
  * means other calls or other rows. SGQ_VERSION is the text "MAJOR.MINOR.PATCH". */
 #define SGQ_VERSION_MAJOR 0
-#define SGQ_VERSION_MINOR 9
+#define SGQ_VERSION_MINOR 10
 #define SGQ_VERSION_PATCH 0
 #define SGQ_VERSION \
     SGQ_TEXT_OF(SGQ_VERSION_MAJOR) "." SGQ_TEXT_OF(SGQ_VERSION_MINOR) "." SGQ_TEXT_OF(SGQ_VERSION_PATCH)
@@ -209,7 +209,7 @@ enum sgq_refusal {
     SGQ_REFUSED_TAG_ABOVE_CEILING = 9,  /* "arrival: a tag given, or a share tag moved, would pass the ceiling" */
     SGQ_REFUSED_NOT_IN_FLIGHT = 10,     /* "completion: guest has no such id in flight" */
 
-    /* Those named so are of a trace: the programs that read one give them, and the calls that move or salvage one. */
+    /* Those named so are of a trace: the programs that read one give them, and the calls that move, salvage or judge one. */
     SGQ_REFUSED_TRACE_MARK = 11,       /* "trace mark" */
     SGQ_REFUSED_TRACE_VERSION = 12,    /* "trace version" */
     SGQ_REFUSED_TRACE_HEADER_CUT = 13, /* "trace header cut short" */
@@ -347,6 +347,34 @@ typedef struct sgq_salvaged {
  *   room     21, of the result or of the list */
 SGQ_MUST_USE sgq_salvaged sgq_salvage(const uint8_t *trace, size_t trace_length, uint8_t *room, size_t room_length,
                                       uint64_t *list, size_t list_length);
+
+/* The judge of another maker's gate, which may break ties between guests as it likes: whether the lines that it printed
+ * for a trace are right. */
+
+/* What a judge answers: line 0, and all else 0, where the lines are accepted; or the number of the first line that is
+ * wrong, missing or surplus, the header line being 1, and what was due there, in the numbers of an answer: what the rules
+ * answer at the tables that the other gate's choices have led to, ties to the earlier accepted. Line n + 1 is that of event
+ * n. In line 1 kind SGQ_NOTHING means the header line, "event answer", and SGQ_REFUSED the one line of a bad header. */
+typedef struct sgq_judged {
+    uint64_t line;
+    uint64_t kind; /* enum sgq_kind, or SGQ_NONE_DUE */
+    uint64_t guest;
+    uint64_t id;
+    uint64_t refusal; /* enum sgq_refusal, or 0 */
+} sgq_judged;
+
+/* One kind more, of a judge alone: no line is due any more, and there is one. */
+enum sgq_due {
+    SGQ_NONE_DUE = 4
+};
+
+/* Judges the printed lines of another gate for a trace of either version, under the trace's rule. Document 02, K10: "Accept
+ * its lines exactly when each send was of a smallest tag in the right phase, the first waiting of its guest, a send was
+ * made wherever one was due, and refusals agree; the tables follow its choices, not ours." Any bytes may be handed in as
+ * either, of any length; nothing is written. A line is its bytes up to byte 10, so a last line without one is wrong, as is
+ * one that is not printed just so: "Fields are parted by one space, numbers are decimal without leading zeros". "Our own
+ * lines are always accepted." */
+SGQ_MUST_USE sgq_judged sgq_judge(const uint8_t *trace, size_t trace_length, const uint8_t *lines, size_t lines_length);
 
 /* A clock for a board that counts microseconds in 32 bits and starts again from zero. Zeros are a clock of which no
  * reading was taken yet: sgq_clock clock = {0, 0, 0}; */

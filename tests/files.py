@@ -1,12 +1,13 @@
 #!/usr/bin/env python3
-"""Tests the program of files/, by which the words up, back and salvage of sgq work on a whole trace over the library: what it
-writes and prints, beside the second program; and for each fault one line, the status, and that an existing file is replaced
-by a whole result or not at all.
+"""Tests the program of files/, by which the words up, back, salvage and judge of sgq work on a whole trace over the library:
+what it writes and prints, beside the second program; and for each fault one line, the status, and that an existing file is
+replaced by a whole result or not at all.
 
 The library is target/staticlib/libhost.a, which 'rt staticlib host' writes; the environment variable SGQ_LIB may name
 another archive, as to try these tests on a wrong one. Ends with 'N passed, M failed'."""
 import os
 import pathlib
+import random
 import resource
 import signal
 import stat
@@ -23,6 +24,7 @@ KINDS = ["small", "small2", "header", "header2", "cut", "cut2", "garbage", "garb
 TORN = ["torn", "torn2", "garbage", "garbage2", "header", "header2", "ceiling", "ceiling2"]
 SEEDS = 12
 SALVAGED = 30  # seeds of each kind of torn trace
+JUDGED = ["ties", "ties2", "small", "small2", "header", "header2", "cut", "cut2"]
 NOBODY = 65534
 MOST_SECONDS = 60
 
@@ -100,8 +102,8 @@ def hold(tally, name, good, why="it does not"):
 
 
 def test_words(tally, house):
-    usage = "say 'up TRACE OUT', 'back TRACE OUT' or 'salvage TRACE OUT'"
-    for words in ([], ["up"], ["up", "a"], ["down", "a", "b"], ["up", "a", "b", "c", "d"], ["salvage", "a"]):
+    usage = "say 'up TRACE OUT', 'back TRACE OUT', 'salvage TRACE OUT' or 'judge TRACE LINES'"
+    for words in ([], ["up"], ["up", "a"], ["down", "a", "b"], ["up", "a", "b", "c", "d", "e"], ["salvage", "a"], ["judge", "a"]):
         check(tally, f"the words {words}", house.run(*words), 2, usage)
     hold(tally, "nothing is made of them", house.names() == [], house.names())
 
@@ -220,6 +222,103 @@ def salvage_beside_second(house):
     return None if same else f"it ended with {ours.returncode}, {heard!r}, and second printed {second.stdout}"
 
 
+# Of the example: what becomes of its lines, and what is said.
+LINES = (ROOT / "samples" / "example.out").read_bytes()
+SENTENCES = [
+    (LINES, "the lines is accepted: all its 11 lines are right for the trace"),
+    (LINES.replace(b"7 R 0 4", b"7 -"), "line 8 of the lines is wrong: due was '7 R 0 4' or what ties with it, and it says '7 -'"),
+    (LINES.replace(b"5 W", b"5 R"), "line 6 of the lines is wrong: due was '5 W 0 2' or what ties with it, and it says '5 R 0 2'"),
+    (LINES.replace(b"3 -", b"3 W 0 2"), "line 4 of the lines is wrong: due was '3 -', and it says '3 W 0 2'"),
+    (LINES.replace(b"8 X 6", b"8 X 5"), "line 9 of the lines is wrong: due was '8 X 6', and it says '8 X 5'"),
+    (LINES.replace(b"\n", b"\r\n"), "line 1 of the lines is wrong: due was 'event answer', and it says 'event answer\\x0d'"),
+    (LINES.replace(b"2 -", b"\t'\\\x7f\xc3\xa9\0 ~"), "line 3 of the lines is wrong: due was '2 -', and it says '\\x09\\'\\\\\\x7f\\xc3\\xa9\\x00 ~'"),
+    (LINES.replace(b"2 -", b"x" * 80), f"line 3 of the lines is wrong: due was '2 -', and it says '{'x' * 80}'"),
+    (LINES.replace(b"2 -", b"x" * 100_000), f"line 3 of the lines is wrong: due was '2 -', and it says '{'x' * 80}...'"),
+    (LINES.replace(b"2 -\n", b"\n"), "line 3 of the lines is wrong: due was '2 -', and it says ''"),
+    (LINES[:-1], "line 11 of the lines is wrong: due was '10 X 10', and it says '10 X 10' without the end of a line"),
+    (LINES[: LINES.index(b"4 -")], "line 5 of the lines is missing: due was '4 -'"),
+    (b"", "line 1 of the lines is missing: due was 'event answer'"),
+    (LINES + b"11 -\n", "line 12 of the lines is surplus: no line was due any more, and it says '11 -'"),
+    (LINES + b"1", "line 12 of the lines is surplus: no line was due any more, and it says '1' without the end of a line"),
+]
+# The same of a trace whose header is cut short.
+REFUSED_SENTENCES = [
+    (b"trace refused 13\n", "the lines is accepted: its one line is right for the trace"),
+    (LINES, "line 1 of the lines is wrong: due was 'trace refused 13', and it says 'event answer'"),
+    (b"trace refused 13\n\n", "line 2 of the lines is surplus: no line was due any more, and it says ''"),
+]
+
+
+def test_judge(tally, house):
+    """Each sentence, the samples, and that nothing is written."""
+    for name in house.names():
+        (house.work / name).unlink()
+    example = sgqtext.to_bytes((ROOT / "samples" / "example.txt").read_text())
+    for trace, sentences in ((example, SENTENCES), (example[:20], REFUSED_SENTENCES)):
+        house.write("trace", trace)
+        for lines, said in sentences:
+            house.write("lines", lines)
+            ended = house.run("judge", "trace", "lines", "the trace", "the lines")
+            check(tally, f"judge, {said[:60]}", ended, 0 if "accepted" in said else 1, output=f"{said}\n".encode())
+    samples = ROOT / "samples"
+    house.write("trace", sgqtext.to_bytes((samples / "other.txt").read_text()))
+    for name, status in (("other.lines", 0), ("other.wrong", 1), ("other.out", 0)):
+        ended = house.run("judge", "trace", samples / name, "samples/other.txt", f"samples/{name}")
+        check(tally, f"judge of {name}", ended, status, output=ended.stdout)
+        for page in (ROOT / "README.md", samples / "README.md") if name != "other.out" else ():
+            hold(tally, f"{page.relative_to(ROOT)} shows it, {name}", f"    {ended.stdout.decode()}" in page.read_text())
+    house.write("many", example + example[-14:] * 100_000)
+    house.write("lines", LINES + b"".join(b"%d X 10\n" % event for event in range(11, 100_011)))
+    said = b"lines is accepted: all its 100011 lines are right for many\n"
+    check(tally, "judge of many lines", house.run("judge", "many", "lines"), 0, output=said)
+    with open("/dev/full", "wb") as full:
+        ended = house.run("judge", "trace", "lines", capture_output=False, stdout=full, stderr=subprocess.PIPE)
+    said = b"sgq: standard output could not be written: No space left on device\n"
+    hold(tally, "a sentence that cannot be printed", (ended.returncode, ended.stderr) == (1, said), f"it ended with {ended}")
+    check(tally, "no lines", house.run("judge", "trace", "lost"), 1, "there is no file 'lost': name one that is there")
+    check(tally, "a folder for lines", house.run("judge", "trace", "/"), 1, "/ is a folder: name a file in it")
+    hold(tally, "nothing else is there", house.names() == ["lines", "many", "trace"], house.names())
+
+
+def test_judge_beside_second(tally, house):
+    """Random traces, each with the lines of the second program, and those damaged: the same number of the line, and what was due."""
+    for kind in JUDGED:
+        for seed in range(1, SEEDS + 1):
+            trace = random_trace(kind, seed)
+            lines = subprocess.run([SECOND], input=trace, stdout=subprocess.PIPE, check=True).stdout
+            house.write("trace", trace)
+            for name, damaged in damages(random.Random(seed), lines):
+                house.write("lines", damaged)
+                tally.add(f"judge of {kind} seed {seed}, {name}", judge_beside_second(house), trace)
+
+
+def damages(rng, lines):
+    """Our lines, and the same with a byte, a line or its end changed."""
+    parts = lines.splitlines(keepends=True)
+    at, byte = rng.randrange(len(parts)), rng.randrange(len(lines))
+    yield "whole", lines
+    yield "a byte", lines[:byte] + bytes([lines[byte] ^ 1 << rng.randrange(8)]) + lines[byte + 1 :]
+    yield "a line less", b"".join(parts[:at] + parts[at + 1 :])
+    yield "a line more", b"".join(parts[:at] + parts[at : at + 1] + parts[at:])
+    yield "cut", lines[:byte]
+
+
+def judge_beside_second(house):
+    second = subprocess.run([SECOND, "judge", house.work / "trace", house.work / "lines"], capture_output=True)
+    line, kind, guest, number, refusal = map(int, second.stdout.split())
+    ours = house.run("judge", "trace", "lines")
+    heard = ours.stdout.decode()
+    if line == 0:
+        good = (ours.returncode, ours.stderr) == (0, b"") and heard.startswith("lines is accepted: ")
+        return None if good else f"it said {heard!r}, and second accepts the lines"
+    due = {0: "-", 1: f"R {guest} {number}' or what ties with it", 2: f"W {guest} {number}' or what ties with it", 3: f"X {refusal}"}
+    first = f"trace refused {refusal}" if kind == 3 else "event answer"
+    told = "no line was due any more" if kind == 4 else f"due was '{first if line == 1 else f'{line - 1} {due[kind]}'}"
+    good = (ours.returncode, ours.stderr) == (1, b"") and heard.startswith(f"line {line} of lines is ") and f": {told}" in heard
+    good = good and heard.count("\n") == 1 and heard.isascii()
+    return None if good else f"it said {heard!r}, and second {second.stdout}"
+
+
 def test_refused(tally, house):
     """What is refused is said with its meaning and its event, and leaves the file as it was, or none."""
     for name in house.names():
@@ -264,7 +363,7 @@ def test_faults(tally, house):
     (house.work / "folder").mkdir()
     os.mkfifo(house.work / "pipe")
     for name, words, said in (
-        ("no trace", ["lost", "out"], "there is no file 'lost': name a trace"),
+        ("no trace", ["lost", "out"], "there is no file 'lost': name one that is there"),
         ("a folder for a trace", ["folder", "out"], "folder is a folder: name a file in it"),
         ("a device for a trace", ["/dev/null", "out"], "/dev/null is no plain file: name one"),
         ("a folder for a result", ["trace", "folder"], "folder is a folder: name a file in it"),
@@ -293,7 +392,7 @@ def test_faults(tally, house):
     heard = ended.stderr.decode()
     good = ended.returncode == 1 and heard == "sgq: standard output could not be written: No space left on device\n"
     tally.add("standard output that is full", None if good else f"it ended with {ended}")
-    names = ["folder", "old", "out", "pipe", "trace"]
+    names = ["folder", "lines", "old", "out", "pipe", "trace"]
     hold(tally, "nothing is left beside", house.names() == names, house.names())
 
 
@@ -345,6 +444,13 @@ def test_stopped(tally, house):
     check(tally, "a trace that becomes shorter", shortened("up", "trace", "out", "the trace"), 1, said)
     same = (house.work / "out").read_bytes() == b"old" and house.names() == names
     hold(tally, "that leaves all too", same, house.names())
+    # The lines are mapped behind the trace, so theirs is the second to be closed.
+    source = "\n".join(lines).replace("{ return truncate", "{ static int closed; return ++closed == 2 && truncate")
+    shortened = loaded_before(house, source.replace('"trace"', '"lines"'))
+    house.write("trace", ONE)
+    house.write("lines", LINES)
+    said = "the lines became shorter while it was read, so nothing was written: try again"
+    check(tally, "lines that become shorter", shortened("judge", "trace", "lines", "the trace", "the lines"), 1, said)
 
 
 def tests(tally):
@@ -356,9 +462,11 @@ def tests(tally):
         test_words(tally, house)
         test_moves(tally, house)
         test_salvage(tally, house)
+        test_judge(tally, house)
         test_refused(tally, house)
         test_beside_second(tally, house)
         test_salvage_beside_second(tally, house)
+        test_judge_beside_second(tally, house)
         test_faults(tally, house)
         test_full(tally, house)
         test_stopped(tally, house)

@@ -61,10 +61,12 @@ while [ $# -gt 0 ]; do
 done
 cp "$HOUSE/made.files" "$made"
 """
-# In place of the program of files/, which tests/files.py tests: the second program moves the trace, or salvages it.
+# In place of the program of files/, which tests/files.py tests: the second program moves the trace, salvages it, or judges
+# lines.
 FILES = """#!/bin/sh
 said=$HOUSE/moved
 case $1 in
+judge) echo "$5 for $4: $("{second}" judge "$2" "$3")" && exec "{second}" judge "$2" "$3" >"$said" ;;
 salvage) said=$HOUSE/list && "{second}" salvage "$2" "$HOUSE/moved" >"$said" ;;
 *) "{second}" "$1" <"$2" >"$HOUSE/moved" ;;
 esac || {{ echo "sgq: $4 is refused: $(cat "$said")" >&2 && exit 1; }}
@@ -207,12 +209,12 @@ def expected(sample, end="out"):
 
 def test_words(tally, house):
     check(tally, "no word", house.sgq(), 2, said="./sgq decide [TRACE]")
-    known = "there is no 'dcide': say decide, sheet, up, back, salvage, test, help or --version"
+    known = "there is no 'dcide': say decide, sheet, up, back, salvage, judge, test, help or --version"
     check(tally, "unknown word", house.sgq("dcide"), 2, said=known, lines=1)
     helped = house.sgq("help")
     check(tally, "help", helped, 0, helped.stdout, lines=0)
     hold(tally, "help says test", b"./sgq test" in helped.stdout)
-    for words in (["decide", "--help"], ["decide", "-h"], *([word, "--help"] for word in ("sheet", *WHOLE, "test"))):
+    for words in (["decide", "--help"], ["decide", "-h"], *([word, "--help"] for word in ("sheet", *WHOLE, "judge", "test"))):
         more = house.sgq(*words)
         check(tally, " ".join(words), more, 0, more.stdout, lines=0)
         hold(tally, f"{' '.join(words)} says more", more.stdout.startswith(f"./sgq {words[0]} ".encode()))
@@ -227,6 +229,11 @@ def test_words(tally, house):
             ended = house.sgq(word, *names)
             check(tally, f"{word} of {len(names)} names", ended, 2, said=f"{takes}, not {len(names)} names", lines=1)
         check(tally, f"unknown option of {word}", house.sgq(word, "--all", "b"), 2, said=f"{word} has no '--all'", lines=1)
+    for names in ([], ["a"], ["--"], ["a", "b", "c"]):
+        count = len(names) - (names == ["--"])
+        said = f"judge takes a trace and the lines of another gate, not {count} names"
+        check(tally, f"judge of {names}", house.sgq("judge", *names), 2, said=said, lines=1)
+    check(tally, "unknown option of judge", house.sgq("judge", "--all", "b"), 2, said="judge has no '--all'", lines=1)
     check(tally, "test with more words", house.sgq("test", "all"), 2, said="no more words", lines=1)
 
 
@@ -378,6 +385,67 @@ def test_salvage(tally, house):
         subprocess.run(words, env=house.environment, cwd=house.root, capture_output=True)
         status = (house.root / "ended").read_text()
         hold(tally, "nobody reads the list to its end", status == "141\n", f"the status was {status}")
+
+
+def test_judge(tally, house):
+    """Where the trace and the lines come from, and what is said where they do not."""
+    trace, lines = (house.root / "example.sgq").read_bytes(), expected("example")
+    house.write("lines", lines)
+    house.write("-l", lines)
+    house.write("wrong", lines.replace(b"7 R 0 4", b"7 -"))
+    right, wrong = b"0 0 0 0 0\n", b"8 1 0 4 0\n"
+    for name, words, given, status, output in (
+        ("lines", ["example.sgq", "lines"], b"", 0, b"lines for example.sgq: " + right),
+        ("wrong lines", ["example.sgq", "wrong"], b"", 1, b"wrong for example.sgq: " + wrong),
+        ("a text", ["samples/example.txt", "lines"], b"", 0, b"lines for samples/example.txt: " + right),
+        ("a trace there", ["-", "lines"], trace, 0, b"lines for standard input: " + right),
+        ("a text there", ["-", "wrong"], (ROOT / "samples" / "example.txt").read_bytes(), 1, b"wrong for standard input: " + wrong),
+        ("lines there", ["example.sgq", "-"], lines, 0, b"standard input for example.sgq: " + right),
+        ("no lines there", ["example.sgq", "-"], b"", 1, b"standard input for example.sgq: 1 0 0 0 0\n"),
+        ("lines there of a text", ["samples/example.txt", "-"], lines, 0, b"standard input for samples/example.txt: " + right),
+        ("--", ["--", "-x", "-l"], b"", 0, b"-l for -x: " + right),
+    ):
+        check(tally, f"judge of {name}", house.sgq("judge", *words, given=given), status, output, lines=0)
+    for words, piped in ((["pipe", "-"], "example.sgq"), (["-", "pipe"], "lines"), (["example.sgq", "pipe"], "lines")):
+        given = lines if words[1] == "-" else trace
+        with subprocess.Popen(["sh", "-c", f"cat {piped} >pipe"], cwd=house.root):
+            ended = house.sgq("judge", *words, given=given)
+        check(tally, f"judge of {words}", ended, 0, ended.stdout, lines=0)
+        hold(tally, f"what it says of {words}", ended.stdout.endswith(right), ended.stdout)
+    check_no_judge(tally, house)
+
+
+def check_no_judge(tally, house):
+    late = HEAD + "tick at 5\n" * 90_000 + "tick at once\n"
+    house.write("late.txt", late)
+    with tempfile.TemporaryDirectory() as temporary:
+        there = dict(house.environment, TMPDIR=temporary)
+        for name, words, said in (
+            ("both there", ["-", "-"], "trace and lines cannot both be standard input"),
+            ("a lost trace", ["lost.sgq", "lines"], "there is no file 'lost.sgq': name"),
+            ("lost lines", ["example.sgq", "lost"], "there is no file 'lost': name the lines of another gate"),
+            ("a folder for lines", ["example.sgq", "samples"], "samples is a folder: name a file in it"),
+            ("a bad text", ["bad.txt", "-"], "bad.txt: line 2: capacity 0 is not from 1 to 1024"),
+            ("a mistake late in a text", ["late.txt", "-"], "late.txt: line 90004: time 'once' is not a number"),
+        ):
+            ended = house.sgq("judge", *words, given=b"event answer\n", env=there)
+            check(tally, f"judge, {name}", ended, 2, said=said, lines=1)
+            hold(tally, f"nothing is said of what is written, {name}", b"are written" not in ended.stderr, ended.stderr)
+        check(tally, "judge of a stream", house.sgq("judge", "example.sgq", "-", given=b"1", env=there), 1,
+              b"standard input for example.sgq: 1 0 0 0 0\n", lines=0)
+        hold(tally, "no temporary file of judge is left", os.listdir(temporary) == [], os.listdir(temporary))
+    lost = dict(house.environment, TMPDIR="lost", aside="samples")
+    ended = house.sgq("judge", "example.sgq", "-", env=lost)
+    check(tally, "no temporary folder for lines", ended, 1, said="there is no room in lost for the bytes of standard input", lines=1)
+    hold(tally, "a folder of that name stays", (house.root / "samples" / "example.txt").exists())
+    closed = house.sgq("judge", "example.sgq", "lines", preexec_fn=lambda: os.close(1))
+    check(tally, "judge, standard output closed", closed, 1, said="standard output is closed", lines=1)
+    closed = subprocess.run(["sh", "-c", "exec ./sgq judge example.sgq - <&-"], env=house.environment, cwd=house.root, capture_output=True)
+    check(tally, "judge, standard input closed", closed, 1, said="standard input is closed", lines=1)
+    folder = os.open(house.root, os.O_RDONLY)
+    ended = house.sgq("judge", "example.sgq", "-", stdin=folder)
+    os.close(folder)
+    check(tally, "judge, lines that cannot be read", ended, 1, said="standard input could not be read to its end", lines=1)
 
 
 def linked(house):
@@ -790,6 +858,7 @@ def tests(tally):
             test_sheet,
             test_moves,
             test_salvage,
+            test_judge,
             test_texts,
             test_bad_texts,
             test_refusals,

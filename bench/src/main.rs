@@ -17,7 +17,14 @@
 //!     bench-calls salvage TRACE ROUNDS
 //!
 //! The salvage of the whole trace, and of the same with events hurt, likewise.
+//!
+//!     bench-calls lines TRACE
+//!     bench-calls judge WHOSE TRACE LINES
+//!
+//! Prints the lines of a gate that breaks ties otherwise; and judges lines once, by the library or second, which is timed from
+//! outside, as the programs are.
 
+mod judge;
 mod moves;
 mod players;
 mod salvage;
@@ -33,20 +40,25 @@ fn main() -> ExitCode {
     match run(&words) {
         Some(()) => ExitCode::SUCCESS,
         None => {
-            eprintln!("bench-calls library|second|both|idle TRACE SKIP COUNT ROUNDS [BATCH [CAPACITY]], or moves|salvage TRACE ROUNDS; TRACE one of 'traces fixed'");
+            eprintln!("bench-calls library|second|both|idle TRACE SKIP COUNT ROUNDS [BATCH [CAPACITY]], moves|salvage TRACE ROUNDS, lines TRACE, or judge library|second TRACE LINES; TRACE one of 'traces fixed'");
             ExitCode::FAILURE
         }
     }
 }
 
 fn run(words: &[String]) -> Option<()> {
-    if let [word, file, rounds] = words {
-        return match word.as_str() {
-            "moves" => moves::run(file, rounds.parse().ok()?),
-            "salvage" => salvage::run(file, rounds.parse().ok()?),
-            _ => None,
-        };
+    let words: Vec<&str> = words.iter().map(String::as_str).collect();
+    match words[..] {
+        ["moves", file, rounds] => moves::run(file, rounds.parse().ok()?),
+        ["salvage", file, rounds] => salvage::run(file, rounds.parse().ok()?),
+        ["lines", file] => judge::print_lines(file),
+        ["judge", whose, file, lines] => judge::run(whose, file, lines),
+        _ => calls(&words),
     }
+}
+
+/// The calls on a gate.
+fn calls(words: &[&str]) -> Option<()> {
     let [which, file, skip, count, rounds, more @ ..] = words else {
         return None;
     };
@@ -57,15 +69,15 @@ fn run(words: &[String]) -> Option<()> {
     if let Some(capacity) = more.get(1) {
         trace.capacity = capacity.parse().ok()?;
     }
-    if which == "idle" {
+    if *which == "idle" {
         trace.events.drain(..skip);
         trace.events.iter_mut().for_each(to_tick);
     }
-    let skip = if which == "idle" { 0 } else { skip };
+    let skip = if *which == "idle" { 0 } else { skip };
     let (first, timed) = trace.events.split_at(skip);
     let start = after(&trace, first);
-    let library = (which != "second").then(|| Batches::new(Library(start.clone()), batch));
-    let second = matches!(which.as_str(), "second" | "both").then_some(Second(start));
+    let library = (*which != "second").then(|| Batches::new(Library(start.clone()), batch));
+    let second = matches!(*which, "second" | "both").then_some(Second(start));
     for _ in 0..rounds {
         let ours = library
             .as_ref()

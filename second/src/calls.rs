@@ -3,7 +3,7 @@
 //! event says when to wake the host.
 
 use crate::numbers::{counts_good, rule_good};
-use crate::rules::{Answer, Phase, State};
+use crate::rules::{Answer, State};
 use crate::sound::first_broken;
 use crate::tables::{
     settings_at, Gate, Guest, Tables, View, FLIGHT_NUMBERS, GATE_NUMBERS, GUEST_NUMBERS,
@@ -39,19 +39,10 @@ impl Reply {
         }
     }
 
-    /// The reply as numbers: kind (0 nothing, 1 sent by reservation, 2 sent
-    /// by weight, 3 refused), guest and id sent, refusal, time to wake. What
-    /// an answer does not have is 0.
+    /// The reply as numbers: those of the answer, and the time to wake.
     pub fn numbers(self) -> [u64; 5] {
-        let wake = self.wake_number();
-        match self.answer {
-            Answer::Nothing => [0, 0, 0, 0, wake],
-            Answer::Sent { phase, guest, id } => match phase {
-                Phase::Reservation => [1, guest, id, 0, wake],
-                Phase::Weight => [2, guest, id, 0, wake],
-            },
-            Answer::Refused(number) => [3, 0, 0, number as u64, wake],
-        }
+        let [kind, guest, id, refusal] = self.answer.numbers();
+        [kind, guest, id, refusal, self.wake_number()]
     }
 }
 

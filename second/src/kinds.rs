@@ -2,18 +2,19 @@
 //! benchmarks. The gate is played along, so that completions name what is
 //! really in flight and times stand in some relation to the tags.
 
+use crate::judge::{Breaker, Ties};
 use crate::numbers::{Settings, CEILING, MOST_RATE, RULE_1, RULE_2, SECOND};
 use crate::rules::{Answer, State};
 use crate::salvage::MOST_AHEAD;
-use crate::sample::{any_credit, any_rates, good_cost, tear, tear_events, Prng};
-use crate::trace::{play, Event, Header, Version, ARRIVAL, COMPLETION, EVENT_BYTES, TICK};
+use crate::sample::{any_credit, any_rates, any_ties, good_cost, tear, tear_events, Prng};
+use crate::trace::{Event, Header, Next, Version, ARRIVAL, COMPLETION, EVENT_BYTES, TICK};
 
 /// The names of the kinds, a 2 behind the name for version 2. `mixed` is one
 /// of those before it by seed, of either version; `mixed2` one of version 2.
-pub const KINDS: [&str; 20] = [
+pub const KINDS: [&str; 22] = [
     "small", "ceiling", "jumps", "waits", "header", "cut", "garbage", "large", "mixed", "torn",
-    "small2", "ceiling2", "jumps2", "waits2", "header2", "cut2", "garbage2", "large2", "mixed2",
-    "torn2",
+    "ties", "small2", "ceiling2", "jumps2", "waits2", "header2", "cut2", "garbage2", "large2",
+    "mixed2", "torn2", "ties2",
 ];
 
 /// A random trace of a kind, or none where there is no such kind.
@@ -36,8 +37,15 @@ pub fn trace(kind: &str, seed: u64) -> Option<Vec<u8>> {
         "large" => large(rng, version),
         "mixed" => mixed(rng, version),
         "torn" => torn(rng, version),
+        "ties" => tied(rng, version).0,
         _ => return None,
     })
+}
+
+/// The trace of the kind `ties` or `ties2` with this seed, and how the gate
+/// that recorded it breaks ties.
+pub fn recorded(version: Version, seed: u64) -> (Vec<u8>, Ties) {
+    tied(&mut Prng::new(seed), version)
 }
 
 fn mixed(rng: &mut Prng, version: Version) -> Vec<u8> {
@@ -97,6 +105,7 @@ struct Maker {
     version: Version,
     bytes: Vec<u8>,
     state: State,
+    breaker: Breaker,
     /// How many in a hundred arrivals have a cost of any kind, and where it
     /// comes from.
     costly: u64,
@@ -116,6 +125,17 @@ impl Maker {
             Version::One => (Extras::none(settings.len()), Prng::new(0)),
             Version::Two => (Extras::any(rng, settings.len()), Prng::new(rng.any())),
         };
+        Maker::with(version, depth, capacity, settings, extras, costs)
+    }
+
+    fn with(
+        version: Version,
+        depth: u64,
+        capacity: u64,
+        settings: &[Settings],
+        extras: Extras,
+        costs: Prng,
+    ) -> Maker {
         let credited = settings.iter().zip(extras.credits);
         let header = Header {
             version,
@@ -130,6 +150,7 @@ impl Maker {
             version,
             bytes: header.bytes(),
             state: header.fresh(),
+            breaker: Breaker::new(Ties::Earlier),
             costly: extras.costly,
             costs,
         }
@@ -137,7 +158,7 @@ impl Maker {
 
     fn push(&mut self, event: Event) -> Answer {
         self.bytes.extend(event.bytes(self.version));
-        play(&mut self.state, event)
+        self.breaker.play(&mut self.state, Next::Event(event))
     }
 
     /// An event whose kind is the whole first byte, whatever that means in
@@ -785,6 +806,60 @@ fn torn_step(rng: &mut Prng, beat: u64) -> u64 {
         3 if rng.chance(20) => MOST_AHEAD + rng.between(1, 2),
         4..=5 => rng.below(MOST_AHEAD),
         _ => beat_step(rng, beat),
+    }
+}
+
+/// Guests with the same settings that ask at the same times, so that they tie.
+/// The gate that is played along breaks ties in one way or another, so that
+/// completions name what is in flight at such a gate.
+fn tied(rng: &mut Prng, version: Version) -> (Vec<u8>, Ties) {
+    let scale = rng.pick(&[1, 10, 1_000, MOST_RATE]);
+    let beat = SECOND / scale;
+    let guests = rng.pick(&[2, 2, 3, 3, 4, 5, 8, 64]);
+    let settings = tied_settings(rng, scale, guests);
+    let extras = match version {
+        Version::One => Extras::none(guests),
+        Version::Two => tied_extras(rng, guests),
+    };
+    let (depth, capacity) = (rng.between(1, 4), rng.between(3, 60));
+    let costs = Prng::new(rng.any());
+    let mut maker = Maker::with(version, depth, capacity, &settings, extras, costs);
+    let ties = any_ties(rng);
+    maker.breaker = Breaker::new(ties);
+    for _ in 0..rng.between(2, 40) {
+        let other = beat_step(rng, beat);
+        let time = maker.state.time + rng.pick(&[0, 0, beat, beat, 2 * beat, beat / 2, other]);
+        let mood = rng.pick(&[Mood::Fill, Mood::Fill, Mood::Drain, Mood::Wait, Mood::Even]);
+        for _ in 0..rng.between(2, 15) {
+            if rng.chance(2) {
+                let event = garbage_event(rng, version, time);
+                maker.push_any(event);
+            } else {
+                any_event(rng, &mut maker, mood, time);
+            }
+        }
+    }
+    if rng.chance(10) {
+        let gone = rng.between(1, EVENT_BYTES as u64 - 1) as usize;
+        maker.bytes.truncate(maker.bytes.len() - gone);
+    }
+    (maker.bytes, ties)
+}
+
+/// The same for all, or two that take turns.
+fn tied_settings(rng: &mut Prng, scale: u64, guests: usize) -> Vec<Settings> {
+    let one = beat_settings(rng, scale);
+    let other = beat_settings(rng, scale);
+    let two = rng.pick(&[[one, one], [one, one], [one, one], [one, other]]);
+    two.into_iter().cycle().take(guests).collect()
+}
+
+fn tied_extras(rng: &mut Prng, guests: usize) -> Extras {
+    let any = any_credit(rng);
+    Extras {
+        rule: rng.pick(&[RULE_1, RULE_2]),
+        credits: vec![rng.pick(&[0, 0, any]); guests],
+        costly: rng.pick(&[0, 0, 10]),
     }
 }
 

@@ -10,6 +10,7 @@
 //! - `trace`:   the trace in its two versions and the program that prints it
 //! - `moves`:   the moves from one version to the other
 //! - `salvage`: what is good of a torn trace, and why the rest is not
+//! - `judge`:   whether another gate's lines are right
 //! - `clock`:   the time of a board with a short clock
 //! - `sheet`:   the sale-day sheet of a trace
 //! - `sample`:  random numbers and random tables, for tests
@@ -18,6 +19,7 @@
 pub mod batch;
 pub mod calls;
 pub mod clock;
+pub mod judge;
 pub mod kinds;
 pub mod moves;
 pub mod numbers;
@@ -33,6 +35,7 @@ pub mod wake;
 pub use batch::batch;
 pub use calls::{arrive, complete, open, tick, Reply, NEVER};
 pub use clock::{clock_read, Clock};
+pub use judge::{judge, lines_of, Judged, Ties};
 pub use moves::{back, up};
 pub use numbers::{Settings, CEILING};
 pub use rules::{Answer, Phase, State};

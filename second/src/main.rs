@@ -9,7 +9,8 @@ use std::os::fd::AsFd;
 use std::process::ExitCode;
 
 const USAGE: &str = "second [sheet | up | back] < trace
-second salvage TRACE OUT";
+second salvage TRACE OUT
+second judge TRACE LINES";
 
 fn main() -> io::Result<ExitCode> {
     let words: Vec<String> = std::env::args().skip(1).collect();
@@ -21,6 +22,9 @@ fn main() -> io::Result<ExitCode> {
         ["sheet"] => second::sheet::run(input()?, &mut output)?,
         ["up"] => code = moved(second::up, &mut output)?,
         ["back"] => code = moved(second::back, &mut output)?,
+        ["judge", trace, lines] => {
+            code = judged(&fs::read(trace)?, &fs::read(lines)?, &mut output)?
+        }
         ["salvage", trace, out] => code = salvaged(&fs::read(trace)?, out, &mut output)?,
         _ => {
             eprintln!("{USAGE}");
@@ -60,19 +64,38 @@ fn salvaged(trace: &[u8], out: &str, output: &mut impl Write) -> io::Result<Exit
     let most_events = trace.len().div_ceil(EVENT_BYTES);
     let mut room = vec![0; trace.len()];
     let mut list = vec![0; ROW_NUMBERS * most_events];
-    let answer = second::salvage(trace, &mut room, &mut list);
     let second::Salvaged {
         refusal,
         bytes,
         rows,
-    } = answer;
-    writeln!(output, "{refusal} {bytes} {rows}")?;
-    if refusal != 0 {
-        return Ok(ExitCode::FAILURE);
+    } = second::salvage(trace, &mut room, &mut list);
+    if refusal == 0 {
+        fs::write(out, &room[..bytes as usize])?;
     }
-    fs::write(out, &room[..bytes as usize])?;
+    writeln!(output, "{refusal} {bytes} {rows}")?;
     for row in list.chunks(ROW_NUMBERS).take(rows as usize) {
         writeln!(output, "{} {}", row[0], row[1])?;
     }
-    Ok(ExitCode::SUCCESS)
+    Ok(status(refusal))
+}
+
+/// Prints the answer: zeros where the lines are accepted.
+fn judged(trace: &[u8], lines: &[u8], output: &mut impl Write) -> io::Result<ExitCode> {
+    let second::Judged {
+        line,
+        kind,
+        guest,
+        id,
+        refusal,
+    } = second::judge(trace, lines);
+    writeln!(output, "{line} {kind} {guest} {id} {refusal}")?;
+    Ok(status(line))
+}
+
+/// 0 for 0, else 1.
+fn status(number: u64) -> ExitCode {
+    match number {
+        0 => ExitCode::SUCCESS,
+        _ => ExitCode::FAILURE,
+    }
 }

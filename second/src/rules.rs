@@ -21,6 +21,21 @@ pub enum Answer {
     Refused(u8),
 }
 
+impl Answer {
+    /// Kind (0 nothing, 1 sent by reservation, 2 sent by weight, 3 refused),
+    /// guest and id sent, refusal. What an answer does not have is 0.
+    pub fn numbers(self) -> [u64; 4] {
+        match self {
+            Answer::Nothing => [0, 0, 0, 0],
+            Answer::Sent { phase, guest, id } => match phase {
+                Phase::Reservation => [1, guest, id, 0],
+                Phase::Weight => [2, guest, id, 0],
+            },
+            Answer::Refused(number) => [3, 0, 0, number as u64],
+        }
+    }
+}
+
 /// A gate with the requests it holds. Waiting requests stand in order of
 /// acceptance, those in flight in order of sending.
 #[derive(Clone, Debug, PartialEq, Eq)]
@@ -236,30 +251,30 @@ impl State {
             return self.send(place, Phase::Reservation);
         }
         if let Some(place) = self.due_by_weight() {
-            let Waiting { guest, cost, .. } = self.waiting[place];
-            let answer = self.send(place, Phase::Weight);
-            self.drop_reservation(guest, cost);
-            return answer;
+            return self.send(place, Phase::Weight);
         }
         Answer::Nothing
     }
 
     /// Is the request unlimited, or its limit tag at or before the time?
-    fn open(&self, w: &Waiting) -> bool {
+    pub fn open(&self, w: &Waiting) -> bool {
         w.ltag <= self.time || !self.guests[w.guest as usize].settings.has_limit()
     }
 
-    /// The smallest reservation tag at or before the time, under rule 2
-    /// among the open. `min_by_key` gives the first of equals, so ties go to
-    /// the earlier accepted.
+    /// Is its reservation tag at or before the time, under rule 2 of an open
+    /// one?
+    pub fn due(&self, w: &Waiting) -> bool {
+        w.rtag <= self.time
+            && self.guests[w.guest as usize].settings.has_reservation()
+            && (self.rule != RULE_2 || self.open(w))
+    }
+
+    /// The smallest reservation tag among the due. `min_by_key` gives the
+    /// first of equals, so ties go to the earlier accepted.
     fn due_by_reservation(&self) -> Option<usize> {
-        let due = |w: &Waiting| {
-            w.rtag <= self.time
-                && self.guests[w.guest as usize].settings.has_reservation()
-                && (self.rule != RULE_2 || self.open(w))
-        };
         let waiting = self.waiting.iter().enumerate();
-        let first = waiting.filter(|(_, w)| due(w)).min_by_key(|(_, w)| w.rtag);
+        let due = waiting.filter(|(_, w)| self.due(w));
+        let first = due.min_by_key(|(_, w)| w.rtag);
         first.map(|(place, _)| place)
     }
 
@@ -273,9 +288,13 @@ impl State {
 
     /// Takes the request out of the waiting, those behind it move down,
     /// and places it last in flight.
-    fn send(&mut self, place: usize, phase: Phase) -> Answer {
-        let Waiting { guest, id, .. } = self.waiting.remove(place);
+    pub(crate) fn send(&mut self, place: usize, phase: Phase) -> Answer {
+        let sent = self.waiting.remove(place);
+        let Waiting { guest, id, .. } = sent;
         self.flight.push(Flight { guest, id });
+        if phase == Phase::Weight {
+            self.drop_reservation(guest, sent.cost);
+        }
         Answer::Sent { phase, guest, id }
     }
 

@@ -1,16 +1,17 @@
-//! Random numbers, settings, tables and batches, and damage to them and to
-//! traces, for tests and for the traces.
+//! Random numbers, settings, tables, batches and lines, and damage to them and
+//! to traces, for tests and for the traces.
 
 use crate::batch::{ANSWER_NUMBERS, EVENT_NUMBERS, MOST_EVENTS};
 use crate::calls::{read, table_refusal};
 use crate::clock::Clock;
+use crate::judge::{answer_line, heading, lines_of, ways, Breaker, Ties};
 use crate::numbers::{
     Settings, CEILING, MOST_COST, MOST_CREDIT, MOST_RATE, MOST_STEP, RULE_1, RULE_2, SECOND,
 };
-use crate::rules::State;
+use crate::rules::{Answer, Phase, State};
 use crate::salvage::MOST_AHEAD;
 use crate::tables::{Flight, Gate, Guest, Tables, View, Waiting, FLIGHT_NUMBERS, WAITING_NUMBERS};
-use crate::trace::{ARRIVAL, COMPLETION, EVENT_BYTES, TICK};
+use crate::trace::{events, Header, ARRIVAL, COMPLETION, EVENT_BYTES, TICK};
 
 /// A small generator of numbers (splitmix64): the same seed, the same run.
 #[derive(Clone)]
@@ -612,4 +613,241 @@ pub fn tear(rng: &mut Prng, start: usize, bytes: &mut Vec<u8>) {
             bytes.splice(end..end, twice);
         }
     }
+}
+
+pub fn any_ties(rng: &mut Prng) -> Ties {
+    let thrown = Ties::Random(rng.any());
+    rng.pick(&[Ties::Earlier, Ties::LowGuest, Ties::HighGuest, thrown])
+}
+
+/// What another gate prints for a trace: one that breaks ties in another way
+/// than ours.
+pub fn bent_lines(trace: &[u8], rng: &mut Prng) -> Vec<u8> {
+    let thrown = Ties::Random(rng.any());
+    let ties = rng.pick(&[Ties::LowGuest, Ties::HighGuest, thrown]);
+    lines_of(trace, ties)
+}
+
+/// What a gate prints that answers one event by a throw, most often with a
+/// request that waits.
+pub fn erring_lines(trace: &[u8], rng: &mut Prng) -> Vec<u8> {
+    let ties = any_ties(rng);
+    let Ok(header) = Header::read(trace) else {
+        return lines_of(trace, ties);
+    };
+    let (mut state, mut breaker) = (header.fresh(), Breaker::new(ties));
+    let errs = rng.below(events(&header, trace).count() as u64 + 1) + 1;
+    let mut lines = heading();
+    for (number, next) in (1..).zip(events(&header, trace)) {
+        let ways = ways(&mut state, next);
+        let way = breaker.pick(&state, &ways);
+        let answer = if number == errs {
+            thrown_answer(rng, &state)
+        } else {
+            way.answer(&state)
+        };
+        lines.extend(answer_line(number, answer));
+        way.go(&mut state);
+    }
+    lines
+}
+
+fn thrown_answer(rng: &mut Prng, state: &State) -> Answer {
+    let phase = rng.pick(&[Phase::Reservation, Phase::Weight]);
+    let (guest, id) = match rng.below(8) {
+        0 => return Answer::Nothing,
+        1 => return Answer::Refused(rng.between(1, 22) as u8),
+        2 if !state.flight.is_empty() => {
+            let f = rng.pick(&state.flight);
+            (f.guest, f.id)
+        }
+        _ if !state.waiting.is_empty() => {
+            let w = rng.pick(&state.waiting);
+            (w.guest, w.id)
+        }
+        _ => (rng.below(65), some_id(rng)),
+    };
+    Answer::Sent { phase, guest, id }
+}
+
+/// How printed lines are damaged.
+#[derive(Clone, Copy, Debug, PartialEq, Eq, PartialOrd, Ord)]
+pub enum Damage {
+    /// One byte is another.
+    Byte,
+    /// A number is another, perhaps one that is equal in fewer bits.
+    Number,
+    /// A line has the answer of another.
+    Answer,
+    /// A line is rubbish.
+    Rubbish,
+    Dropped,
+    Doubled,
+    Swapped,
+    /// A line too many, empty or rubbish.
+    Inserted,
+    /// The last byte of all is gone.
+    LastByte,
+    /// All is gone behind a place.
+    Cut,
+    /// A carriage return before the end of a line.
+    Return,
+    /// A space is doubled, or one stands at an end of a line.
+    Space,
+    /// A number has a zero before it, or a sign.
+    Zero,
+}
+
+pub const DAMAGES: [Damage; 13] = [
+    Damage::Byte,
+    Damage::Number,
+    Damage::Answer,
+    Damage::Rubbish,
+    Damage::Dropped,
+    Damage::Doubled,
+    Damage::Swapped,
+    Damage::Inserted,
+    Damage::LastByte,
+    Damage::Cut,
+    Damage::Return,
+    Damage::Space,
+    Damage::Zero,
+];
+
+/// Damages printed lines in one way, and says in which. Where lines are equal
+/// they may come out as they were, and what comes out may be right.
+pub fn spoil_lines(lines: &mut Vec<u8>, rng: &mut Prng) -> Damage {
+    let damage = rng.pick(&DAMAGES);
+    spoil_lines_by(damage, lines, rng);
+    damage
+}
+
+pub fn spoil_lines_by(damage: Damage, lines: &mut Vec<u8>, rng: &mut Prng) {
+    if lines.is_empty() {
+        lines.extend(rubbish_line(rng));
+        return;
+    }
+    match damage {
+        Damage::Byte => spoil_byte(rng, lines),
+        Damage::LastByte => drop(lines.pop()),
+        Damage::Cut => lines.truncate(rng.below(lines.len() as u64) as usize),
+        _ => {
+            let parted = lines.split_inclusive(|byte| *byte == b'\n');
+            let mut parted: Vec<Vec<u8>> = parted.map(<[u8]>::to_vec).collect();
+            spoil_parted(damage, &mut parted, rng);
+            *lines = parted.concat();
+        }
+    }
+}
+
+fn spoil_byte(rng: &mut Prng, lines: &mut [u8]) {
+    let at = rng.below(lines.len() as u64) as usize;
+    lines[at] = match rng.below(4) {
+        0 => rng.any() as u8,
+        1 => rng.pick(b"0123456789 -RWX\n"),
+        // A letter in the other case, among others.
+        2 => lines[at] ^ 32,
+        _ => lines[at] ^ 1 << rng.below(8),
+    };
+}
+
+/// Damage to one of the lines, of which there is one at least.
+fn spoil_parted(damage: Damage, lines: &mut Vec<Vec<u8>>, rng: &mut Prng) {
+    let at = rng.below(lines.len() as u64) as usize;
+    let other = rng.below(lines.len() as u64) as usize;
+    let next = (at + 1).min(lines.len() - 1);
+    let other = rng.pick(&[next, other]);
+    match damage {
+        Damage::Answer => {
+            let answer = answer_of(&lines[other]).to_vec();
+            let kept = lines[at].len() - answer_of(&lines[at]).len();
+            lines[at].truncate(kept);
+            lines[at].extend(answer);
+        }
+        Damage::Rubbish => lines[at] = rubbish_line(rng),
+        Damage::Dropped => drop(lines.remove(at)),
+        Damage::Doubled => lines.insert(at, lines[at].clone()),
+        Damage::Swapped => lines.swap(at, other),
+        Damage::Inserted => {
+            let place = rng.pick(&[at, lines.len()]);
+            lines.insert(place, rubbish_line(rng));
+        }
+        _ => spoil_line(damage, &mut lines[at], rng),
+    }
+}
+
+/// What follows the number of a line.
+fn answer_of(line: &[u8]) -> &[u8] {
+    let behind = line.iter().position(|byte| *byte == b' ');
+    &line[behind.unwrap_or(0)..]
+}
+
+fn rubbish_line(rng: &mut Prng) -> Vec<u8> {
+    let any = (0..rng.below(12)).map(|_| rng.any() as u8).collect();
+    let mut line = match rng.below(4) {
+        0 => Vec::new(),
+        1 => any,
+        2 => format!("{} -", rng.sized(8)).into_bytes(),
+        _ => rng
+            .pick(&["event answer", "trace refused 13", " ", "-"])
+            .into(),
+    };
+    line.push(b'\n');
+    line
+}
+
+/// Damage within a line.
+fn spoil_line(damage: Damage, line: &mut Vec<u8>, rng: &mut Prng) {
+    let end = line.len() - 1;
+    match damage {
+        Damage::Return => line.insert(end, b'\r'),
+        Damage::Space => {
+            let spaces = (0..=end).filter(|at| line[*at] == b' ');
+            let mut places: Vec<usize> = spaces.collect();
+            places.extend([0, end]);
+            line.insert(rng.pick(&places), b' ');
+        }
+        _ => {
+            let ended = line.pop();
+            let text = String::from_utf8_lossy(line).into_owned();
+            let mut fields: Vec<String> = text.split(' ').map(String::from).collect();
+            let at = rng.below(fields.len() as u64) as usize;
+            fields[at] = spoil_field(damage, &fields[at], rng);
+            *line = fields.join(" ").into_bytes();
+            line.extend(ended);
+        }
+    }
+}
+
+/// A field that is no number gets a number or a zero before it as well.
+fn spoil_field(damage: Damage, field: &str, rng: &mut Prng) -> String {
+    if damage == Damage::Zero {
+        return format!("{}{field}", rng.pick(&["0", "0", "00", "+", "-"]));
+    }
+    let number: u128 = field.parse().unwrap_or(0);
+    let other = match rng.below(10) {
+        0..=2 => number.saturating_add(1),
+        3 => number.saturating_sub(1),
+        4 => number.saturating_mul(10),
+        5 => number / 10,
+        // Equal in 8 bits, in 32, in 64.
+        6..=8 => number.saturating_add(1 << rng.pick(&[8, 32, 64])),
+        _ => rng.sized(64) as u128,
+    };
+    other.to_string()
+}
+
+/// Lines of any kind for a trace: our own, another gate's, those of a gate that
+/// errs, damaged ones, and some that mean nothing.
+pub fn any_lines(trace: &[u8], rng: &mut Prng) -> Vec<u8> {
+    let mut lines = match rng.below(8) {
+        0..=1 => lines_of(trace, Ties::Earlier),
+        2..=4 => bent_lines(trace, rng),
+        5..=6 => return erring_lines(trace, rng),
+        _ => (0..rng.below(4)).flat_map(|_| rubbish_line(rng)).collect(),
+    };
+    for _ in 0..rng.pick(&[0, 1, 1, 1, 2, 4]) {
+        spoil_lines(&mut lines, rng);
+    }
+    lines
 }

@@ -301,11 +301,16 @@ pub fn run(input: impl Read, output: &mut impl Write) -> io::Result<()> {
     let mut input = Input::new(input);
     match input.header()? {
         Ok(header) => {
-            writeln!(output, "event answer")?;
+            print_heading(output)?;
             print_events(&mut input, &header, output)
         }
         Err(number) => print_refused(output, number),
     }
+}
+
+/// The header line.
+pub(crate) fn print_heading(output: &mut impl Write) -> io::Result<()> {
+    writeln!(output, "event answer")
 }
 
 /// The one line of a bad header.

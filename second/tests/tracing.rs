@@ -290,7 +290,7 @@ fn every_kind_is_fixed_by_its_seed() {
 fn kinds_of_both_versions() {
     let header_of = |kind: &str, seed| Header::read(&trace(kind, seed).unwrap());
     for kind in [
-        "small", "ceiling", "jumps", "waits", "cut", "garbage", "torn",
+        "small", "ceiling", "jumps", "waits", "cut", "garbage", "torn", "ties",
     ] {
         for seed in 0..20 {
             assert_eq!(header_of(kind, seed).unwrap().version, Version::One);

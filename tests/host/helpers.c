@@ -1,6 +1,6 @@
 /* What header.c does not try of sgq.h: tables of no records, counts taken from arrays, free places and waiting counts,
  * when to wake, the rules for limits, costs, many events in one call, traces moved from one version to the other and
- * salvaged, and a short clock. C99 and C++ alike; prints a line for each thing that is not as it should be. */
+ * salvaged, lines judged, and a short clock. C99 and C++ alike; prints a line for each thing that is not as it should be. */
 #include "sgq.h"
 
 #include <inttypes.h>
@@ -300,6 +300,46 @@ static void salvages(void)
     same("the words of none", (uint64_t)strlen(sgq_reason_text(6)), 9);
 }
 
+/* Two guests alike wait when a place falls free: either may go, and nothing else is right. */
+static void judges(void)
+{
+    enum { HEAD = 45, EVENTS = 4, LONG = HEAD + EVENTS * SGQ_EVENT_BYTES };
+    static const uint8_t head[9] = {'S', 'G', 'Q', 1, 0, 1, 3, 8, 0};
+    static const uint8_t events[EVENTS][2] = {{0, 0}, {0, 1}, {0, 2}, {1, 0}};
+    static const char *const lines[] = {"event answer\n1 W 0 0\n2 -\n3 -\n4 W 1 0\n",
+                                        "event answer\n1 W 0 0\n2 -\n3 -\n4 W 2 0\n",
+                                        "event answer\n1 W 0 0\n2 -\n3 -\n4 -\n",
+                                        "event answer\n1 W 0 0\n2 -\n3 -\n",
+                                        "event answer\n1 W 0 0\n2 -\n3 -\n4 W 1 0\n5 -\n",
+                                        "trace refused 13\n",
+                                        ""};
+    static const sgq_judged expected[] = {{0, 0, 0, 0, 0},
+                                          {0, 0, 0, 0, 0},
+                                          {5, SGQ_SENT_BY_WEIGHT, 1, 0, 0},
+                                          {5, SGQ_SENT_BY_WEIGHT, 1, 0, 0},
+                                          {6, SGQ_NONE_DUE, 0, 0, 0},
+                                          {1, SGQ_NOTHING, 0, 0, 0},
+                                          {1, SGQ_NOTHING, 0, 0, 0}};
+    uint8_t trace[LONG] = {0};
+    memcpy(trace, head, sizeof head);
+    for (size_t guest = 0; guest < 3; guest++)
+        trace[9 + 12 * guest + 8] = 1;
+    for (size_t event = 0; event < EVENTS; event++) {
+        put_event(trace + HEAD + event * SGQ_EVENT_BYTES, events[event][0], 5);
+        trace[HEAD + event * SGQ_EVENT_BYTES + 1] = events[event][1];
+    }
+    for (size_t at = 0; at < sizeof lines / sizeof lines[0]; at++) {
+        sgq_judged found = sgq_judge(trace, LONG, (const uint8_t *)lines[at], strlen(lines[at]));
+        same(lines[at], (uint64_t)(memcmp(&found, &expected[at], sizeof found) != 0), 0);
+    }
+    sgq_judged found = sgq_judge(trace, 8, (const uint8_t *)lines[5], strlen(lines[5]));
+    same("a bad header", found.line, 0);
+    found = sgq_judge(trace, 8, (const uint8_t *)lines[0], strlen(lines[0]));
+    same("its one line", found.line, 1);
+    same("what it is", found.kind, SGQ_REFUSED);
+    same("its number", found.refusal, SGQ_REFUSED_TRACE_HEADER_CUT);
+}
+
 /* A short clock from zeros, across the wrap, up to the ceiling and no further. */
 static void clocks(void)
 {
@@ -329,6 +369,7 @@ int main(void)
     batches();
     moves();
     salvages();
+    judges();
     clocks();
     return wrong;
 }

@@ -67,7 +67,7 @@ pub enum Phase {
 #[non_exhaustive]
 #[repr(u64)]
 pub enum Refusal {
-    /// "a setting is out of range, when opening"; of a move or a salvage, in the header of the trace.
+    /// "a setting is out of range, when opening"; of a call on a trace, in its header.
     Setting = 1,
     /// "a lent table, or at opening the lent list of guest settings, is shorter than the settings need". A
     /// [`crate::Gate`] lends tables of the right length, so it never gives this.
@@ -88,16 +88,16 @@ pub enum Refusal {
     TagAboveCeiling = 9,
     /// "completion: guest has no such id in flight".
     NotInFlight = 10,
-    /// Of a move or a salvage: "trace mark". It does not begin with the letters `SGQ`.
+    /// Of a call on a trace: "trace mark". It does not begin with the letters `SGQ`.
     TraceMark = 11,
-    /// Of a move or a salvage: "trace version". It is not of the version that is moved; of a salvage, neither 1 nor 2.
+    /// Of a call on a trace: "trace version". It is not of the version that is moved; else it is neither 1 nor 2.
     TraceVersion = 12,
-    /// Of a move or a salvage: "trace header cut short".
+    /// Of a call on a trace: "trace header cut short".
     TraceHeaderCut = 13,
     /// "event kind above 2, or a tick with non-zero guest or id", or an id of more than 32 bits, or a completion or tick
     /// with a cost: an event of a batch that is none. The makers of [`crate::Event`] make no such one.
     EventKind = 14,
-    /// Of a move: "last event cut short".
+    /// Of a move, and in what a judge says was due: "last event cut short".
     TraceEventCut = 15,
     /// Of a whole batch; document 02, K5: "answer buffer short".
     ShortAnswers = 16,
@@ -220,8 +220,8 @@ impl fmt::Display for Outcome {
 pub(crate) fn named(given: raw::Answer) -> Result<Outcome, Refusal> {
     let answer = match given.kind {
         raw::NOTHING => Answer::Nothing,
-        raw::SENT_BY_RESERVATION => sent(Phase::Reservation, given),
-        raw::SENT_BY_WEIGHT => sent(Phase::Weight, given),
+        raw::SENT_BY_RESERVATION => sent(Phase::Reservation, given.guest, given.id),
+        raw::SENT_BY_WEIGHT => sent(Phase::Weight, given.guest, given.id),
         _ => return Err(refusal(given.refusal)),
     };
     let wake = (given.wake != raw::NEVER).then_some(given.wake);
@@ -233,10 +233,11 @@ pub(crate) fn refusal(number: u64) -> Refusal {
     Refusal::of(number).expect("library and wrapper are of one version")
 }
 
-fn sent(phase: Phase, answer: raw::Answer) -> Answer {
+/// A send of a guest and an id that the library gives.
+pub(crate) fn sent(phase: Phase, guest: u64, id: u64) -> Answer {
     Answer::Sent {
         phase,
-        guest: answer.guest,
-        id: u32::try_from(answer.id).expect("an id has 32 bits"),
+        guest,
+        id: u32::try_from(id).expect("an id has 32 bits"),
     }
 }

@@ -69,7 +69,8 @@
 //! ```
 //!
 //! A trace of events goes from one version to the other by [`trace_up`] and [`trace_back`], and what a torn one still has
-//! is kept by [`salvage`](fn@salvage); they know no gate.
+//! is kept by [`salvage`](fn@salvage); they know no gate. [`judge`](fn@judge) tells whether another maker's gate printed the
+//! right lines for a trace.
 //!
 //! A board that counts microseconds in 32 bits has a [`Clock`], which tells the time that a gate takes:
 //!
@@ -93,13 +94,14 @@
 //! # What is proved
 //!
 //! The library's calls are. This wrapper is not: it keeps the tables, passes them on as pointers and lengths, and gives
-//! the answers names. Its `unsafe` blocks are those nine calls.
+//! the answers names. Its `unsafe` blocks are those ten calls.
 
 #![deny(missing_docs, unsafe_op_in_unsafe_fn)]
 
 mod answer;
 mod clock;
 mod gate;
+mod judge;
 mod moves;
 pub mod raw;
 mod salvage;
@@ -107,6 +109,7 @@ mod salvage;
 pub use answer::{Answer, Outcome, Phase, Refusal};
 pub use clock::Clock;
 pub use gate::{Answers, Gate, Rule};
+pub use judge::{judge, Due, Wrong};
 pub use moves::{trace_back, trace_up, NotMoved};
 pub use raw::{Dropped, Event, Flight, Guest, Request, Settings};
 pub use salvage::{most_dropped, salvage, Reason, Salvage};

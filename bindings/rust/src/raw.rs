@@ -195,6 +195,9 @@ pub const SENT_BY_WEIGHT: u64 = 2;
 /// The kind of an answer: refused, and nothing has changed.
 pub const REFUSED: u64 = 3;
 
+/// The kind of what a judge says was due: no line any more.
+pub const NONE_DUE: u64 = 4;
+
 /// No time to wake, in an answer: all bits one, which is later than any time.
 pub const NEVER: u64 = u64::MAX;
 
@@ -257,6 +260,23 @@ pub struct Salvaged {
     pub written: u64,
     /// How many rows were written at the beginning of the list, [`DROPPED_NUMBERS`] each; 0 in a refusal.
     pub rows: u64,
+}
+
+/// What a judge answers; [`crate::Wrong`] has names for it.
+#[must_use = "the lines may be wrong"]
+#[repr(C)]
+#[derive(Clone, Copy, Debug, Default, PartialEq, Eq)]
+pub struct Judged {
+    /// The number of the first line that is wrong, missing or surplus, from 1; 0 where the lines are accepted.
+    pub line: u64,
+    /// What was due there: the kind of an answer, or [`NONE_DUE`].
+    pub kind: u64,
+    /// The guest of the request to send, or 0.
+    pub guest: u64,
+    /// The id of the request to send, or 0.
+    pub id: u64,
+    /// The refusal number, or 0.
+    pub refusal: u64,
 }
 
 /// A clock for a board that counts microseconds in 32 bits; [`crate::Clock`] keeps one.
@@ -384,6 +404,14 @@ extern "C" {
         list: *mut u64,
         list_length: usize,
     ) -> Salvaged;
+
+    /// Whether the lines that another gate printed for a trace are right. Both are bytes, and nothing is written.
+    pub fn sgq_judge(
+        trace: *const u8,
+        trace_length: usize,
+        lines: *const u8,
+        lines_length: usize,
+    ) -> Judged;
 
     /// A reading of a board's counter, which moves the clock on.
     pub fn sgq_clock_read(clock: *mut Clock, reading: u32) -> Told;

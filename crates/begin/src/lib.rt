@@ -13,7 +13,7 @@ ghost use Rattle.feed.specs.Promise.{Became};
 ghost use Rattle.begin.specs.Begin.{Largest, Begins};
 
 // Opens the tables with the header's counts, rule and settings: they show a fresh table.
-fn open_tables(
+pub fn open_tables(
     bytes: &[u8],
     version: u64,
     depth: u64,

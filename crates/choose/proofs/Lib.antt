@@ -1,4 +1,5 @@
 pub mod Rising
+pub mod Firsts
 pub mod Sends
 pub mod WeightSend
 pub mod Phases

@@ -19,7 +19,6 @@ use Rattle.rules.specs.Choice.{dueAt, openAt, passesAt, due, open?, dropOf}
 use Rattle.rules.specs.Chosen.{blank, at}
 use Rattle.rules.proofs.Facts.{orderly-is, any-orderly}
 use Rattle.rules.proofs.Spacings.{fair-is}
-use Rattle.rules.proofs.WeightFits.{weight-fits}
 use Rattle.rules.specs.declared.Gate.{Gate}
 use Rattle.table.specs.Columns.{guestWide, waitingWide, flightWide, mostGuests, mostCapacity, RNEXT, GUEST, RTAG, mostDepth}
 use Rattle.table.specs.View.{guestForm, requestForm, guestsOf, tableOf, Known}
@@ -27,9 +26,10 @@ use Rattle.walks.specs.LeastLaws.{least-ext, open-by-tag}
 use Rattle.moves.specs.Moves.{fallOf}
 use Rattle.walks.specs.Walks.{Picks, Owned, Rising, SharesFit}
 use Rattle.walks.specs.declared.Found.{Found}
-use Rattle.walks.specs.declared.Found.the-variants.{At}
 use Rattle.table.proofs.Facts.{Facts, facts, rows-ask, row-is, guest-is}
+use Rattle.choose.specs.Firsts.{FirstOf}
 use Rattle.choose.proofs.Rising.{rising-rows}
+use Rattle.choose.proofs.Firsts.{first-fits}
 use Rattle.choose.proofs.Sends.{goes, stay, goesGuest, goesCost, guest-goes, cost-goes, length-stay}
 use Rattle.choose.proofs.WeightSend.{left, left-rows, left-room}
 
@@ -65,7 +65,7 @@ module _ (g : Gate) (gs ws fs : List ℕ) (k : Known g gs ws fs) where
   latest = if eqb (g .setup .rule) 2 then g .time else ceiling
 
   -- the walk's test of the limit is the reservation phase's
-  passes-by-tag : (j : ℕ) → j < length (t .waiting) → passesAt (g .setup .rule) (settingsOf (t .guests) (at (t .waiting) j)) (g .time) (at (t .waiting) j) ≡ leb ((at (t .waiting) j) .ltag) latest
+  pub passes-by-tag : (j : ℕ) → j < length (t .waiting) → passesAt (g .setup .rule) (settingsOf (t .guests) (at (t .waiting) j)) (g .time) (at (t .waiting) j) ≡ leb ((at (t .waiting) j) .ltag) latest
   unfolding passesAt
   passes-by-tag j h = go (eqb (g .setup .rule) 2)
     where
@@ -121,14 +121,14 @@ module _ (g : Gate) (gs ws fs : List ℕ) (k : Known g gs ws fs) where
         omega (arith, fits .1, cost-goes g gs ws fs k free place here)
 
     -- what the drop asks: nothing falls below zero
-    pub drop-asks : Picks (open? t) Request.stag (t .waiting) (At place)
+    pub drop-asks : FirstOf (t .waiting) place
         → ((n * guestWide + guestWide ≤ length gs) × ((g .waiting - 1) * waitingWide ≤ length ws1)) × (((c ≤ mostCost) × (fallOf n c gs ≤ getD gs (n * guestWide + RNEXT) 0))
         × ((j : ℕ) → j < g .waiting - 1 → getD ws1 (j * waitingWide + GUEST) 0 ≡ n → fallOf n c gs ≤ getD ws1 (j * waitingWide + RTAG) 0))
     drop-asks h =
         let q = goes g gs ws fs k free place here in
         let v = stay g gs ws fs k free place here in
         let eq : q .guest ≡ n = guest-goes g gs ws fs k free place here in
-        let w = weight-fits t (k .isSound) q v (h .pick) in
+        let w = first-fits t (f .firm) place (omega (arith, length-rows requestForm ws (g .waiting))) h in
         let own : n < g .guests = f .owners place here in
         let at-n : owner (t .guests) (q .guest) ≡ guestForm .read (lineAt guestWide gs n) = ap (owner (t .guests)) eq ∙ guest-is g gs ws fs k n own in
         let d : dropOf t q ≡ fallOf n c gs = λ i. cost-goes g gs ws fs k free place here i * rplain ((at-n i) .settings) in

@@ -1,6 +1,6 @@
 -- A send by reservation over the lent numbers is the one of the definitions; and what a phase comes to where it finds nothing. Assumes nothing.
-use Prim.Native.Nat.{ℕ, _+_, _-_, _*_, _≤_, _<_}
-use mathlib.Core.Path.{_≡_, refl, sym, ap, _∙_}
+use Prim.Native.Nat.{ℕ, _+_, _-_, _*_, _<_}
+use mathlib.Core.Path.{_≡_, sym, ap, _∙_}
 use mathlib.Core.Bool.{Bool}
 use mathlib.Core.List.{List, [], _∷_, _++_}
 use native.Mathlib.Omega.{arith}
@@ -10,7 +10,7 @@ use Rattle.lists.specs.Rows.{overRows}
 use Rattle.lists.specs.RowsLaws.{length-rows, over-same, all-used}
 use Rattle.rules.specs.Tables.{Request, Table, name}
 use Rattle.rules.specs.Choice.{due, open?, sending, byReservation, byWeight}
-use Rattle.rules.specs.Chosen.{at}
+use Rattle.rules.specs.Chosen.{at, sentByReservationAt, sentByWeightAt}
 use Rattle.rules.specs.declared.Gate.{Gate}
 use Rattle.rules.specs.declared.Answer.the-variants.{Nothing, Sent}
 use Rattle.rules.specs.declared.Phase.the-variants.{Reservation}
@@ -29,10 +29,20 @@ module _ (g : Gate) (gs ws fs : List ℕ) (k : Known g gs ws fs) where
   abbrev t : Table
   t = tableOf g gs ws fs
 
+  -- one is due
+  pub reservation-at : (place : ℕ) → Picks (due t) Request.rtag (t .waiting) (At place) → sentByReservationAt t place ≡ reservationPhase t
+  unfolding byReservation
+  reservation-at place p = rw (p .pick)
+
   -- none is due
   pub reservation-none : Picks (due t) Request.rtag (t .waiting) NoPlace → weightPhase t ≡ reservationPhase t
   unfolding byReservation
   reservation-none p = rw (p .pick)
+
+  -- one is open
+  pub weight-at : (place : ℕ) → Picks (open? t) Request.stag (t .waiting) (At place) → sentByWeightAt t place ≡ weightPhase t
+  unfolding byWeight
+  weight-at place p = rw (p .pick)
 
   -- none is open
   pub weight-none : Picks (open? t) Request.stag (t .waiting) NoPlace → weightPhase t ≡ record { table = t; answer = Nothing }
@@ -89,7 +99,5 @@ module _ (g : Gate) (gs ws fs : List ℕ) (k : Known g gs ws fs) where
         sym (λ i. (gateAt (g .setup) (eg i) (g .time) (length-stay i) (ef i), pg i, sym pw i, sym pf i))
 
     -- a send by reservation
-    pub reservation-sent : Picks (due t) Request.rtag (t .waiting) (At place)
-        → Leaves reservationPhase g gs ws fs (decisionOf (sentGate g) (Sent Reservation goesGuest goesId)) gs (gone place (g .waiting) ws) (joined place (g .flight) ws fs)
-    unfolding byReservation
-    reservation-sent h = record { shows = rw (h .pick) sent-written; answers = rw (h .pick) (λ i. Sent Reservation (sym guest-goes i) (sym id-goes i)) }
+    pub reservation-sent : Leaves (λ t. sentByReservationAt t place) g gs ws fs (decisionOf (sentGate g) (Sent Reservation goesGuest goesId)) gs (gone place (g .waiting) ws) (joined place (g .flight) ws fs)
+    reservation-sent = record { shows = sent-written; answers = λ i. Sent Reservation (sym guest-goes i) (sym id-goes i) }

@@ -8,7 +8,8 @@ use Rattle.lists.specs.Words.{if_then_else_}
 use Rattle.lists.specs.Rows.{overRows, Unused}
 use Rattle.lists.specs.RowsLaws.{length-rows, length-over-rows, rows-over, over-twice, over-unused}
 use Rattle.rules.specs.Tables.{Request, Table, of, owner}
-use Rattle.rules.specs.Choice.{open?, sending, earlier, sooner, dropOf, dropped, byWeight}
+use Rattle.rules.specs.Choice.{sending, earlier, sooner, dropOf, dropped}
+use Rattle.rules.specs.Chosen.{sentByWeightAt}
 use Rattle.rules.specs.declared.Gate.{Gate}
 use Rattle.rules.specs.declared.Answer.the-variants.{Sent}
 use Rattle.rules.specs.declared.Phase.the-variants.{Weight}
@@ -18,9 +19,7 @@ use Rattle.table.specs.ViewLaws.{request-exact}
 use Rattle.moves.specs.Moves.{gone, joined, fallOf, nextDropped, tagsDropped}
 use Rattle.moves.specs.MovesLaws.{gone-is}
 use Rattle.moves.specs.DropLaws.{dropped-is}
-use Rattle.walks.specs.Walks.{Picks}
-use Rattle.walks.specs.declared.Found.the-variants.{At}
-use Rattle.table.specs.Does.{written, Leaves, weightPhase, sentGate}
+use Rattle.table.specs.Does.{written, Leaves, sentGate}
 use Rattle.table.proofs.Facts.{facts}
 use Rattle.choose.proofs.Sends.{goes, stay, goesGuest, goesId, goesCost, guest-goes, id-goes, cost-goes, length-stay, sent-written}
 
@@ -87,11 +86,9 @@ module _ (g : Gate) (gs ws fs : List ℕ) (k : Known g gs ws fs) (free : g .flig
       λ i. (gateAt (g .setup) (sym eg i) (g .time) (sym ew i) (ef i), pg i, pw i, w i .3)
 
   -- a send by weight
-  pub weight-sent : Picks (open? t) Request.stag (t .waiting) (At place)
-      → Leaves weightPhase g gs ws fs (decisionOf (sentGate g) (Sent Weight n (goesId g gs ws fs k free place here))) (nextDropped n c gs) (tagsDropped n (fallOf n c gs) left (g .waiting - 1)) (joined place (g .flight) ws fs)
-  unfolding byWeight
-  weight-sent h =
+  pub weight-sent : Leaves (λ t. sentByWeightAt t place) g gs ws fs (decisionOf (sentGate g) (Sent Weight n (goesId g gs ws fs k free place here))) (nextDropped n c gs) (tagsDropped n (fallOf n c gs) left (g .waiting - 1)) (joined place (g .flight) ws fs)
+  weight-sent =
       record {
-        shows = rw (h .pick) weight-written;
-        answers = rw (h .pick) (λ i. Sent Weight (sym (guest-goes g gs ws fs k free place here) i) (sym (id-goes g gs ws fs k free place here) i));
+        shows = weight-written;
+        answers = λ i. Sent Weight (sym (guest-goes g gs ws fs k free place here) i) (sym (id-goes g gs ws fs k free place here) i);
       }

@@ -16,12 +16,56 @@ ghost use Rattle.lists.specs.Words.{if_then_else_};
 ghost use Rattle.rules.specs.Numbers.{ceiling};
 ghost use Rattle.rules.specs.Tables.{Request};
 ghost use Rattle.rules.specs.Choice.{choice};
+ghost use Rattle.rules.specs.Chosen.{sentByReservationAt, sentByWeightAt};
 ghost use Rattle.rules.specs.Waking.{wake as wakeAt};
 ghost use Rattle.table.specs.View.{waitingOf, tableOf, Known};
 ghost use Rattle.walks.specs.Walks.{Picks};
 ghost use Rattle.table.specs.Does.{Leaves, weightPhase, reservationPhase};
+ghost use Rattle.choose.specs.Firsts.{FirstOf};
 
-// The weight phase: the open request with the smallest share tag, which the walk found, goes, and its guest's reservation tags drop by its cost.
+// The request at `place` goes by reservation.
+pub fn send_by_reservation(
+    gate: Gate,
+    guests: &[u64],
+    waiting: &mut [u64],
+    flight: &mut [u64],
+    place: usize,
+) -> Decision
+    requires { ⌜ Known gate (now guests) (now waiting) (now flight) ⌝ }
+    requires { ⌜ (gate .flight < gate .setup .depth) × (place < gate .waiting) ⌝ }
+    ensures { λ r. ⌜ Leaves (λ t. sentByReservationAt t place) gate (now (guests .entry)) (now (waiting .entry)) (now (flight .entry)) r (now (guests .entry)) (now (waiting .exit)) (now (flight .exit)) ⌝ }
+{
+    let count = gate.waiting as usize;
+    let flying = gate.flight as usize;
+    let gone = moves::rows::send(waiting, flight, place, count, flying);
+    let guest = gone.guest;
+    let id = gone.id as u32;
+    gates::sent(gate, Phase::Reservation, guest, id)
+}
+
+// The request at `place`, the first of its guest, goes by weight, and its guest's reservation tags drop by its cost.
+pub fn send_by_weight(
+    gate: Gate,
+    guests: &mut [u64],
+    waiting: &mut [u64],
+    flight: &mut [u64],
+    place: usize,
+) -> Decision
+    requires { ⌜ Known gate (now guests) (now waiting) (now flight) ⌝ }
+    requires { ⌜ (gate .flight < gate .setup .depth) × (place < gate .waiting) ⌝ }
+    requires { ⌜ FirstOf (waitingOf (now waiting) (gate .waiting)) place ⌝ }
+    ensures { λ r. ⌜ Leaves (λ t. sentByWeightAt t place) gate (now (guests .entry)) (now (waiting .entry)) (now (flight .entry)) r (now (guests .exit)) (now (waiting .exit)) (now (flight .exit)) ⌝ }
+{
+    let count = gate.waiting as usize;
+    let flying = gate.flight as usize;
+    let gone = moves::rows::send(waiting, flight, place, count, flying);
+    let guest = gone.guest;
+    let id = gone.id as u32;
+    moves::rows::drop_tags(guests, waiting, count - 1, guest, gone.cost);
+    gates::sent(gate, Phase::Weight, guest, id)
+}
+
+// The weight phase: the open request with the smallest share tag, which the walk found, goes.
 fn by_weight(
     gate: Gate,
     guests: &mut [u64],
@@ -34,22 +78,14 @@ fn by_weight(
     requires { ⌜ Picks (λ q. leb (q .ltag) (gate .time)) Request.stag (waitingOf (now waiting) (gate .waiting)) found ⌝ }
     ensures { λ r. ⌜ Leaves weightPhase gate (now (guests .entry)) (now (waiting .entry)) (now (flight .entry)) r (now (guests .exit)) (now (waiting .exit)) (now (flight .exit)) ⌝ }
 {
-    let count = gate.waiting as usize;
-    let flying = gate.flight as usize;
     match found {
-        Found::At(place) => {
-            let gone = moves::rows::send(waiting, flight, place, count, flying);
-            let guest = gone.guest;
-            let id = gone.id as u32;
-            moves::rows::drop_tags(guests, waiting, count - 1, guest, gone.cost);
-            gates::sent(gate, Phase::Weight, guest, id)
-        }
+        Found::At(place) => send_by_weight(gate, guests, waiting, flight, place),
         Found::Nothing => gates::decided(gate, Answer::Nothing),
     }
 }
 
 // The latest limit tag that the reservation phase lets pass: under rule 2 the time, else the ceiling, which no tag is past.
-fn latest_limit(rule: u64, time: u64) -> u64
+pub fn latest_limit(rule: u64, time: u64) -> u64
     ensures { λ r. ⌜ r ≡ (if eqb rule 2 then time else ceiling) ⌝ }
 {
     if rule == 2 { time } else { CEILING }
@@ -68,19 +104,13 @@ fn by_reservation(
 {
     let known = gate.guests as usize;
     let count = gate.waiting as usize;
-    let flying = gate.flight as usize;
     let time = gate.time;
     let latest = latest_limit(gate.setup.rule, time);
     let firsts = walks::rows::first_in_line(&waiting[..], count, &guests[..], known, time, latest);
     let found = firsts.due;
     let spare = firsts.open;
     match found {
-        Found::At(place) => {
-            let gone = moves::rows::send(waiting, flight, place, count, flying);
-            let guest = gone.guest;
-            let id = gone.id as u32;
-            gates::sent(gate, Phase::Reservation, guest, id)
-        }
+        Found::At(place) => send_by_reservation(gate, &guests[..], waiting, flight, place),
         Found::Nothing => by_weight(gate, guests, waiting, flight, spare),
     }
 }

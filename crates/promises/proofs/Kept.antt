@@ -41,6 +41,11 @@ use Rattle.salvage.proofs.Exactly.{salvage-exactly}
 use Rattle.salvage.proofs.Reasons.{rightly, rightly-once}
 use Rattle.salvage.proofs.Rows.{listed, all-told}
 use Rattle.salvage.proofs.Theorems.{good-leaves, clean-leaves, second-leaves, well-formed, old-order, once as salvaged-once, untouched as salvaged-untouched}
+use Rattle.judge.proofs.Exactly.{accepted-exactly, wrong-exactly}
+use Rattle.judge.proofs.Own.{own-accepted}
+use Rattle.judge.proofs.Counted.{lines-counted}
+use Rattle.judge.proofs.Once.{once as judged-once}
+use Rattle.judge.proofs.Readings.{readings as judge-readings}
 use Rattle.trace.proofs.RuleOne.{rule-kept, rule-1}
 use Rattle.trace.proofs.Order.{trace-in-order}
 use Rattle.trace.proofs.Demand3.{trace-demand-3-places}
@@ -60,7 +65,7 @@ use Rattle.clock.proofs.Exactly.{read-exactly, refusal-keeps as reading-keeps, 
 use Rattle.clock.proofs.Once.{read-once}
 use Rattle.clock.proofs.Rising.{never-falls}
 use Rattle.clock.proofs.TrueTime.{true-time, first-past, unseen}
-use Rattle.promises.proofs.Promises.{OnTheRules, OverLent, OfABatch, ThroughC, OfATrace, OfTheMoves, OfTheSalvage, OfTheSheet, OfTheClock, Promises}
+use Rattle.promises.proofs.Promises.{OnTheRules, OverLent, OfABatch, ThroughC, OfATrace, OfTheMoves, OfTheSalvage, OfTheJudge, OfTheSheet, OfTheClock, Promises}
 
 rules-kept : OnTheRules
 rules-kept =
@@ -203,6 +208,17 @@ salvage-kept =
       salvaged-untouched = salvaged-untouched;
     }
 
+judge-kept : OfTheJudge
+judge-kept =
+    record {
+      lines-accepted-exactly = accepted-exactly;
+      first-wrong-exactly = wrong-exactly;
+      judged-once = judged-once;
+      lines-counted = lines-counted;
+      own-accepted = own-accepted;
+      judge-readings = judge-readings;
+    }
+
 sheet-kept : OfTheSheet
 sheet-kept =
     record {
@@ -244,6 +260,7 @@ promises =
       of-the-move-back = move-back-kept;
       goes-up = well-formed-goes-up;
       of-the-salvage = salvage-kept;
+      of-the-judge = judge-kept;
       of-the-sheet = sheet-kept;
       of-the-clock = clock-kept;
     }

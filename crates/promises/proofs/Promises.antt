@@ -53,7 +53,7 @@ use Rattle.gate.proofs.Runs.{Runs}
 use Rattle.records.specs.Promise.{records}
 use Rattle.records.proofs.Lawful.{records-lawful}
 use Rattle.gate.proofs.Lending.{numbers-lawful}
-use Rattle.gate.specs.Replies.{fourOf, never, fifthOf}
+use Rattle.gate.specs.Replies.{Four, fourOf, never, fifthOf}
 use Rattle.host.specs.Host.{gateIn, hosted}
 use Rattle.host.specs.Calls.{Lent, inside, shownBy, through, kept, heldBy, fours, Refuses, Takes, freeFours}
 use Rattle.host.specs.Traces.{threeOf, mendedOf}
@@ -82,6 +82,11 @@ use Rattle.salvage.specs.Result.{keptIn, rowsIn, salvaged, listOf}
 use Rattle.salvage.specs.Salvages.{salvagedShown, salvages}
 use Rattle.salvage.specs.Cases.{eventsIn, reasonAt, pieces, rowAt, Rightly, Clean, salvageCases, Untouched, InOrder}
 use Rattle.salvage.specs.declared.Salvaged.{Salvaged}
+use Rattle.judge.specs.Acceptable.{headLine, linesOf, Acceptable, FirstWrong}
+use Rattle.judge.specs.Judging.{wrongAt, accepted as acceptedLines, judgedOf}
+use Rattle.judge.specs.declared.Judged.{Judged as JudgedLines}
+use Rattle.judge.proofs.Counted.{ends}
+use Rattle.judge.proofs.Readings.{Readings as JudgeReadings}
 use Rattle.batch.specs.Rows.{countOf, answerWide}
 use Rattle.batch.specs.Promise.{BatchIn, outcomes, batchTests, batchedIn, seenBatchIn}
 use Rattle.batch.specs.Batches.{Batch, batchCases, Refuses as RefusesAll, Takes as TakesAll, goods, good, allDone, heldBatches, freeAnswers}
@@ -276,6 +281,20 @@ pub record OfTheSalvage : Type 0 where
   -- K12: "Room past the results is unchanged"; "nothing written" when refused
   pub salvaged-untouched : (bs room list : List ℕ) → Untouched (salvages bs room list) room list
 
+-- OF THE JUDGE of another gate's lines, of any bytes of a trace and of lines: document 02, K10; the same through C
+
+pub record OfTheJudge : Type 0 where
+  -- K10: "Accept its lines exactly when" all of them may stand, ties between guests broken "as it likes"; "Otherwise give the number of the first wrong, missing or surplus
+  -- line, the header line being 1", here with what was due there; any two answers that the promise admits are equal
+  pub lines-accepted-exactly : (bs ls : List ℕ) → (judgedOf bs ls ≡ acceptedLines) ↔ Acceptable bs ls
+  pub first-wrong-exactly : (bs ls : List ℕ) (n : ℕ) (d : Four) → ((judgedOf bs ls ≡ wrongAt n d) × (0 < n)) ↔ FirstWrong bs ls n d
+  pub judged-once : (bs ls : List ℕ) (a b : JudgedLines) → a ≡ judgedOf bs ls → b ≡ judgedOf bs ls → a ≡ b
+  -- the number counts lines that end with byte 10: as many ended before it, less one
+  pub lines-counted : (bs : List ℕ) (rs : List Result) → ends (headLine bs ++ linesOf rs) ≡ length rs + 1
+  -- K10: "Our own lines are always accepted.", and two outputs of one trace that both are
+  pub own-accepted : (bs : List ℕ) → judgedOf bs (printed bs) ≡ acceptedLines
+  pub judge-readings : JudgeReadings
+
 -- OF THE SHEET
 
 pub record OfTheSheet : Type 0 where
@@ -322,5 +341,6 @@ pub record Promises : Type 0 where
   -- K9: "work on well-formed traces only", and on each of version 1 that has room
   pub goes-up : (bs : List ℕ) (room : ℕ) → WellFormed 1 bs → length (movedBytes 2 bs) ≤ room → judged (moveTests 1 2 bs room) ≡ accept
   pub of-the-salvage : OfTheSalvage
+  pub of-the-judge : OfTheJudge
   pub of-the-sheet : OfTheSheet
   pub of-the-clock : OfTheClock

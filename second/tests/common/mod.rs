@@ -1,6 +1,8 @@
 //! Shared by the tests.
 #![allow(dead_code)]
 
+pub mod mirror;
+
 use second::sample::Owned;
 use second::tables::{FLIGHT_NUMBERS, GATE_NUMBERS, GUEST_NUMBERS, WAITING_NUMBERS};
 use second::trace::{events, run, Event, Header, Next};

@@ -1,6 +1,6 @@
-use native.Mathlib.Omega.{arith}
-use Rattle.choose.proofs.Phases.{line-asks, send-asks, sent-asks}
-use Rattle.choose.proofs.Returns.{narrow-id, due-here, reservation-returns, none-due}
+-- `by_reservation` meets its contract: what the walk found due goes, and else the weight phase chooses. Assumes nothing.
+use Rattle.choose.proofs.Phases.{line-asks}
+use Rattle.choose.proofs.Returns.{due-here, one-due, none-due}
 use borrow.Author.Needs.{needs}
 use Rattle.choose.proofs.by_reservation.Statement.{statement}
 use Rattle.choose.proofs.by_reservation.Tie as tie
@@ -16,30 +16,13 @@ first-in-line-requires c κs =
 enum-known-found : tie.Need-enum-known-found
 enum-known-found c = search needs
 
-send-requires : tie.Need-send-requires
-send-requires c κs =
-    let s = c .before .before .before .before .before .before .before .before .before .before .before .before in
-    let w = c .before .before .before .before .before .first-in-line in
-    let l = c .before .before .before .before .before .before .before .before .latest-limit .ensures in
-    let f = c .before .before .before .found .given in
-    send-asks (s .args .gate) (s .args .guests .now) (s .args .waiting .now) (s .args .flight .now) (s .pre .0) (s .pre .1) (f .0 .0) (due-here (s .args .gate) (s .args .guests .now) (s .args .waiting .now) (s .args .flight .now) (s .pre .0) (s .pre .1) _ l (w .result .due) (f .0 .0) (w .ensures .0) (f .1))
-
-cast-id : tie.Need-cast-id
-cast-id c =
-    let s = c .before .before .before .before .before .before .before .before .before .before .before .before .before .before .before .before .before .before in
-    let w = c .before .before .before .before .before .before .before .before .before .before .before .first-in-line in
-    let l = c .before .before .before .before .before .before .before .before .before .before .before .before .before .before .latest-limit .ensures in
-    let f = c .before .before .before .before .before .before .before .before .before .found .given in
-    let n = c .before .before .before .before .before .send in
-    omega (arith, narrow-id (s .args .gate) (s .args .guests .now) (s .args .waiting .now) (s .args .flight .now) (s .pre .0) (f .0 .0) (due-here (s .args .gate) (s .args .guests .now) (s .args .waiting .now) (s .args .flight .now) (s .pre .0) (s .pre .1) _ l (w .result .due) (f .0 .0) (w .ensures .0) (f .1)) (n .result) (n .ensures .1 .1))
-
-sent-requires : tie.Need-sent-requires
-sent-requires c κs =
-    let s = c .before .before .before .before .before .before .before .before .before .before .before .before .before .before .before .before .before .before in
-    let w = c .before .before .before .before .before .before .before .before .before .before .before .first-in-line in
-    let l = c .before .before .before .before .before .before .before .before .before .before .before .before .before .before .latest-limit .ensures in
-    let f = c .before .before .before .before .before .before .before .before .before .found .given in
-    sent-asks (s .args .gate) (s .args .guests .now) (s .args .waiting .now) (s .args .flight .now) (s .pre .0) (s .pre .1) (f .0 .0) (due-here (s .args .gate) (s .args .guests .now) (s .args .waiting .now) (s .args .flight .now) (s .pre .0) (s .pre .1) _ l (w .result .due) (f .0 .0) (w .ensures .0) (f .1))
+send-by-reservation-requires : tie.Need-send-by-reservation-requires
+send-by-reservation-requires c κs =
+    let s = c .before .before .before .before .before .before .before .before .before .before .before .before .before in
+    let w = c .before .before .before .before .before .before .first-in-line in
+    let l = c .before .before .before .before .before .before .before .before .before .latest-limit .ensures in
+    let f = c .before .before .before .before .found .given in
+    (s .pre .0, (s .pre .1, due-here (s .args .gate) (s .args .guests .now) (s .args .waiting .now) (s .args .flight .now) (s .pre .0) (s .pre .1) _ l (w .result .due) (f .0 .0) (w .ensures .0) (f .1)))
 
 enum-told : tie.Need-enum-told
 enum-told c = search needs
@@ -60,12 +43,11 @@ same-length-3 c = search needs
 
 returns : tie.Need-returns
 returns c =
-    let s = c .before .before .before .before .before .before .before .before .before .before .before .before .before .before .before .before .before .before .before in
-    let w = c .before .before .before .before .before .before .before .before .before .before .before .before .first-in-line in
-    let l = c .before .before .before .before .before .before .before .before .before .before .before .before .before .before .before .latest-limit .ensures in
-    let f = c .before .before .before .before .before .before .before .before .before .before .found .given in
-    let n = c .before .before .before .before .before .before .send in
-    reservation-returns (s .args .gate) (s .args .guests .now) (s .args .waiting .now) (s .args .flight .now) (s .pre .0) (s .pre .1) _ l (w .result .due) (f .0 .0) (w .ensures .0) (f .1) (n .result) _ _ _ (n .ensures .0) (n .ensures .1 .0) (n .ensures .1 .1) (c .sent .ensures)
+    let s = c .before .before .before .before .before .before .before .before .before .before .before .before .before .before .before .before .before .before in
+    let w = c .before .before .before .before .before .before .before .before .before .before .before .first-in-line in
+    let l = c .before .before .before .before .before .before .before .before .before .before .before .before .before .before .latest-limit .ensures in
+    let f = c .before .before .before .before .before .before .before .before .before .found .given in
+    one-due (s .args .gate) (s .args .guests .now) (s .args .waiting .now) (s .args .flight .now) (s .pre .0) (s .pre .1) _ l (w .result .due) (f .0 .0) (w .ensures .0) (f .1) (c .before .before .before .before .send-by-reservation .ensures)
 
 same-length-4 : tie.Need-same-length-4
 same-length-4 c = search needs
@@ -81,8 +63,7 @@ returns-2 c =
     let s = c .before .before .before .before .before .before .before .before .before .before .before .before .before .before .before .before .before .before .before in
     let w = c .before .before .before .before .before .before .before .before .before .before .before .before .first-in-line in
     let l = c .before .before .before .before .before .before .before .before .before .before .before .before .before .before .before .latest-limit .ensures in
-    let b = c .before .before .before .before .before .before .by-weight in
-    none-due (s .args .gate) (s .args .guests .now) (s .args .waiting .now) (s .args .flight .now) (s .pre .0) (s .pre .1) _ l (w .result .due) (w .ensures .0) (c .before .before .before .before .before .before .before .before .before .before .enum-told .given .1) (b .ensures)
+    none-due (s .args .gate) (s .args .guests .now) (s .args .waiting .now) (s .args .flight .now) (s .pre .0) (s .pre .1) _ l (w .result .due) (w .ensures .0) (c .before .before .before .before .before .before .before .before .before .before .enum-told .given .1) (c .before .before .before .before .before .before .by-weight .ensures)
 
 pub by-reservation-spec : {M : Type 1} → statement M
 by-reservation-spec =
@@ -91,9 +72,7 @@ by-reservation-spec =
     latest-limit-requires
     first-in-line-requires
     enum-known-found
-    send-requires
-    cast-id
-    sent-requires
+    send-by-reservation-requires
     enum-told
     by-weight-requires
     same-length

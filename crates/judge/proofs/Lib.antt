@@ -1,0 +1,15 @@
+pub mod Bytes
+pub mod Places
+pub mod Tied
+pub mod Sent
+pub mod OneLine
+pub mod Ties
+pub mod Heard
+pub mod Follows
+pub mod Going
+pub mod Heads
+pub mod Exactly
+pub mod Own
+pub mod Counted
+pub mod Once
+pub mod Readings
