@@ -86,9 +86,9 @@ struct whole map_file(const char *path, const char *title)
     return file;
 }
 
-uint8_t *make_room(size_t length)
+void *make_room(size_t length)
 {
-    uint8_t *room = (uint8_t *)malloc(length + 1);
+    void *room = malloc(length + 1);
     if (room == NULL)
         fail("there is no memory for %zu bytes: nothing was written", length);
     return room;

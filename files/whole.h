@@ -21,7 +21,7 @@ __attribute__((format(printf, 1, 2), noreturn)) void fail(const char *form, ...)
 struct whole map_file(const char *path, const char *title);
 
 /* Room for this many bytes. */
-uint8_t *make_room(size_t length);
+void *make_room(size_t length);
 
 /* Stops where there can be no file at this path. Standard output, '-', is one. */
 void want_out(const char *path);

@@ -10,10 +10,11 @@
  * refusal changes no lent number and not the time."
  *
  * What the host owes, since C does not check it:
- * - A pointer is never NULL, points to 64-bit numbers or to a clock, and the length beside it is true. A length is a count of numbers
- *   in the calls, and a count of records in the helpers below, where a table of no records may be NULL.
- * - The gate, the tables, events and answers do not overlap, and nobody else reads or writes them during a call, nor a
- *   clock. Calls on different gates and clocks may run at the same time.
+ * - A pointer is never NULL, points to 64-bit numbers, to bytes of a trace or to a clock, and the length beside it is
+ *   true. A length is a count of numbers or of bytes in the calls, and a count of records in the helpers below, where a
+ *   table of no records may be NULL.
+ * - The gate, the tables, events and answers do not overlap, nor a trace and what is lent beside it, and nobody else
+ *   reads or writes them during a call, nor a clock. Calls on different gates and clocks may run at the same time.
  *
  * The library is for x86-64 Linux. Link the archive where it is built, or what 'make install' installs:
  *   cc -Iinclude host.c target/staticlib/libhost.a
@@ -28,7 +29,7 @@
 /* The version of this header and of the library that it belongs to. While the major number is 0, another minor number
  * means other calls or other rows. SGQ_VERSION is the text "MAJOR.MINOR.PATCH". */
 #define SGQ_VERSION_MAJOR 0
-#define SGQ_VERSION_MINOR 8
+#define SGQ_VERSION_MINOR 9
 #define SGQ_VERSION_PATCH 0
 #define SGQ_VERSION \
     SGQ_TEXT_OF(SGQ_VERSION_MAJOR) "." SGQ_TEXT_OF(SGQ_VERSION_MINOR) "." SGQ_TEXT_OF(SGQ_VERSION_PATCH)
@@ -89,6 +90,7 @@ enum sgq_rule {
 #define SGQ_FLIGHT_NUMBERS 2
 #define SGQ_EVENT_NUMBERS 5
 #define SGQ_ANSWER_NUMBERS 5
+#define SGQ_DROPPED_NUMBERS 2
 
 /* The gate: what it was opened with, the time and the counts. "A fresh table has time 0, nothing waiting or in
  * flight". */
@@ -207,7 +209,7 @@ enum sgq_refusal {
     SGQ_REFUSED_TAG_ABOVE_CEILING = 9,  /* "arrival: a tag given, or a share tag moved, would pass the ceiling" */
     SGQ_REFUSED_NOT_IN_FLIGHT = 10,     /* "completion: guest has no such id in flight" */
 
-    /* Those named so are of a trace: the programs that read one give them, and the calls that move one. */
+    /* Those named so are of a trace: the programs that read one give them, and the calls that move or salvage one. */
     SGQ_REFUSED_TRACE_MARK = 11,       /* "trace mark" */
     SGQ_REFUSED_TRACE_VERSION = 12,    /* "trace version" */
     SGQ_REFUSED_TRACE_HEADER_CUT = 13, /* "trace header cut short" */
@@ -224,7 +226,8 @@ enum sgq_refusal {
 
     /* Of the move of a trace; document 02, K9. There 14 is also "for a non-zero upper part or kind 3". */
     SGQ_REFUSED_NO_WAY_BACK = 19, /* "a version 2 trace that has another rule, credit or cost cannot go back" */
-    SGQ_REFUSED_SHORT_ROOM = 21   /* "room too short" */
+    SGQ_REFUSED_SHORT_ROOM = 21   /* "room too short"; of a salvage, document 02, K12: "lent room for trace or list too
+                                   * short" */
 };
 
 /* The calls. A table is a pointer to numbers and how many there are; it may be longer than the settings need: "Places
@@ -306,6 +309,44 @@ typedef struct sgq_moved {
  *   room     21 */
 SGQ_MUST_USE sgq_moved sgq_trace_up(const uint8_t *trace, size_t trace_length, uint8_t *room, size_t room_length);
 SGQ_MUST_USE sgq_moved sgq_trace_back(const uint8_t *trace, size_t trace_length, uint8_t *room, size_t room_length);
+
+/* The salvage of a torn trace, as a recorder that lost power leaves it. It knows no gate either. */
+
+/* Why an event was dropped. Where several hold, the first in this order is given; a cut event has only its own. */
+enum sgq_reason {
+    SGQ_DROPPED_KIND = 1,               /* "kind or spare part": whatever is 14 when a trace is read */
+    SGQ_DROPPED_TIME_ABOVE_CEILING = 2, /* "time above the ceiling" */
+    SGQ_DROPPED_TIME_BEHIND = 3,        /* "time behind the last kept" */
+    SGQ_DROPPED_TIME_AHEAD = 4,         /* "time more than 3,600 seconds ahead of the last kept" */
+    SGQ_DROPPED_CUT = 5                 /* "cut short" */
+};
+
+/* A row of the list: an event that was dropped. */
+typedef struct sgq_dropped {
+    uint64_t event;  /* its number in the trace, from 1 */
+    uint64_t reason; /* enum sgq_reason */
+} sgq_dropped;
+
+/* What a salvage answers: refusal 0, how many bytes and how many rows it wrote; or the refusal, and nothing written. */
+typedef struct sgq_salvaged {
+    uint64_t refusal; /* enum sgq_refusal, or 0 */
+    uint64_t written; /* bytes at the beginning of the room */
+    uint64_t rows;    /* at the beginning of the list, SGQ_DROPPED_NUMBERS each */
+} sgq_salvaged;
+
+/* How many bytes an event of a trace has. */
+#define SGQ_EVENT_BYTES 14
+
+/* Keeps the good events of a trace and writes them as a trace of the same version, with a list of those that it drops.
+ * The list is 64-bit numbers, and its length counts them; trace, room and list do not overlap. Document 02, K12: "The
+ * first kept event is free of the last two time tests. A trace in which no event meets a reason comes out byte for byte,
+ * with an empty list; a second pass drops nothing. Room past the results is unchanged." Every event is kept or stands in
+ * the list. Room as long as the trace is always enough, and a list of sgq_most_dropped rows. Refusals, the first that
+ * holds in this order:
+ *   header   13, 11, 12, 1 as when a trace is read, of version 1 or 2
+ *   room     21, of the result or of the list */
+SGQ_MUST_USE sgq_salvaged sgq_salvage(const uint8_t *trace, size_t trace_length, uint8_t *room, size_t room_length,
+                                      uint64_t *list, size_t list_length);
 
 /* A clock for a board that counts microseconds in 32 bits and starts again from zero. Zeros are a clock of which no
  * reading was taken yet: sgq_clock clock = {0, 0, 0}; */
@@ -464,6 +505,22 @@ static inline sgq_event sgq_tick_at(uint64_t time)
     return event;
 }
 
+/* sgq_salvage with a list of records: room for so many rows. It may be NULL where that is 0. */
+SGQ_MUST_USE static inline sgq_salvaged sgq_salvage_rows(const uint8_t *trace, size_t trace_length,
+                                                         uint8_t *room, size_t room_length,
+                                                         sgq_dropped *list, size_t list_count)
+{
+    uint64_t spare = 0;
+    return sgq_salvage(trace, trace_length, room, room_length,
+                       list_count == 0 ? &spare : &list->event, list_count * SGQ_DROPPED_NUMBERS);
+}
+
+/* How many rows the list of a trace of this length has at the most: one for each event. */
+static inline size_t sgq_most_dropped(size_t trace_length)
+{
+    return trace_length / SGQ_EVENT_BYTES;
+}
+
 /* The next four read an open gate, and its tables, that no call has refused as not sound. */
 
 /* How many places at the array are free. Where none is, no call sends anything. */
@@ -530,6 +587,19 @@ static inline const char *sgq_refusal_text(uint64_t refusal)
     }
 }
 
+/* A reason in document 02's words, for logs; a number that it does not have is "no reason". */
+static inline const char *sgq_reason_text(uint64_t reason)
+{
+    switch (reason) {
+    case SGQ_DROPPED_KIND: return "kind or spare part";
+    case SGQ_DROPPED_TIME_ABOVE_CEILING: return "time above the ceiling";
+    case SGQ_DROPPED_TIME_BEHIND: return "time behind the last kept";
+    case SGQ_DROPPED_TIME_AHEAD: return "time more than 3,600 seconds ahead of the last kept";
+    case SGQ_DROPPED_CUT: return "cut short";
+    default: return "no reason";
+    }
+}
+
 /* The structs are the rows, with nothing between the numbers: these lines do not compile where that fails. */
 typedef char sgq_gate_is_its_row[sizeof(sgq_gate) == SGQ_GATE_NUMBERS * sizeof(uint64_t) ? 1 : -1];
 typedef char sgq_settings_is_its_row[sizeof(sgq_settings) == SGQ_SETTINGS_NUMBERS * sizeof(uint64_t) ? 1 : -1];
@@ -538,6 +608,7 @@ typedef char sgq_request_is_its_row[sizeof(sgq_request) == SGQ_REQUEST_NUMBERS *
 typedef char sgq_flight_is_its_row[sizeof(sgq_flight) == SGQ_FLIGHT_NUMBERS * sizeof(uint64_t) ? 1 : -1];
 typedef char sgq_event_is_its_row[sizeof(sgq_event) == SGQ_EVENT_NUMBERS * sizeof(uint64_t) ? 1 : -1];
 typedef char sgq_answer_is_its_row[sizeof(sgq_answer) == SGQ_ANSWER_NUMBERS * sizeof(uint64_t) ? 1 : -1];
+typedef char sgq_dropped_is_its_row[sizeof(sgq_dropped) == SGQ_DROPPED_NUMBERS * sizeof(uint64_t) ? 1 : -1];
 typedef char sgq_clock_is_closed_up[sizeof(sgq_clock) == 2 * sizeof(uint64_t) ? 1 : -1];
 typedef char sgq_told_is_closed_up[sizeof(sgq_told) == 2 * sizeof(uint64_t) ? 1 : -1];
 

@@ -1,7 +1,7 @@
 #!/usr/bin/env python3
-"""Tests the program of files/, by which the words up and back of sgq move a trace over the library: what it writes, beside
-the second program; and for each fault one line, the status, and that an existing file is replaced by a whole result or not
-at all.
+"""Tests the program of files/, by which the words up, back and salvage of sgq work on a whole trace over the library: what it
+writes and prints, beside the second program; and for each fault one line, the status, and that an existing file is replaced
+by a whole result or not at all.
 
 The library is target/staticlib/libhost.a, which 'rt staticlib host' writes; the environment variable SGQ_LIB may name
 another archive, as to try these tests on a wrong one. Ends with 'N passed, M failed'."""
@@ -17,10 +17,12 @@ import tempfile
 from kit import LIBRARY, ROOT, SECOND, Stop, build_second, need_library, random_trace, run_tests, sgqtext
 from machine import OWN, before_linked, compiler, say_how
 
-SOURCES = [ROOT / "files" / name for name in ("files.c", "whole.c")]
+SOURCES = sorted((ROOT / "files").glob("*.c"))
 WARNINGS = ["-Wall", "-Wextra", "-Wpedantic", "-Werror", "-Wshadow", "-Wconversion", "-Wcast-qual"]
 KINDS = ["small", "small2", "header", "header2", "cut", "cut2", "garbage", "garbage2", "waits", "waits2"]
+TORN = ["torn", "torn2", "garbage", "garbage2", "header", "header2", "ceiling", "ceiling2"]
 SEEDS = 12
+SALVAGED = 30  # seeds of each kind of torn trace
 NOBODY = 65534
 MOST_SECONDS = 60
 
@@ -43,7 +45,20 @@ REFUSED = [
     ("back", COSTLY, "event 4 has a cost other than 1, which version 1 cannot say (19)"),
     ("back", TWO[:9] + b"\x02" + TWO[10:], "its rule is not 1 or a guest has credit, which version 1 cannot say (19)"),
     ("back", TWO[:22] + b"\x01" + TWO[23:], "its rule is not 1 or a guest has credit, which version 1 cannot say (19)"),
+    ("salvage", b"", "it ends within its header (13)"),
+    ("salvage", TWO[:23], "it ends within its header (13)"),
+    ("salvage", b"sgq" + ONE[3:], "it does not begin with the letters SGQ (11), so it is no trace, nor does it begin as a text does"),
+    ("salvage", ONE[:3] + b"\x03" + ONE[4:], "it is of version 3, and salvage takes versions 1 and 2 (12)"),
+    ("salvage", TWO[:9] + b"\x03" + TWO[10:], "a setting in its header is out of range (1); samples/README.md has the ranges"),
 ]
+# What a reason is called where events are dropped for it.
+REASONS = {
+    1: "no known kind, or a guest, an id or a cost that this kind does not have",
+    2: "time above the ceiling",
+    3: "time behind the last kept",
+    4: "time more than 3,600 seconds ahead of the last kept",
+    5: "cut short",
+}
 
 
 class House:
@@ -85,8 +100,8 @@ def hold(tally, name, good, why="it does not"):
 
 
 def test_words(tally, house):
-    usage = "say 'up TRACE OUT' or 'back TRACE OUT'"
-    for words in ([], ["up"], ["up", "a"], ["down", "a", "b"], ["up", "a", "b", "c", "d"]):
+    usage = "say 'up TRACE OUT', 'back TRACE OUT' or 'salvage TRACE OUT'"
+    for words in ([], ["up"], ["up", "a"], ["down", "a", "b"], ["up", "a", "b", "c", "d"], ["salvage", "a"]):
         check(tally, f"the words {words}", house.run(*words), 2, usage)
     hold(tally, "nothing is made of them", house.names() == [], house.names())
 
@@ -119,6 +134,90 @@ def test_moves(tally, house):
     many.unlink()
     left = ["%s%n", "link", "new", "new one", "old", "out", "trace"]
     hold(tally, "nothing is left beside", house.names() == left, house.names())
+
+
+def told(rows, events):
+    """What is printed where these of so many events are dropped: a line for those in a row and for one reason."""
+    lines, at = [], 0
+    while at < len(rows):
+        event, reason = rows[at]
+        count = 1
+        while at + count < len(rows) and rows[at + count] == (event + count, reason):
+            count += 1
+        which = f"event {event} is" if count == 1 else f"events {event} to {event + count - 1} are"
+        lines.append(f"{which} dropped: {REASONS[reason]}\n")
+        at += count
+    return "".join([*lines, f"{events - len(rows)} of {events} events are kept\n"]).encode()
+
+
+def test_salvage(tally, house):
+    """The result and what is printed of it: of whole traces, of the torn sample, to a file and to standard output."""
+    for name in house.names():
+        (house.work / name).unlink()
+    for name, trace in (("version 1", ONE), ("version 2", TWO), ("no events", ONE[: -3 * 14])):
+        house.write("trace", trace)
+        printed = told([], (len(trace) - len(sgqtext.to_bytes(HEAD))) // 14)
+        check(tally, f"salvage of {name}", house.run("salvage", "trace", "out"), 0, output=printed)
+        hold(tally, f"it is whole, {name}", (house.work / "out").read_bytes() == trace)
+        ended = house.run("salvage", "trace", "-")
+        good = (ended.returncode, ended.stdout, ended.stderr) == (0, trace, printed)
+        hold(tally, f"to standard output, {name}", good, f"it ended with {ended}")
+    samples = ROOT / "samples"
+    torn, kept = (sgqtext.to_bytes((samples / f"{name}.txt").read_text()) for name in ("torn", "salvaged"))
+    house.write("trace", torn)
+    check(tally, "the torn sample", house.run("salvage", "trace", "trace"), 0, output=(samples / "torn.list").read_bytes())
+    hold(tally, "what it becomes", (house.work / "trace").read_bytes() == kept)
+    printed = told([], 9)
+    check(tally, "a second pass", house.run("salvage", "trace", "trace"), 0, output=printed)
+    hold(tally, "what that leaves", (house.work / "trace").read_bytes() == kept)
+    shown = (samples / "torn.list").read_text()
+    block = "".join(f"    {line}\n" for line in shown.splitlines())
+    for page in (ROOT / "README.md", samples / "README.md"):
+        hold(tally, f"{page.relative_to(ROOT)} shows it", block in page.read_text())
+    many = ONE + (ONE[-14:] + bytes(14)) * 150_000
+    house.write("many", many)
+    rows = [(3 + 2 * at, 3) for at in range(1, 150_001)]
+    check(tally, "a long torn trace", house.run("salvage", "many", "out"), 0, output=told(rows, 300_003))
+    hold(tally, "what that becomes", (house.work / "out").read_bytes() == ONE + ONE[-14:] * 150_000)
+    hold(tally, "nothing is left beside it", house.names() == ["many", "out", "trace"], house.names())
+    unlisted(tally, house)
+
+
+def unlisted(tally, house):
+    """Where the list cannot be printed the result is there, and a line says both."""
+    (house.work / "out").unlink()
+    with open("/dev/full", "wb") as full:
+        ended = house.run("salvage", "trace", "out", capture_output=False, stdout=full, stderr=subprocess.PIPE)
+    said = b"sgq: the result is written, but the list could not be: No space left on device\n"
+    good = (ended.returncode, ended.stderr) == (1, said) and (house.work / "out").exists()
+    hold(tally, "a list that cannot be printed", good, f"it ended with {ended}")
+    with open("/dev/full", "wb") as full:
+        ended = house.run("salvage", "trace", "-", capture_output=False, stdout=full, stderr=subprocess.PIPE)
+    said = b"sgq: standard output could not be written: No space left on device\n"
+    hold(tally, "a result that cannot be", (ended.returncode, ended.stderr) == (1, said), f"it ended with {ended}")
+
+
+def test_salvage_beside_second(tally, house):
+    """Random torn traces: the same bytes and the same list as the second program's, or the same refusal."""
+    for kind in TORN:
+        for seed in range(1, SALVAGED + 1):
+            trace = random_trace(kind, seed)
+            house.write("trace", trace)
+            tally.add(f"salvage of {kind} seed {seed}", salvage_beside_second(house), trace)
+
+
+def salvage_beside_second(house):
+    second = subprocess.run([SECOND, "salvage", house.work / "trace", house.folder / "expected"], capture_output=True)
+    (refusal, _, _), *rows = [tuple(map(int, line.split())) for line in second.stdout.splitlines()]
+    ours = house.run("salvage", "trace", "-")
+    heard = ours.stderr.decode()
+    if refusal:
+        good = (ours.returncode, ours.stdout) == (1, b"") and f"({refusal})" in heard and heard.count("\n") == 1
+        return None if good else f"it said {heard!r}, and second {second.stdout}"
+    kept = (house.folder / "expected").read_bytes()
+    events = len(rows) + (len(kept) - sgqtext.header_length(kept)) // 14
+    same = (ours.returncode, ours.stdout, ours.stderr) == (0, kept, told(rows, events))
+    return None if same else f"it ended with {ours.returncode}, {heard!r}, and second printed {second.stdout}"
 
 
 def test_refused(tally, house):
@@ -256,8 +355,10 @@ def tests(tally):
         house = House(pathlib.Path(name))
         test_words(tally, house)
         test_moves(tally, house)
+        test_salvage(tally, house)
         test_refused(tally, house)
         test_beside_second(tally, house)
+        test_salvage_beside_second(tally, house)
         test_faults(tally, house)
         test_full(tally, house)
         test_stopped(tally, house)

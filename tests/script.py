@@ -61,14 +61,18 @@ while [ $# -gt 0 ]; do
 done
 cp "$HOUSE/made.files" "$made"
 """
-# In place of the program of files/, which tests/files.py tests: the second program moves the trace.
+# In place of the program of files/, which tests/files.py tests: the second program moves the trace, or salvages it.
 FILES = """#!/bin/sh
-if "{second}" "$1" <"$2" >"$HOUSE/moved"; then
-    if [ "$3" = - ]; then cat "$HOUSE/moved"; else cp "$HOUSE/moved" "$3"; fi
-else
-    echo "sgq: $4 is refused: $(cat "$HOUSE/moved")" >&2
-    exit 1
-fi
+said=$HOUSE/moved
+case $1 in
+salvage) said=$HOUSE/list && "{second}" salvage "$2" "$HOUSE/moved" >"$said" ;;
+*) "{second}" "$1" <"$2" >"$HOUSE/moved" ;;
+esac || {{ echo "sgq: $4 is refused: $(cat "$said")" >&2 && exit 1; }}
+case "$1 $3" in
+*' -') cat "$HOUSE/moved" ;;
+salvage*) cp "$HOUSE/moved" "$3" && cat "$said" ;;
+*) cp "$HOUSE/moved" "$3" ;;
+esac
 """
 # What the program does where it cannot write, and writes to standard error in no other case.
 UNWRITTEN = "#!/bin/sh\necho 'event answer'\necho 'decide: standard output could not be written' >&2\n"
@@ -82,6 +86,7 @@ REFUSED = [
     (13, b"SG", "it ends within its header (13)"),
     (13, b"", "it ends within its header (13)"),
 ]
+WHOLE = ["up", "back", "salvage"]  # the words that need a whole trace
 MOST_SECONDS = 60  # to wait for what a run will do at once, where it does it at all
 HANGS = 600  # seconds after which a run is taken to hang
 NOBODY = 65534
@@ -202,12 +207,12 @@ def expected(sample, end="out"):
 
 def test_words(tally, house):
     check(tally, "no word", house.sgq(), 2, said="./sgq decide [TRACE]")
-    known = "there is no 'dcide': say decide, sheet, up, back, test, help or --version"
+    known = "there is no 'dcide': say decide, sheet, up, back, salvage, test, help or --version"
     check(tally, "unknown word", house.sgq("dcide"), 2, said=known, lines=1)
     helped = house.sgq("help")
     check(tally, "help", helped, 0, helped.stdout, lines=0)
     hold(tally, "help says test", b"./sgq test" in helped.stdout)
-    for words in (["decide", "--help"], ["decide", "-h"], *([word, "--help"] for word in ("sheet", "up", "back", "test"))):
+    for words in (["decide", "--help"], ["decide", "-h"], *([word, "--help"] for word in ("sheet", *WHOLE, "test"))):
         more = house.sgq(*words)
         check(tally, " ".join(words), more, 0, more.stdout, lines=0)
         hold(tally, f"{' '.join(words)} says more", more.stdout.startswith(f"./sgq {words[0]} ".encode()))
@@ -216,7 +221,7 @@ def test_words(tally, house):
     check(tally, "two traces", house.sgq("decide", "a", "b"), 2, said="one trace, not 2", lines=1)
     check(tally, "unknown option", house.sgq("decide", "--all"), 2, said="decide has no '--all'", lines=1)
     check(tally, "unknown option of sheet", house.sgq("sheet", "--all"), 2, said="sheet has no '--all'", lines=1)
-    for word in ("up", "back"):
+    for word in WHOLE:
         takes = f"{word} takes a trace and where the result goes"
         for names in ([], ["a"], ["a", "b", "c"]):
             ended = house.sgq(word, *names)
@@ -334,6 +339,45 @@ def test_moves(tally, house):
     hold(tally, "linked once", linked(house) == 1, f"it was linked {linked(house)} times")
     check_no_move(tally, house)
     check_links(tally, house, one, two)
+
+
+def test_salvage(tally, house):
+    """Salvage prints what it drops, and else is as the moves are."""
+    torn, kept = (sgqtext.to_bytes((ROOT / "samples" / f"{name}.txt").read_text()) for name in ("torn", "salvaged"))
+    printed = f"0 {len(kept)} 7\n6 3\n7 3\n8 3\n10 4\n12 1\n13 2\n16 5\n".encode()
+    house.write("torn.sgq", torn)
+    late = HEAD + "tick at 5\n" * 90_000 + "tick at once\n"
+    for name, words, given in (
+        ("a torn trace", ["torn.sgq", "out"], b""),
+        ("a text", ["samples/torn.txt", "out"], b""),
+        ("standard input", ["-", "out"], torn),
+        ("--", ["--", "torn.sgq", "out"], b""),
+    ):
+        house.write("out", "old")
+        check(tally, f"salvage of {name}", house.sgq("salvage", *words, given=given), 0, printed, lines=0)
+        hold(tally, f"what is kept of {name}", (house.root / "out").read_bytes() == kept)
+    check(tally, "salvage to standard output", house.sgq("salvage", "torn.sgq", "-"), 0, kept, lines=0)
+    for name, words, status, said in (
+        ("a refused trace", ["-", "out"], 1, "standard input is refused: 11 0 0"),
+        ("a mistake in a text", ["bad.txt", "out"], 2, "bad.txt: line 2: capacity 0 is not from 1 to 1024"),
+        ("a mistake late in a text", ["late.txt", "out"], 2, "late.txt: line 90004: time 'once' is not a number"),
+        ("no folder", ["torn.sgq", "lost/out"], 2, "there is no folder 'lost' for lost/out: make it"),
+    ):
+        house.write("late.txt", late)
+        house.write("out", "old")
+        ended = house.sgq("salvage", *words, given=b"sgq" + torn[3:])
+        check(tally, f"salvage, {name}", ended, status, said=said, lines=1)
+        hold(tally, f"nothing is said of what is written, {name}", b"are written" not in ended.stderr, ended.stderr)
+        hold(tally, f"salvage, {name}, leaves all", (house.root / "out").read_text() == "old")
+    for out in ("out", "-"):
+        closed = house.sgq("salvage", "torn.sgq", out, preexec_fn=lambda: os.close(1))
+        check(tally, f"salvage to {out}, standard output closed", closed, 1, said="standard output is closed", lines=1)
+    hold(tally, "which leaves all", (house.root / "out").read_text() == "old")
+    words = ["sh", "-c", "{ ./sgq salvage torn.sgq out; echo $? >ended; } | head -n 1"]
+    with standing_in_place(house, "files", "#!/bin/sh\nexec cat samples/*.txt samples/*.txt samples/*.txt samples/*.txt\n"):
+        subprocess.run(words, env=house.environment, cwd=house.root, capture_output=True)
+        status = (house.root / "ended").read_text()
+        hold(tally, "nobody reads the list to its end", status == "141\n", f"the status was {status}")
 
 
 def linked(house):
@@ -745,6 +789,7 @@ def tests(tally):
             test_decide,
             test_sheet,
             test_moves,
+            test_salvage,
             test_texts,
             test_bad_texts,
             test_refusals,

@@ -13,9 +13,14 @@
 //!
 //! The moves of the whole trace to version 2 and back, and a plain copy. Prints for each round the move, whose it is, and
 //! its nanoseconds.
+//!
+//!     bench-calls salvage TRACE ROUNDS
+//!
+//! The salvage of the whole trace, and of the same with events hurt, likewise.
 
 mod moves;
 mod players;
+mod salvage;
 mod trace;
 
 use players::{after, Batches, Library, Player, Second};
@@ -28,7 +33,7 @@ fn main() -> ExitCode {
     match run(&words) {
         Some(()) => ExitCode::SUCCESS,
         None => {
-            eprintln!("bench-calls library|second|both|idle TRACE SKIP COUNT ROUNDS [BATCH [CAPACITY]], or moves TRACE ROUNDS; TRACE one of 'traces fixed'");
+            eprintln!("bench-calls library|second|both|idle TRACE SKIP COUNT ROUNDS [BATCH [CAPACITY]], or moves|salvage TRACE ROUNDS; TRACE one of 'traces fixed'");
             ExitCode::FAILURE
         }
     }
@@ -38,6 +43,7 @@ fn run(words: &[String]) -> Option<()> {
     if let [word, file, rounds] = words {
         return match word.as_str() {
             "moves" => moves::run(file, rounds.parse().ok()?),
+            "salvage" => salvage::run(file, rounds.parse().ok()?),
             _ => None,
         };
     }

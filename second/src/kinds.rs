@@ -1,18 +1,19 @@
 //! Random traces of every kind in both versions, and the fixed trace for
-//! benchmarks. The
-//! gate is played along, so that completions name what is really in flight
-//! and times stand in some relation to the tags.
+//! benchmarks. The gate is played along, so that completions name what is
+//! really in flight and times stand in some relation to the tags.
 
 use crate::numbers::{Settings, CEILING, MOST_RATE, RULE_1, RULE_2, SECOND};
 use crate::rules::{Answer, State};
-use crate::sample::{any_credit, any_rates, good_cost, Prng};
+use crate::salvage::MOST_AHEAD;
+use crate::sample::{any_credit, any_rates, good_cost, tear, tear_events, Prng};
 use crate::trace::{play, Event, Header, Version, ARRIVAL, COMPLETION, EVENT_BYTES, TICK};
 
 /// The names of the kinds, a 2 behind the name for version 2. `mixed` is one
-/// of the others by seed, of either version; `mixed2` one of version 2.
-pub const KINDS: [&str; 18] = [
-    "small", "ceiling", "jumps", "waits", "header", "cut", "garbage", "large", "mixed", "small2",
-    "ceiling2", "jumps2", "waits2", "header2", "cut2", "garbage2", "large2", "mixed2",
+/// of those before it by seed, of either version; `mixed2` one of version 2.
+pub const KINDS: [&str; 20] = [
+    "small", "ceiling", "jumps", "waits", "header", "cut", "garbage", "large", "mixed", "torn",
+    "small2", "ceiling2", "jumps2", "waits2", "header2", "cut2", "garbage2", "large2", "mixed2",
+    "torn2",
 ];
 
 /// A random trace of a kind, or none where there is no such kind.
@@ -34,6 +35,7 @@ pub fn trace(kind: &str, seed: u64) -> Option<Vec<u8>> {
         "garbage" => garbage(rng, version),
         "large" => large(rng, version),
         "mixed" => mixed(rng, version),
+        "torn" => torn(rng, version),
         _ => return None,
     })
 }
@@ -728,6 +730,61 @@ fn spare_event(rng: &mut Prng, time: u64) -> Event {
         guest: 0,
         id: if kind == TICK { 0 } else { some_id(rng) },
         time,
+    }
+}
+
+/// What a recorder left that lost power, behind a good header: its events
+/// one behind the other in time, and then torn, or whole now and then.
+fn torn(rng: &mut Prng, version: Version) -> Vec<u8> {
+    let scale = rng.pick(&[1, 10, 1_000]);
+    let beat = SECOND / scale;
+    let guests = rng.between(1, 4);
+    let settings: Vec<_> = (0..guests).map(|_| beat_settings(rng, scale)).collect();
+    let (depth, capacity) = (rng.between(1, 3), rng.between(1, 9));
+    let mut maker = Maker::new(rng, version, depth, capacity, &settings);
+    let start = maker.bytes.len();
+    // The recorder's own: an event that is refused moves it on as well.
+    let mut clock = torn_begin(rng);
+    let events = rng.below(200);
+    stretches(rng, &mut maker, events, |rng, _| {
+        clock = (clock + torn_step(rng, beat)).min(CEILING);
+        clock
+    });
+    let mut bytes = maker.bytes;
+    let hurt = rng.pick(&[0, 0, 3, 10, 40]);
+    tear_events(rng, hurt, &mut bytes[start..]);
+    for _ in 0..rng.pick(&[0, 0, 1, 2, 5]) {
+        tear(rng, start, &mut bytes);
+    }
+    if rng.chance(50) {
+        let behind = (bytes.len() - start) as u64;
+        let anywhere = rng.below(behind + 1);
+        let in_last = rng.below(EVENT_BYTES as u64).min(behind);
+        let gone = rng.pick(&[anywhere, in_last, in_last]) as usize;
+        bytes.truncate(bytes.len() - gone);
+    }
+    bytes
+}
+
+/// When the recorder was switched on: at 0, soon after, late, or a few hours
+/// before the ceiling.
+fn torn_begin(rng: &mut Prng) -> u64 {
+    match rng.below(4) {
+        0 => 0,
+        1 => rng.sized(34),
+        2 => rng.sized(61),
+        _ => CEILING - 2 * MOST_AHEAD + rng.sized(42),
+    }
+}
+
+/// Most often short; a pause of an hour is still none to drop for.
+fn torn_step(rng: &mut Prng, beat: u64) -> u64 {
+    match rng.below(100) {
+        0..=1 => MOST_AHEAD,
+        2 => MOST_AHEAD - 1,
+        3 if rng.chance(20) => MOST_AHEAD + rng.between(1, 2),
+        4..=5 => rng.below(MOST_AHEAD),
+        _ => beat_step(rng, beat),
     }
 }
 

@@ -9,6 +9,7 @@
 //! - `batch`:   many events in one call
 //! - `trace`:   the trace in its two versions and the program that prints it
 //! - `moves`:   the moves from one version to the other
+//! - `salvage`: what is good of a torn trace, and why the rest is not
 //! - `clock`:   the time of a board with a short clock
 //! - `sheet`:   the sale-day sheet of a trace
 //! - `sample`:  random numbers and random tables, for tests
@@ -21,6 +22,7 @@ pub mod kinds;
 pub mod moves;
 pub mod numbers;
 pub mod rules;
+pub mod salvage;
 pub mod sample;
 pub mod sheet;
 pub mod sound;
@@ -34,6 +36,7 @@ pub use clock::{clock_read, Clock};
 pub use moves::{back, up};
 pub use numbers::{Settings, CEILING};
 pub use rules::{Answer, Phase, State};
+pub use salvage::{salvage, Salvaged};
 pub use sound::{first_broken, Rule};
 pub use tables::{Flight, Guest, Tables, Waiting};
 pub use wake::wake;

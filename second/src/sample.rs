@@ -1,5 +1,5 @@
-//! Random numbers, settings, tables and batches, for tests and for the
-//! traces.
+//! Random numbers, settings, tables and batches, and damage to them and to
+//! traces, for tests and for the traces.
 
 use crate::batch::{ANSWER_NUMBERS, EVENT_NUMBERS, MOST_EVENTS};
 use crate::calls::{read, table_refusal};
@@ -8,8 +8,9 @@ use crate::numbers::{
     Settings, CEILING, MOST_COST, MOST_CREDIT, MOST_RATE, MOST_STEP, RULE_1, RULE_2, SECOND,
 };
 use crate::rules::State;
+use crate::salvage::MOST_AHEAD;
 use crate::tables::{Flight, Gate, Guest, Tables, View, Waiting, FLIGHT_NUMBERS, WAITING_NUMBERS};
-use crate::trace::{ARRIVAL, COMPLETION, TICK};
+use crate::trace::{ARRIVAL, COMPLETION, EVENT_BYTES, TICK};
 
 /// A small generator of numbers (splitmix64): the same seed, the same run.
 #[derive(Clone)]
@@ -543,5 +544,72 @@ fn damage(rng: &mut Prng, event: &mut [u64; EVENT_NUMBERS]) {
         5 => event[4] = bad_cost(rng),
         6 => *event = [tick, 0, 0, time, any_cost(rng)],
         _ => *event = [3, 64, 64, 64, 64].map(|bits| rng.sized(bits)),
+    }
+}
+
+/// Where the time stands in the bytes of an event.
+const TIME_AT: usize = 6;
+
+/// Hurts so many in a hundred whole events: another first byte, a tick that
+/// has a guest, another time.
+pub fn tear_events(rng: &mut Prng, percent: u64, events: &mut [u8]) {
+    for event in events.chunks_exact_mut(EVENT_BYTES) {
+        if rng.chance(percent) {
+            match rng.below(10) {
+                0 => event[0] = rng.any() as u8,
+                1 => event[0] |= rng.pick(&[3, 4, 128]),
+                2 => event[..3].copy_from_slice(&[TICK, rng.below(2) as u8, 1]),
+                _ => tear_time(rng, event),
+            }
+        }
+    }
+}
+
+/// A time an hour ahead or more, before its own, or above the ceiling.
+fn tear_time(rng: &mut Prng, event: &mut [u8]) {
+    let mut bytes = [0; 8];
+    bytes.copy_from_slice(&event[TIME_AT..EVENT_BYTES]);
+    let time = u64::from_le_bytes(bytes);
+    let away = rng.sized(44);
+    let other = match rng.below(12) {
+        0 => time.saturating_add(MOST_AHEAD),
+        1 => time.saturating_add(MOST_AHEAD + 1),
+        2..=3 => time.saturating_add(MOST_AHEAD + away),
+        4 => time.saturating_sub(1),
+        5..=6 => time.saturating_sub(away),
+        7 => rng.pick(&[CEILING, CEILING + 1, u64::MAX]),
+        8..=10 => CEILING + 1 + rng.sized(63),
+        _ => rng.sized(64),
+    };
+    event[TIME_AT..].copy_from_slice(&other.to_le_bytes());
+}
+
+/// One tear behind a place of a trace: bytes lost, a page that is zeros, bits
+/// flipped, rubbish, or bytes written twice.
+pub fn tear(rng: &mut Prng, start: usize, bytes: &mut Vec<u8>) {
+    let length = (bytes.len() - start) as u64;
+    if length == 0 {
+        return;
+    }
+    let at = start + rng.below(length) as usize;
+    // Where whole events are lost, those behind the gap can still be read.
+    let whole = EVENT_BYTES as u64 * rng.between(1, 20);
+    let some = rng.between(1, 200);
+    let size = rng.pick(&[whole, whole, some, 64]) as usize;
+    let end = bytes.len().min(at + size);
+    match rng.below(8) {
+        0..=2 => drop(bytes.drain(at..end)),
+        3..=4 => bytes[at..end].fill(0),
+        5 => {
+            for _ in 0..rng.between(1, 8) {
+                let at = at + rng.below((end - at) as u64) as usize;
+                bytes[at] ^= 1 << rng.below(8);
+            }
+        }
+        6 => bytes[at..end].fill_with(|| rng.any() as u8),
+        _ => {
+            let twice = bytes[at..end].to_vec();
+            bytes.splice(end..end, twice);
+        }
     }
 }

@@ -281,7 +281,7 @@ pub enum Next {
 }
 
 impl Next {
-    fn from_bytes(version: Version, bytes: &[u8]) -> Next {
+    pub(crate) fn from_bytes(version: Version, bytes: &[u8]) -> Next {
         match bytes.try_into() {
             Ok(whole) => Next::Event(Event::from_bytes(version, whole)),
             Err(_) => Next::Cut,

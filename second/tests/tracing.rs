@@ -289,7 +289,9 @@ fn every_kind_is_fixed_by_its_seed() {
 #[test]
 fn kinds_of_both_versions() {
     let header_of = |kind: &str, seed| Header::read(&trace(kind, seed).unwrap());
-    for kind in ["small", "ceiling", "jumps", "waits", "cut", "garbage"] {
+    for kind in [
+        "small", "ceiling", "jumps", "waits", "cut", "garbage", "torn",
+    ] {
         for seed in 0..20 {
             assert_eq!(header_of(kind, seed).unwrap().version, Version::One);
             let two = header_of(&format!("{kind}2"), seed).unwrap();

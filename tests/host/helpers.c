@@ -1,6 +1,6 @@
 /* What header.c does not try of sgq.h: tables of no records, counts taken from arrays, free places and waiting counts,
- * when to wake, the rules for limits, costs, many events in one call, traces moved from one version to the other, and a
- * short clock. C99 and C++ alike; prints a line for each thing that is not as it should be. */
+ * when to wake, the rules for limits, costs, many events in one call, traces moved from one version to the other and
+ * salvaged, and a short clock. C99 and C++ alike; prints a line for each thing that is not as it should be. */
 #include "sgq.h"
 
 #include <inttypes.h>
@@ -249,6 +249,57 @@ static void moves(void)
     same("the words of it", (uint64_t)strlen(sgq_refusal_text(moved.refusal)), 70);
 }
 
+/* The bytes of an event with this first byte, at this time. */
+static void put_event(uint8_t *at, uint8_t first, uint64_t time)
+{
+    memset(at, 0, SGQ_EVENT_BYTES);
+    at[0] = first;
+    for (size_t place = 0; place < sizeof time; place++)
+        at[6 + place] = (uint8_t)(time >> 8 * place);
+}
+
+/* A torn trace with an event of each reason, and two that are kept; then rooms that are too short. */
+static void salvages(void)
+{
+    enum { HEAD = 21, EVENTS = 6, LONG = HEAD + EVENTS * SGQ_EVENT_BYTES + 1, KEPT = HEAD + 2 * SGQ_EVENT_BYTES };
+    static const uint8_t head[HEAD] = {'S', 'G', 'Q', 1, 0, 4, 1, 8, 0, 100, 0, 0, 0, 250, 0, 0, 0, 1, 0, 0, 0};
+    static const uint64_t hour = UINT64_C(3600000000000);
+    static const struct { uint8_t first; uint64_t time; } events[EVENTS] = {
+        {3, 0}, {2, SGQ_CEILING + 1}, {2, 9}, {2, 8}, {2, 9 + hour + 1}, {2, 9 + hour}};
+    static const sgq_dropped expected[] = {{1, SGQ_DROPPED_KIND},
+                                           {2, SGQ_DROPPED_TIME_ABOVE_CEILING},
+                                           {4, SGQ_DROPPED_TIME_BEHIND},
+                                           {5, SGQ_DROPPED_TIME_AHEAD},
+                                           {7, SGQ_DROPPED_CUT}};
+    enum { ROWS = sizeof expected / sizeof expected[0] };
+    uint8_t torn[LONG], room[LONG];
+    sgq_dropped list[ROWS + 1];
+    memcpy(torn, head, HEAD);
+    for (size_t event = 0; event < EVENTS; event++)
+        put_event(torn + HEAD + event * SGQ_EVENT_BYTES, events[event].first, events[event].time);
+    torn[LONG - 1] = 2;
+    memset(room, 77, sizeof room);
+    memset(list, 77, sizeof list);
+    same("room too short", sgq_salvage_rows(torn, LONG, room, KEPT - 1, list, ROWS).refusal, SGQ_REFUSED_SHORT_ROOM);
+    same("list too short", sgq_salvage_rows(torn, LONG, room, KEPT, list, ROWS - 1).refusal, SGQ_REFUSED_SHORT_ROOM);
+    same("a list of none", sgq_salvage_rows(torn, LONG, room, LONG, NULL, 0).refusal, SGQ_REFUSED_SHORT_ROOM);
+    same("nothing of it is written", (uint64_t)room[0] + (uint8_t)list[0].event, 2 * 77);
+    sgq_salvaged found = sgq_salvage_rows(torn, LONG, room, sizeof room, list, SGQ_COUNT(list));
+    same("salvaged", found.refusal, 0);
+    same("bytes that are kept", found.written, KEPT);
+    same("the first that is kept", (uint64_t)(memcmp(room + HEAD, torn + HEAD + 2 * SGQ_EVENT_BYTES, SGQ_EVENT_BYTES) != 0), 0);
+    same("the room past them", room[KEPT], 77);
+    same("rows", found.rows, ROWS);
+    same("the list", (uint64_t)(memcmp(list, expected, sizeof expected) != 0), 0);
+    same("the list past them", (uint8_t)list[ROWS].reason, 77);
+    same("rows that are enough", (uint64_t)(sgq_most_dropped(LONG) >= EVENTS + 1), 1);
+    found = sgq_salvage_rows(room, KEPT, torn, sizeof torn, NULL, 0);
+    same("a second pass", found.refusal + found.rows + found.written, KEPT);
+    same("no trace", sgq_salvage_rows(torn, 8, room, sizeof room, NULL, 0).refusal, SGQ_REFUSED_TRACE_HEADER_CUT);
+    same("the words of a reason", (uint64_t)strlen(sgq_reason_text(SGQ_DROPPED_TIME_AHEAD)), 51);
+    same("the words of none", (uint64_t)strlen(sgq_reason_text(6)), 9);
+}
+
 /* A short clock from zeros, across the wrap, up to the ceiling and no further. */
 static void clocks(void)
 {
@@ -277,6 +328,7 @@ int main(void)
     costs();
     batches();
     moves();
+    salvages();
     clocks();
     return wrong;
 }

@@ -67,7 +67,7 @@ pub enum Phase {
 #[non_exhaustive]
 #[repr(u64)]
 pub enum Refusal {
-    /// "a setting is out of range, when opening".
+    /// "a setting is out of range, when opening"; of a move or a salvage, in the header of the trace.
     Setting = 1,
     /// "a lent table, or at opening the lent list of guest settings, is shorter than the settings need". A
     /// [`crate::Gate`] lends tables of the right length, so it never gives this.
@@ -88,11 +88,11 @@ pub enum Refusal {
     TagAboveCeiling = 9,
     /// "completion: guest has no such id in flight".
     NotInFlight = 10,
-    /// Of a move: "trace mark". It does not begin with the letters `SGQ`.
+    /// Of a move or a salvage: "trace mark". It does not begin with the letters `SGQ`.
     TraceMark = 11,
-    /// Of a move: "trace version". It is not of the version that is moved.
+    /// Of a move or a salvage: "trace version". It is not of the version that is moved; of a salvage, neither 1 nor 2.
     TraceVersion = 12,
-    /// Of a move: "trace header cut short".
+    /// Of a move or a salvage: "trace header cut short".
     TraceHeaderCut = 13,
     /// "event kind above 2, or a tick with non-zero guest or id", or an id of more than 32 bits, or a completion or tick
     /// with a cost: an event of a batch that is none. The makers of [`crate::Event`] make no such one.
@@ -107,7 +107,7 @@ pub enum Refusal {
     Cost = 18,
     /// Of a move; document 02, K9: "a version 2 trace that has another rule, credit or cost cannot go back".
     NoWayBack = 19,
-    /// Of a move; document 02, K9: "room too short".
+    /// Of a move; document 02, K9: "room too short". Of a salvage; K12: "lent room for trace or list too short".
     ShortRoom = 21,
 }
 

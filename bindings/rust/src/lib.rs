@@ -68,7 +68,8 @@
 //! # }
 //! ```
 //!
-//! A trace of events goes from one version to the other by [`trace_up`] and [`trace_back`], which know no gate.
+//! A trace of events goes from one version to the other by [`trace_up`] and [`trace_back`], and what a torn one still has
+//! is kept by [`salvage`](fn@salvage); they know no gate.
 //!
 //! A board that counts microseconds in 32 bits has a [`Clock`], which tells the time that a gate takes:
 //!
@@ -92,7 +93,7 @@
 //! # What is proved
 //!
 //! The library's calls are. This wrapper is not: it keeps the tables, passes them on as pointers and lengths, and gives
-//! the answers names. Its `unsafe` blocks are those eight calls.
+//! the answers names. Its `unsafe` blocks are those nine calls.
 
 #![deny(missing_docs, unsafe_op_in_unsafe_fn)]
 
@@ -101,12 +102,14 @@ mod clock;
 mod gate;
 mod moves;
 pub mod raw;
+mod salvage;
 
 pub use answer::{Answer, Outcome, Phase, Refusal};
 pub use clock::Clock;
 pub use gate::{Answers, Gate, Rule};
 pub use moves::{trace_back, trace_up, NotMoved};
-pub use raw::{Event, Flight, Guest, Request, Settings};
+pub use raw::{Dropped, Event, Flight, Guest, Request, Settings};
+pub use salvage::{most_dropped, salvage, Reason, Salvage};
 
 /// "Time and tags are whole nanoseconds, 0 to 4,611,686,018,427,387,903 (2^62 − 1, the ceiling)."
 pub const CEILING: u64 = (1 << 62) - 1;
@@ -135,3 +138,6 @@ pub const MOST_COST: u64 = 64;
 
 /// By how many bytes a trace grows at the most when it goes up: the rule, and a credit for each of 64 guests.
 pub const MOST_GROWTH: usize = 129;
+
+/// How many bytes an event of a trace has.
+pub const EVENT_BYTES: usize = 14;

@@ -4,6 +4,8 @@
 //! its own signatures say: pointers that are aligned and not null, true lengths, and tables that do not overlap and
 //! that nobody else reads or writes during the call. Nothing is asked of the numbers: any tables may be lent.
 
+use crate::salvage::Reason;
+
 /// How many numbers the gate is.
 pub const GATE_NUMBERS: usize = 7;
 /// How many numbers a guest's settings are.
@@ -18,6 +20,8 @@ pub const FLIGHT_NUMBERS: usize = 2;
 pub const EVENT_NUMBERS: usize = 5;
 /// How many numbers an answer is.
 pub const ANSWER_NUMBERS: usize = 5;
+/// How many numbers a row of the list of a salvage is.
+pub const DROPPED_NUMBERS: usize = 2;
 
 // The records are the rows, with nothing between the numbers: these lines do not compile where that fails.
 const _: () = assert!(numbers_of::<Numbers>() == GATE_NUMBERS);
@@ -27,6 +31,7 @@ const _: () = assert!(numbers_of::<Request>() == REQUEST_NUMBERS);
 const _: () = assert!(numbers_of::<Flight>() == FLIGHT_NUMBERS);
 const _: () = assert!(numbers_of::<Event>() == EVENT_NUMBERS);
 const _: () = assert!(numbers_of::<Answer>() == ANSWER_NUMBERS);
+const _: () = assert!(numbers_of::<Dropped>() == DROPPED_NUMBERS);
 
 const fn numbers_of<T>() -> usize {
     size_of::<T>() / size_of::<u64>()
@@ -223,6 +228,37 @@ pub struct Moved {
     pub event: u64,
 }
 
+/// A row of the list of a salvage: an event that was dropped.
+#[repr(C)]
+#[derive(Clone, Copy, Debug, Default, PartialEq, Eq, Hash)]
+pub struct Dropped {
+    /// Its number in the trace, from 1.
+    pub event: u64,
+    /// The number of the reason; [`crate::Reason`] has names for it.
+    pub reason: u64,
+}
+
+impl Dropped {
+    /// The reason by name, if this is a row that a salvage wrote.
+    #[must_use]
+    pub fn why(&self) -> Option<Reason> {
+        Reason::of(self.reason)
+    }
+}
+
+/// What a salvage answers; [`crate::Salvage`] has names for it.
+#[must_use = "a salvage may be refused"]
+#[repr(C)]
+#[derive(Clone, Copy, Debug, Default, PartialEq, Eq)]
+pub struct Salvaged {
+    /// The refusal number, or 0.
+    pub refusal: u64,
+    /// How many bytes were written at the beginning of the room; 0 in a refusal.
+    pub written: u64,
+    /// How many rows were written at the beginning of the list, [`DROPPED_NUMBERS`] each; 0 in a refusal.
+    pub rows: u64,
+}
+
 /// A clock for a board that counts microseconds in 32 bits; [`crate::Clock`] keeps one.
 #[repr(C)]
 #[derive(Clone, Copy, Debug, Default, PartialEq, Eq)]
@@ -337,6 +373,17 @@ extern "C" {
         room: *mut u8,
         room_length: usize,
     ) -> Moved;
+
+    /// The good events of a trace as a trace, and the list of those that are dropped, in numbers. Trace, room and list do
+    /// not overlap.
+    pub fn sgq_salvage(
+        trace: *const u8,
+        trace_length: usize,
+        room: *mut u8,
+        room_length: usize,
+        list: *mut u64,
+        list_length: usize,
+    ) -> Salvaged;
 
     /// A reading of a board's counter, which moves the clock on.
     pub fn sgq_clock_read(clock: *mut Clock, reading: u32) -> Told;

@@ -4,3 +4,4 @@ pub mod Runs
 pub mod Wakes
 pub mod Batches
 pub mod MovedOnce
+pub mod SalvagedOnce

@@ -1,6 +1,7 @@
 // What a C or Rust host links: the calls over numbers, under the names of include/sgq.h. The gate is seven numbers (depth, guests,
 // capacity, time, waiting, flight, rule), the answer five (kind, guest, id, refusal, wake). Each call takes whatever it is handed.
 mod clocks; // the reading of a short clock
+mod salvages; // the salvage of a torn trace
 mod traces; // the moves of a trace
 
 use batch::numbers::Batched;

@@ -34,7 +34,7 @@ use Rattle.moved.proofs.First.{none-tells, none-told}
 
 -- TESTS BEHIND TESTS
 
-behind : {cs ds : List Test} {ks ls : List Case} → Tested cs ks → Tested ds ls → Tested (cs ++ ds) (ks ++ ls)
+pub behind : {cs ds : List Test} {ks ls : List Case} → Tested cs ks → Tested ds ls → Tested (cs ++ ds) (ks ++ ls)
 behind end t = t
 behind (unless h k) t = unless h (λ e. behind (k e) t)
 

@@ -29,7 +29,7 @@ use Rattle.moved.specs.declared.Moved.the-variants.{Written, Refused}
 
 -- TESTS BEHIND TESTS
 
-judged-refuse : (xs ys : List Test) (r : Refusal) → judged xs ≡ refuse r → judged (xs ++ ys) ≡ refuse r
+pub judged-refuse : (xs ys : List Test) (r : Refusal) → judged xs ≡ refuse r → judged (xs ++ ys) ≡ refuse r
 judged-refuse [] ys r e = absurd (false≢true (sym (ap isAccept e)))
 judged-refuse (x ∷ xs) ys r e = go (x .holds) (judged-refuse xs ys r) e
   where
@@ -68,7 +68,7 @@ unfolding headerTestsFor
 header-number from to bs r e = ltb-true (numberOf r) 14 (of-all (λ s. ltb (numberOf s) 14) (headerTestsFor from to bs) refl r e)
 
 -- the verdict that a header shows
-header-verdict : (from to : ℕ) (bs : List ℕ) (r : Refusal) → headerFor from to bs ≡ Unopened r → judged (headerTestsFor from to bs) ≡ refuse r
+pub header-verdict : (from to : ℕ) (bs : List ℕ) (r : Refusal) → headerFor from to bs ≡ Unopened r → judged (headerTestsFor from to bs) ≡ refuse r
 header-verdict from to bs r h = go (judged (headerTestsFor from to bs)) refl
   where
     go : (v : Verdict) → judged (headerTestsFor from to bs) ≡ v → judged (headerTestsFor from to bs) ≡ refuse r
@@ -86,10 +86,10 @@ header-refused from to bs room r h =
 
 -- A GOOD HEADER
 
-pub header-accepts : (from : ℕ) (bs : List ℕ) (v d n c r : ℕ) → headerFor from from bs ≡ Opened v d n c r → judged (headerTestsFor from from bs) ≡ accept
-header-accepts from bs v d n c r h = go (judged (headerTestsFor from from bs)) refl
+pub header-accepts : (from to : ℕ) (bs : List ℕ) (v d n c r : ℕ) → headerFor from to bs ≡ Opened v d n c r → judged (headerTestsFor from to bs) ≡ accept
+header-accepts from to bs v d n c r h = go (judged (headerTestsFor from to bs)) refl
   where
-    go : (w : Verdict) → judged (headerTestsFor from from bs) ≡ w → judged (headerTestsFor from from bs) ≡ accept
+    go : (w : Verdict) → judged (headerTestsFor from to bs) ≡ w → judged (headerTestsFor from to bs) ≡ accept
     go accept e = e
     go (refuse s) e = let q : Unopened s ≡ Opened v d n c r = rw e at h in let z : _≡_ {A = ℕ} 0 1 = cc in absurd (omega arith)
 
@@ -106,7 +106,7 @@ header-headed from bs v d n c r h =
 
 -- then what stands behind it decides
 pub behind-header : (from to : ℕ) (bs : List ℕ) (room v d n c r : ℕ) → headerFor from from bs ≡ Opened v d n c r → judged (moveTests from to bs room) ≡ judged (bodyTests to bs room)
-behind-header from to bs room v d n c r h = judged-accept (headerTestsFor from from bs) (bodyTests to bs room) (header-accepts from bs v d n c r h)
+behind-header from to bs room v d n c r h = judged-accept (headerTestsFor from from bs) (bodyTests to bs room) (header-accepts from from bs v d n c r h)
 
 -- the bytes of the events, as a part of the trace
 pub rest-is : (v n r : ℕ) (bs : List ℕ) → Headed v n r bs → (at : ℕ) → at ≡ body v n → take (length bs - at) (drop at bs) ≡ eventBytes bs

@@ -29,6 +29,7 @@ use Rattle.records.proofs.Lawful.{records-lawful}
 use Rattle.host.proofs.Once.{four-once, fifth-once, open-once}
 use Rattle.host.proofs.Runs.{through-exactly, through-open-exactly, through-opened, through-run, through-in-order, through-demand-3, through-worth}
 use Rattle.host.proofs.MovedOnce.{trace-once}
+use Rattle.host.proofs.SalvagedOnce.{salvage-once}
 use Rattle.host.proofs.Wakes.{through-wakes, through-refused-wakes, through-opening-wakes, through-refused-opening-wakes}
 use Rattle.trace.proofs.HeaderExactly.{header-exactly}
 use Rattle.trace.proofs.LineExactly.{line-exactly, line-numbers, table-sound}
@@ -36,6 +37,10 @@ use Rattle.trace.proofs.NoCredit.{no-credit}
 use Rattle.moved.proofs.Exactly.{move-exactly, bad-event, dear-event}
 use Rattle.moved.proofs.Theorems.{accepted-leaves, up-back, back-up, up-printed, back-printed, once, untouched}
 use Rattle.moved.proofs.Upward.{well-formed-goes-up}
+use Rattle.salvage.proofs.Exactly.{salvage-exactly}
+use Rattle.salvage.proofs.Reasons.{rightly, rightly-once}
+use Rattle.salvage.proofs.Rows.{listed, all-told}
+use Rattle.salvage.proofs.Theorems.{good-leaves, clean-leaves, second-leaves, well-formed, old-order, once as salvaged-once, untouched as salvaged-untouched}
 use Rattle.trace.proofs.RuleOne.{rule-kept, rule-1}
 use Rattle.trace.proofs.Order.{trace-in-order}
 use Rattle.trace.proofs.Demand3.{trace-demand-3-places}
@@ -55,7 +60,7 @@ use Rattle.clock.proofs.Exactly.{read-exactly, refusal-keeps as reading-keeps, 
 use Rattle.clock.proofs.Once.{read-once}
 use Rattle.clock.proofs.Rising.{never-falls}
 use Rattle.clock.proofs.TrueTime.{true-time, first-past, unseen}
-use Rattle.promises.proofs.Promises.{OnTheRules, OverLent, OfABatch, ThroughC, OfATrace, OfTheMoves, OfTheSheet, OfTheClock, Promises}
+use Rattle.promises.proofs.Promises.{OnTheRules, OverLent, OfABatch, ThroughC, OfATrace, OfTheMoves, OfTheSalvage, OfTheSheet, OfTheClock, Promises}
 
 rules-kept : OnTheRules
 rules-kept =
@@ -180,6 +185,24 @@ move-back-kept =
       moved-untouched = untouched 2 1;
     }
 
+salvage-kept : OfTheSalvage
+salvage-kept =
+    record {
+      salvaged-exactly = salvage-exactly;
+      rightly = rightly;
+      rightly-once = rightly-once;
+      listed = listed;
+      all-told = all-told;
+      salvaged-leaves = good-leaves;
+      clean-stays = clean-leaves;
+      second-pass = second-leaves;
+      well-formed = well-formed;
+      old-order = old-order;
+      salvaged-once = salvaged-once;
+      salvaged-once-as-c = salvage-once;
+      salvaged-untouched = salvaged-untouched;
+    }
+
 sheet-kept : OfTheSheet
 sheet-kept =
     record {
@@ -220,6 +243,7 @@ promises =
       of-the-move-up = move-up-kept;
       of-the-move-back = move-back-kept;
       goes-up = well-formed-goes-up;
+      of-the-salvage = salvage-kept;
       of-the-sheet = sheet-kept;
       of-the-clock = clock-kept;
     }

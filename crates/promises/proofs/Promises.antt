@@ -3,7 +3,7 @@
 use Prim.Native.Nat.{ℕ, _+_, _*_, _^_, _≤_, _<_}
 use mathlib.Core.Path.{_≡_}
 use mathlib.Core.Bool.{Bool, true, false, not}
-use mathlib.Core.List.{List, [], _∷_, _++_, map}
+use mathlib.Core.List.{List, [], _∷_, _++_, map, List·Memᴰ}
 use mathlib.Core.Logic.{_↔_, _⊎_}
 use lib.ListN.{length, take, drop}
 use lib.Seq.{sets}
@@ -56,8 +56,9 @@ use Rattle.gate.proofs.Lending.{numbers-lawful}
 use Rattle.gate.specs.Replies.{fourOf, never, fifthOf}
 use Rattle.host.specs.Host.{gateIn, hosted}
 use Rattle.host.specs.Calls.{Lent, inside, shownBy, through, kept, heldBy, fours, Refuses, Takes, freeFours}
-use Rattle.host.specs.Traces.{threeOf}
+use Rattle.host.specs.Traces.{threeOf, mendedOf}
 use Rattle.host.specs.declared.traces.Carried.{Carried}
+use Rattle.host.specs.declared.salvages.Mended.{Mended}
 use Rattle.host.proofs.Runs.{ThroughRuns}
 use Rattle.host.proofs.Once.{Timely, Back}
 use Rattle.clock.specs.declared.Clock.{Clock}
@@ -77,6 +78,10 @@ use Rattle.moved.specs.Cases.{Dear, moveCases, FirstEvent, WellFormed}
 use Rattle.moved.specs.declared.Moved.{Moved}
 use Rattle.moved.proofs.Exactly.{refusalIn}
 use Rattle.moved.proofs.Theorems.{writtenIn}
+use Rattle.salvage.specs.Result.{keptIn, rowsIn, salvaged, listOf}
+use Rattle.salvage.specs.Salvages.{salvagedShown, salvages}
+use Rattle.salvage.specs.Cases.{eventsIn, reasonAt, pieces, rowAt, Rightly, Clean, salvageCases, Untouched, InOrder}
+use Rattle.salvage.specs.declared.Salvaged.{Salvaged}
 use Rattle.batch.specs.Rows.{countOf, answerWide}
 use Rattle.batch.specs.Promise.{BatchIn, outcomes, batchTests, batchedIn, seenBatchIn}
 use Rattle.batch.specs.Batches.{Batch, batchCases, Refuses as RefusesAll, Takes as TakesAll, goods, good, allDone, heldBatches, freeAnswers}
@@ -243,6 +248,34 @@ pub record OfTheMoves (from to : ℕ) : Type 0 where
   pub moved-untouched : (bs room : List ℕ)
       → (length (moves from to bs room .1) ≡ length room) × (drop (writtenIn (moves from to bs room)) (moves from to bs room .1) ≡ drop (writtenIn (moves from to bs room)) room)
 
+-- OF THE SALVAGE of a torn trace, of any bytes, any room and any list: document 02, K12
+
+pub record OfTheSalvage : Type 0 where
+  -- each number exactly where its condition holds and none before it does
+  pub salvaged-exactly : (bs room list : List ℕ)
+      → RefusedExactly (salvageCases bs (length room) (length list)) (λ n. (0 < n) × (refusalIn (salvages bs room list .0) ≡ n)) (refusalIn (salvages bs room list .0) ≡ 0)
+  -- each event is kept exactly where no reason fits and else dropped for the first that does, which no other judgement is right of; the list has just these
+  pub rightly : (bs : List ℕ) → Rightly (reasonAt bs) bs
+  pub rightly-once : (bs : List ℕ) (a b : ℕ → ℕ) → Rightly a bs → Rightly b bs → (k : ℕ) → k < eventsIn bs → a k ≡ b k
+  pub listed : (bs : List ℕ) (k r : ℕ) → List·Memᴰ (rowAt k r) (rowsIn bs) ↔ ((k < eventsIn bs) × (0 < r) × (reasonAt bs k ≡ r))
+  pub all-told : (bs : List ℕ) → length (keptIn bs) + length (rowsIn bs) * 14 ≡ eventsIn bs * 14
+  pub salvaged-leaves : (bs room list : List ℕ) → NoneHolds (headerCases bs) → length (salvaged bs) ≤ length room → length (listOf bs) ≤ length list
+      → salvages bs room list ≡ (0 ∷ length (salvaged bs) ∷ length (rowsIn bs) ∷ [], sets room 0 (salvaged bs), sets list 0 (listOf bs))
+  -- K12: "A trace in which no event meets a reason comes out byte for byte, with an empty list; a second pass drops nothing."
+  pub clean-stays : (bs : List ℕ) → NoneHolds (headerCases bs) → Clean bs → (room list : List ℕ) → length bs ≤ length room
+      → salvages bs room list ≡ (0 ∷ length bs ∷ 0 ∷ [], sets room 0 bs, list)
+  pub second-pass : (bs : List ℕ) → NoneHolds (headerCases bs) → (room list : List ℕ) → length (salvaged bs) ≤ length room
+      → salvages (salvaged bs) room list ≡ (0 ∷ length (salvaged bs) ∷ 0 ∷ [], sets room 0 (salvaged bs), list)
+  -- what comes out is a well-formed trace of the same version, its events in the old order
+  pub well-formed : (bs : List ℕ) → NoneHolds (headerCases bs) → WellFormed (versionOf bs) (salvaged bs)
+  pub old-order : (bs : List ℕ) → NoneHolds (headerCases bs) → InOrder (pieces (salvaged bs)) (pieces bs)
+  pub salvaged-once : (bs room list : List ℕ) (a b : Salvaged) (xs ys zs ws : List ℕ) → (salvagedShown a, xs, zs) ≡ salvages bs room list
+      → (salvagedShown b, ys, ws) ≡ salvages bs room list → (a ≡ b) × (xs ≡ ys) × (zs ≡ ws)
+  pub salvaged-once-as-c : (bs room list : List ℕ) (r s : Mended) (xs ys zs ws : List ℕ) → (mendedOf r, xs, zs) ≡ salvages bs room list
+      → (mendedOf s, ys, ws) ≡ salvages bs room list → (r ≡ s) × (xs ≡ ys) × (zs ≡ ws)
+  -- K12: "Room past the results is unchanged"; "nothing written" when refused
+  pub salvaged-untouched : (bs room list : List ℕ) → Untouched (salvages bs room list) room list
+
 -- OF THE SHEET
 
 pub record OfTheSheet : Type 0 where
@@ -288,5 +321,6 @@ pub record Promises : Type 0 where
   pub of-the-move-back : OfTheMoves 2 1
   -- K9: "work on well-formed traces only", and on each of version 1 that has room
   pub goes-up : (bs : List ℕ) (room : ℕ) → WellFormed 1 bs → length (movedBytes 2 bs) ≤ room → judged (moveTests 1 2 bs room) ≡ accept
+  pub of-the-salvage : OfTheSalvage
   pub of-the-sheet : OfTheSheet
   pub of-the-clock : OfTheClock

@@ -1,7 +1,7 @@
 //! Hands random tables, most of them damaged, to each call of the library through the C interface, and compares the
 //! answer and every number of every table afterwards with the second program; then plays whole runs on sound tables,
-//! and hands batches of events over sound and damaged tables; then moves traces from one version to the other, and reads
-//! short clocks.
+//! and hands batches of events over sound and damaged tables; then moves traces from one version to the other, salvages
+//! torn ones, and reads short clocks.
 //!
 //!     host-tests [FIRST]     the seeds begin at FIRST, 1 where none is named
 //!
@@ -14,6 +14,7 @@ mod clocks;
 mod damage;
 mod fence;
 mod moves;
+mod salvage;
 mod tally;
 
 use calls::{broken_rule, hold, Fences};
@@ -65,6 +66,7 @@ fn main() -> ExitCode {
     clean(first, &mut fences, &mut tally);
     batched(first, &mut fences, &mut tally);
     moves::moved(first, &mut tally);
+    salvage::salvaged(first, &mut tally);
     clocks::test(first, &mut tally);
     println!("{} passed, {} failed", tally.passed, tally.failed);
     ExitCode::from(if tally.failed == 0 { 0 } else { 1 })

@@ -7,7 +7,7 @@ use std::collections::BTreeMap;
 /// Where nearly all fail, a few lines tell as much as thousands.
 const MOST_SHOWN: u64 = 20;
 
-/// The refusals that only the move of a trace gives.
+/// The refusals that only a call on a trace gives; a move gives all of them.
 pub const OF_MOVES: [Refusal; 6] = [
     Refusal::TraceMark,
     Refusal::TraceVersion,

@@ -1,0 +1,11 @@
+pub mod Counts
+pub mod Parts
+pub mod Verdicts
+pub mod Fields
+pub mod Reasons
+pub mod Rows
+pub mod Again
+pub mod Heads
+pub mod Exactly
+pub mod Theorems
+pub mod Example

@@ -1,0 +1,5 @@
+pub mod Fates
+pub mod Result
+pub mod Salvages
+pub mod Judging
+pub mod Cases
