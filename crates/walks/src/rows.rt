@@ -37,7 +37,7 @@ pub struct Firsts {
     pub open: Found,
 }
 
-// A bit where a test holds, else none. Joined to a tag that does not count it lifts the tag past every bound, and no processor has to guess the test.
+// A bit where a test holds, else none. Joined to a tag that does not count it lifts the tag past every bound, so that nothing need branch on the test.
 fn bit_where(test: bool, bit: u64) -> u64
     ensures { λ r. ⌜ r ≡ (if test then bit else 0) ⌝ }
 {
