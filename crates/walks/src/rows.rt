@@ -179,17 +179,17 @@ fn collect(waiting: &[u64], count: usize, known: usize, rows: &mut [u16]) -> usi
     let used = count * WAITING_WIDE;
     let mut seen: u64 = 0;
     let mut n: usize = 0;
-    let mut at: usize = 0;
-    while at < used {
-        let guest = waiting[at + GUEST];
-        rows[n] = at as u16;
+    let mut row: usize = 0;
+    while row < used {
+        let guest = waiting[row + GUEST];
+        rows[n] = row as u16;
         let bit = bit_of(seen, guest);
         n += 1 - (bit as usize);
         seen = with_bit(seen, guest);
         if n == known {
             return n;
         }
-        at += WAITING_WIDE;
+        row += WAITING_WIDE;
     }
     n
 }

@@ -9,11 +9,11 @@ use Rattle.walks.proofs.rows.collect.Statement.{statement}
 use Rattle.walks.proofs.rows.collect.Tie as tie
 
 abbrev Inv-loop : tie.InvT-loop
-Inv-loop waiting count known rows₀ used seen₀ n₀ at₀ rows seen n at =
-    Collecting waiting known count rows seen n at × (length rows ≡ length rows₀) × (n ≤ known) × (at < used → n < known)
+Inv-loop waiting count known rows₀ used seen₀ n₀ row₀ rows seen n row =
+    Collecting waiting known count rows seen n row × (length rows ≡ length rows₀) × (n ≤ known) × (row < used → n < known)
 
 abbrev μ-loop : tie.MeasureT-loop
-μ-loop waiting count known rows₀ used seen₀ n₀ at₀ rows seen n at = used - at
+μ-loop waiting count known rows₀ used seen₀ n₀ row₀ rows seen n row = used - row
 
 mul-used : tie.Need-mul-used Inv-loop μ-loop
 mul-used c = omega arith
@@ -67,7 +67,7 @@ abbrev Step : tie.After-with-bit Inv-loop μ-loop → Type 0
 Step c =
     let s = c .before .before .before .before .loop in
     let a = c .before .before .before .before .before .before .before .args in
-    Collecting (a .waiting .now) (a .known) (a .count) (set (s .rows) (s .n) (s .at)) (c .with-bit .result) (s .n + (1 - c .before .bit-of .result)) (s .at + waitingWide)
+    Collecting (a .waiting .now) (a .known) (a .count) (set (s .rows) (s .n) (s .row)) (c .with-bit .result) (s .n + (1 - c .before .bit-of .result)) (s .row + waitingWide)
 
 step : (c : tie.After-with-bit Inv-loop μ-loop) → Step c
 step c =
@@ -81,7 +81,7 @@ step c =
 same-length : tie.Need-same-length Inv-loop μ-loop
 same-length c =
     let s = c .before .before .before .before .before .loop in
-    length-set (s .rows) (s .n) (s .at) ∙ s .inv .1
+    length-set (s .rows) (s .n) (s .row) ∙ s .inv .1
 
 returns : tie.Need-returns Inv-loop μ-loop
 returns c =
@@ -90,8 +90,8 @@ returns c =
     let one = step (c .before) in
     (omega (arith, one .left), collecting-all (a .waiting .now) (a .known) (a .count) one (start .pre .1) (omega (arith, c .if1 .taken)))
 
-add-at : tie.Need-add-at Inv-loop μ-loop
-add-at c = omega arith
+add-row : tie.Need-add-row Inv-loop μ-loop
+add-row c = omega arith
 
 loop-less : tie.Need-loop-less Inv-loop μ-loop
 loop-less c = omega arith
@@ -100,7 +100,7 @@ loop-again : tie.Need-loop-again Inv-loop μ-loop
 loop-again c =
     let s = c .before .before .before .before .before .loop in
     let one = step (c .before) in
-    (one, length-set (s .rows) (s .n) (s .at) ∙ s .inv .1, omega (arith, one .left), λ more. omega (arith, one .left, c .if1 .left))
+    (one, length-set (s .rows) (s .n) (s .row) ∙ s .inv .1, omega (arith, one .left), λ more. omega (arith, one .left, c .if1 .left))
 
 same-length-2 : tie.Need-same-length-2 Inv-loop μ-loop
 same-length-2 c = c .before .loop .inv .1
@@ -131,7 +131,7 @@ collect-spec =
     with-bit-requires
     same-length
     returns
-    add-at
+    add-row
     loop-less
     loop-again
     same-length-2
