@@ -48,6 +48,14 @@ module _ (g : Gate) (gs ws fs : List ℕ) (k : Known g gs ws fs) where
     ((f .owners, rising-rows g gs ws fs k, λ j h. omega (arith, f .lawfuls j h .share, ap Request.stag (row-is g gs ws fs k j h))), f .timed),
   )
 
+  -- and of the latest limit tag that the reservation phase lets pass
+  pub latest-asks : (latest : ℕ) → latest ≡ (if eqb (g .setup .rule) 2 then g .time else ceiling) → latest ≤ ceiling
+  latest-asks latest e = go (eqb (g .setup .rule) 2) e
+    where
+      go : (b : Bool) → latest ≡ (if b then g .time else ceiling) → latest ≤ ceiling
+      go true q = omega (arith, q, f .timed)
+      go false q = omega (arith, q)
+
   -- an unlimited guest's limit tags are 0
   pub limit-zero : (j : ℕ) → j < length (t .waiting) → limited (settingsOf (t .guests) (at (t .waiting) j)) ≡ false → (at (t .waiting) j) .ltag ≡ 0
   unfolding kept

@@ -1,9 +1,11 @@
 pub mod Walks
 pub mod WalksLaws
 pub mod WalksRows
+pub mod Marks
 pub mod Unseen
 pub mod Lifted
 pub mod InLine
+pub mod Collected
 pub mod Ready
 pub mod LeastLaws
 pub mod Survey

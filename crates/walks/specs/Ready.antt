@@ -20,8 +20,8 @@ use Rattle.table.specs.View.{guestForm, requestForm, guestsOf, waitingOf}
 use Rattle.walks.specs.Walks.{Owned, Rising, LimitsFit, readyBy, readyUnder, readyByTag}
 use Rattle.walks.specs.WalksLaws.{Holds, Walk, walk-start, walk-take, walk-pass, walk-behind}
 use Rattle.walks.specs.WalksRows.{row-from}
-use Rattle.walks.specs.Unseen.{unseen, unseen-some, kept-to-end}
-use Rattle.walks.specs.InLine.{Stood, Marks, marks-start, marks-later, marks-mark}
+use Rattle.walks.specs.Unseen.{markIn, unseen, unseen-some, kept-to-end}
+use Rattle.walks.specs.Marks.{Stood, Marks, marks-start, marks-later, marks-mark}
 
 -- the limit tag, where it is no later than the reservation tag
 pub ready-limited : (r a l : ℕ) → l ≤ a → l ≡ readyBy r a l
@@ -169,10 +169,10 @@ module _ (gs ws : List ℕ) (known count time rule : ℕ) where
 
   -- where every guest is marked, the rows that are left change nothing: the walk may end
   pub ready-rest : {seen : List ℕ} {first from : ℕ} → InReady gs ws known count time rule seen first from
-      → Owned ws count known → known ≤ mostGuests → Rising ws count → unseen seen known ≡ 0 → InReady gs ws known count time rule seen first (count * waitingWide)
+      → Owned ws count known → known ≤ mostGuests → Rising ws count → unseen (markIn seen) known ≡ 0 → InReady gs ws known count time rule seen first (count * waitingWide)
   ready-rest {seen} {first} {from} l owned few rising none =
       kept-to-end (InReady gs ws known count time rule seen first) count
-      (λ at more k. ready-skip k more owned few rising (λ z. omega (arith, none, unseen-some seen known (getD ws (at + GUEST) 0) (ready-known k more owned) z)))
+      (λ at more k. ready-skip k more owned few rising (λ z. omega (arith, none, unseen-some (markIn seen) known (getD ws (at + GUEST) 0) (ready-known k more owned) z)))
       (count - l .row) from (omega (arith, l .begins, l .inside)) l
 
   -- behind the last row it holds the time to wake

@@ -1,5 +1,5 @@
 -- `by_reservation` meets its contract: what the walk found due goes, and else the weight phase chooses. Assumes nothing.
-use Rattle.choose.proofs.Phases.{line-asks}
+use Rattle.choose.proofs.Phases.{line-asks, latest-asks}
 use Rattle.choose.proofs.Returns.{due-here, one-due, none-due}
 use borrow.Author.Needs.{needs}
 use Rattle.choose.proofs.by_reservation.Statement.{statement}
@@ -11,7 +11,8 @@ latest-limit-requires c κs = search needs
 first-in-line-requires : tie.Need-first-in-line-requires
 first-in-line-requires c κs =
     let s = c .before .before .before .before .before .before in
-    line-asks (s .args .gate) (s .args .guests .now) (s .args .waiting .now) (s .args .flight .now) (s .pre .0)
+    let l = line-asks (s .args .gate) (s .args .guests .now) (s .args .waiting .now) (s .args .flight .now) (s .pre .0) in
+    (l .0, (l .1 .0, (l .1 .1, latest-asks (s .args .gate) (s .args .guests .now) (s .args .waiting .now) (s .args .flight .now) (s .pre .0) _ (c .before .before .latest-limit .ensures))))
 
 enum-known-found : tie.Need-enum-known-found
 enum-known-found c = search needs

@@ -1,6 +1,6 @@
 -- `hearing::hear_choice` meets its contract, by what the walk finds. Assumes nothing.
 use native.Mathlib.Omega.{arith}
-use Rattle.choose.proofs.Phases.{line-asks}
+use Rattle.choose.proofs.Phases.{line-asks, latest-asks}
 use Rattle.judge.proofs.Heard.{choice-full, due-at, choice-due, open-at, choice-open, choice-none}
 use borrow.Author.Needs.{needs}
 use Rattle.judge.proofs.hearing.hear_choice.Statement.{statement}
@@ -21,7 +21,10 @@ latest-limit-requires : tie.Need-latest-limit-requires
 latest-limit-requires c κs = search needs
 
 first-in-line-requires : tie.Need-first-in-line-requires
-first-in-line-requires c κs = let s = c .before .before .before .before .before .before .before .before .before .before in line-asks (s .args .gate) (s .args .guests .now) (s .args .waiting .now) (s .args .flight .now) (s .pre .0)
+first-in-line-requires c κs =
+    let s = c .before .before .before .before .before .before .before .before .before .before in
+    let l = line-asks (s .args .gate) (s .args .guests .now) (s .args .waiting .now) (s .args .flight .now) (s .pre .0) in
+    (l .0, (l .1 .0, (l .1 .1, latest-asks (s .args .gate) (s .args .guests .now) (s .args .waiting .now) (s .args .flight .now) (s .pre .0) _ (c .before .before .latest-limit .ensures))))
 
 enum-known-found : tie.Need-enum-known-found
 enum-known-found c = search needs

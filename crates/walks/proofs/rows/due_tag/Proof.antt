@@ -20,15 +20,6 @@ mul-none-2 c = search needs
 shared-slice-read-none : tie.Need-shared-slice-read-none
 shared-slice-read-none c = search needs
 
-add-late : tie.Need-add-late
-add-late c = search needs
-
-mul-late : tie.Need-mul-late
-mul-late c = search needs
-
-shared-slice-read-late : tie.Need-shared-slice-read-late
-shared-slice-read-late c = search needs
-
 add-result : tie.Need-add-result
 add-result c = search needs
 
@@ -41,15 +32,24 @@ shared-slice-read-result c = search needs
 bit-where-requires : tie.Need-bit-where-requires
 bit-where-requires c κs = search needs
 
-bit-where-requires-2 : tie.Need-bit-where-requires-2
-bit-where-requires-2 c κs = search needs
+add-after : tie.Need-add-after
+add-after c = search needs
+
+mul-after : tie.Need-mul-after
+mul-after c = search needs
+
+shared-slice-read-after : tie.Need-shared-slice-read-after
+shared-slice-read-after c = search needs
+
+after-requires : tie.Need-after-requires
+after-requires c κs = search needs
 
 returns : tie.Need-returns
 returns c =
     let a = c .before .before .before .before .before .before .before .args in
     let w = a .waiting .now in
     due-lifted (guestAt (a .guests .now) (a .guest) RESERVATION) (getD w (a .at + RTAG) 0) (getD w (a .at + LTAG) 0) (a .latest) 9223372036854775808
-    (c .before .bit-where .ensures) (c .bit-where2 .ensures) (lit< tt)
+    (c .before .before .bit-where .ensures) (c .after .ensures) (lit< tt)
 
 pub due-tag-spec : {M : Type 1} → statement M
 due-tag-spec =
@@ -59,12 +59,12 @@ due-tag-spec =
     add-none
     mul-none-2
     shared-slice-read-none
-    add-late
-    mul-late
-    shared-slice-read-late
     add-result
     mul-result
     shared-slice-read-result
     bit-where-requires
-    bit-where-requires-2
+    add-after
+    mul-after
+    shared-slice-read-after
+    after-requires
     returns)

@@ -5,13 +5,13 @@ use mathlib.Core.Logic.{⊎-elim}
 use native.Mathlib.Omega.{arith}
 use lib.ListN.{getD, set}
 use Rattle.table.specs.Columns.{GUEST, waitingWide}
-use Rattle.walks.specs.Unseen.{unseen, unseen-most, unseen-some, unseen-mark}
+use Rattle.walks.specs.Unseen.{markIn, marked-set, unseen, unseen-most, unseen-some, unseen-mark}
 use Rattle.walks.specs.Ready.{InReady, ready-start, ready-known, ready-now, ready-take, ready-pass, ready-skip, ready-rest, ready-end}
 use Rattle.walks.proofs.wake.soonest.Statement.{statement}
 use Rattle.walks.proofs.wake.soonest.Tie as tie
 
 abbrev Inv-loop : tie.InvT-loop
-Inv-loop waiting count guests known time rule used seen₀ first₀ left₀ at₀ seen first left at = InReady guests waiting known count time rule seen first at × (unseen seen known ≤ left)
+Inv-loop waiting count guests known time rule used seen₀ first₀ left₀ at₀ seen first left at = InReady guests waiting known count time rule seen first at × (unseen (markIn seen) known ≤ left)
 
 abbrev μ-loop : tie.MeasureT-loop
 μ-loop waiting count guests known time rule used seen₀ first₀ left₀ at₀ seen first left at = used - at
@@ -52,7 +52,7 @@ sub-left c =
     let s = turn .before .loop in
     let start = turn .before .before .before .before in
     let a = start .args in
-    omega (arith, s .inv .1, unseen-some (s .seen) (a .known) _ (ready-known (a .guests .now) (a .waiting .now) (a .known) (a .count) (a .time) (a .rule) (s .inv .0) (turn .loop-test .taken) (start .pre .1 .0 .0)) (c .if1 .taken))
+    omega (arith, s .inv .1, unseen-some (markIn (s .seen)) (a .known) _ (ready-known (a .guests .now) (a .waiting .now) (a .known) (a .count) (a .time) (a .rule) (s .inv .0) (turn .loop-test .taken) (start .pre .1 .0 .0)) (c .if1 .taken))
 
 ready-under-requires : tie.Need-ready-under-requires Inv-loop μ-loop
 ready-under-requires c κs =
@@ -74,7 +74,7 @@ First c =
     let s = c .before .before .before .before .before .before .loop in
     let a = c .before .before .before .before .before .before .before .before .before .args in
     let seen = set (s .seen) (getD (a .waiting .now) (s .at + GUEST) 0) 1 in
-    InReady (a .guests .now) (a .waiting .now) (a .known) (a .count) (a .time) (a .rule) seen (c .if3 .first) (s .at + waitingWide) × (unseen seen (a .known) ≤ s .left - 1)
+    InReady (a .guests .now) (a .waiting .now) (a .known) (a .count) (a .time) (a .rule) seen (c .if3 .first) (s .at + waitingWide) × (unseen (markIn seen) (a .known) ≤ s .left - 1)
 
 first-row : (c : tie.Joined3 Inv-loop μ-loop) → First c
 first-row c =
@@ -87,7 +87,7 @@ first-row c =
     let more = turn .loop-test .taken in
     let owned = start .pre .1 .0 .0 in
     let k = ready-known g w (a .known) (a .count) (a .time) (a .rule) (s .inv .0) more owned in
-    let marked = unseen-mark (s .seen) (a .known) (getD w (s .at + GUEST) 0) k (omega (arith, k, s .inv .0 .marks .long)) (c .before .before .before .if1 .taken) in (
+    let marked = unseen-mark (markIn (s .seen)) _ (a .known) (getD w (s .at + GUEST) 0) (marked-set (s .seen) _ (omega (arith, k, s .inv .0 .marks .long))) k (c .before .before .before .if1 .taken) in (
       ⊎-elim
           (λ u. rw (u .1) (ready-take g w (a .known) (a .count) (a .time) (a .rule) (s .inv .0) more owned _ (c .before .before .ready-under .ensures) (c .before .if2 .left) (u .0 .taken)))
           (λ u. rw (u .1) (ready-pass g w (a .known) (a .count) (a .time) (a .rule) (s .inv .0) more owned _ (c .before .before .ready-under .ensures) (u .0 .left)))
