@@ -1,9 +1,10 @@
 /* sgq.h: the proved disc gate, for a host in C99 or C++11.
  *
  * The gate holds the requests of 1 to 64 guests for one disc array and decides, after each event, whether one goes to
- * the array: at most one. Events are an arrival (guest, id, time, cost), a completion (guest, id, time) and a tick
- * (time), one in a call or up to 256. Each answer also says when to tick. The rules are document 01's, as document 02
- * has changed them; words in quotes are document 01's own, where no other is named.
+ * the array: at most one. Events are an arrival (guest, id, time, cost, delta, rho), a completion (guest, id, time) and a
+ * tick (time), one in a call or up to 256. Each answer also says when to tick. A house with up to 8 arrays has a gate for
+ * each, and calls that count between them. The rules are document 01's, as document 02 has changed them; words in quotes
+ * are document 01's own, where no other is named.
  *
  * The library keeps nothing between calls. The host lends it the gate and three tables at each call, and must not
  * change them in between: every call tests that they are sound and refuses with a number where they are not. "Every
@@ -13,8 +14,9 @@
  * - A pointer is never NULL, points to 64-bit numbers, to bytes of a trace or of lines or to a clock, and the length beside
  *   it is true. A length is a count of numbers or of bytes in the calls, and a count of records in the helpers below, where a
  *   table of no records may be NULL.
- * - The gate, the tables, events and answers do not overlap, nor a trace and what is lent beside it, and nobody else
- *   reads or writes them during a call, nor a clock. Calls on different gates and clocks may run at the same time.
+ * - The gate, the tables, events and answers do not overlap, nor counters and phases with them, nor a trace and what is
+ *   lent beside it, and nobody else reads or writes them during a call, nor a clock. Calls on different gates and clocks
+ *   may run at the same time; calls on arrays of one house may not, since all are lent its counters.
  *
  * The library is for x86-64 Linux. Link the archive where it is built, or what 'make install' installs:
  *   cc -Iinclude host.c target/staticlib/libhost.a
@@ -29,7 +31,7 @@
 /* The version of this header and of the library that it belongs to. While the major number is 0, another minor number
  * means other calls or other rows. SGQ_VERSION is the text "MAJOR.MINOR.PATCH". */
 #define SGQ_VERSION_MAJOR 0
-#define SGQ_VERSION_MINOR 10
+#define SGQ_VERSION_MINOR 11
 #define SGQ_VERSION_PATCH 0
 #define SGQ_VERSION \
     SGQ_TEXT_OF(SGQ_VERSION_MAJOR) "." SGQ_TEXT_OF(SGQ_VERSION_MINOR) "." SGQ_TEXT_OF(SGQ_VERSION_PATCH)
@@ -73,6 +75,11 @@ extern "C" {
  * "Cost 1 is the old gate." */
 #define SGQ_MOST_COST 64
 
+/* The largest delta and rho of an arrival, where counting stops; and the most arrays of a house. Document 02, K14: "Larger
+ * houses spread a guest over up to 8 arrays". "One and one give the old gate." */
+#define SGQ_MOST_DELTA 65535
+#define SGQ_MOST_ARRAYS 8
+
 /* The rule for limits, chosen at opening and kept by the gate. Under rule 1, document 01's, a request that is due by
  * reservation goes though its limit lies ahead: "The limit is not looked at." Rule 2 is for houses that bill by limit.
  * Document 02, K7: "Under rule 2 the reservation phase also wants the request unlimited or its limit tag at or before
@@ -88,8 +95,9 @@ enum sgq_rule {
 #define SGQ_GUEST_NUMBERS 7
 #define SGQ_REQUEST_NUMBERS 6
 #define SGQ_FLIGHT_NUMBERS 2
-#define SGQ_EVENT_NUMBERS 5
+#define SGQ_EVENT_NUMBERS 7
 #define SGQ_ANSWER_NUMBERS 5
+#define SGQ_COUNTER_NUMBERS 2
 #define SGQ_DROPPED_NUMBERS 2
 
 /* The gate: what it was opened with, the time and the counts. "A fresh table has time 0, nothing waiting or in
@@ -144,13 +152,16 @@ typedef struct sgq_flight {
     uint64_t id;
 } sgq_flight;
 
-/* An event of a batch. A tick has guest 0 and id 0; only an arrival has a cost, in the others it is 0. */
+/* An event of a batch. A tick has guest 0 and id 0; only an arrival has a cost, a delta and a rho, in the others they are
+ * 0. */
 typedef struct sgq_event {
     uint64_t kind; /* enum sgq_event_kind */
     uint64_t guest;
-    uint64_t id;   /* 32 bits */
-    uint64_t time; /* in nanoseconds */
-    uint64_t cost; /* 1 to 64 in an arrival, else 0 */
+    uint64_t id;    /* 32 bits */
+    uint64_t time;  /* in nanoseconds */
+    uint64_t cost;  /* 1 to 64 in an arrival, else 0 */
+    uint64_t delta; /* 1 to 65,535 in an arrival, else 0 */
+    uint64_t rho;   /* 0 to delta */
 } sgq_event;
 
 /* The kinds of event, as a trace has them. */
@@ -189,11 +200,15 @@ enum sgq_kind {
 /* The refusal numbers, each with the condition of document 01's table. Where several hold, the first in the call's
  * order is given:
  *   opening     depth, guests, capacity and the rule (1), lengths (2), guest settings (1)
- *   arrival     2, 3, 4, 5, 6, 18, 7, 8, 9
+ *   arrival     2, 3, 4, 5, 6, 18, 20, 7, 8, 9
  *   completion  2, 3, 4, 5, 6, 10
  *   tick        2, 3, 5, 6
  *   batch       16, 17; then each event by itself: 14, and then as the call of its kind
  *   clock       5
+ *   in a house with several arrays
+ *     opening   the number of arrays and the array (22), and then as above, counters and phases among the lengths
+ *     event     the number of arrays (22), lengths of counters and phases (2), their numbers (3), 4, the array (22), and
+ *               then as the call of its kind; 20 is never given
  * "Settings inside an open table are judged by 3; to know the lengths needed, guests, depth and capacity out of range
  * give 3 at once." No length depends on the rule, so in an open gate it is judged after 2. */
 enum sgq_refusal {
@@ -214,7 +229,8 @@ enum sgq_refusal {
     SGQ_REFUSED_TRACE_VERSION = 12,    /* "trace version" */
     SGQ_REFUSED_TRACE_HEADER_CUT = 13, /* "trace header cut short" */
     SGQ_REFUSED_EVENT_KIND = 14,       /* "event kind above 2, or a tick with non-zero guest or id"; in a batch also an
-                                        * id of more than 32 bits, or a completion or tick with a cost */
+                                        * id of more than 32 bits, or a completion or tick with a cost, a delta or a
+                                        * rho */
     SGQ_REFUSED_TRACE_EVENT_CUT = 15,  /* "last event cut short" */
 
     /* Of a whole batch; document 02, K5. */
@@ -226,8 +242,15 @@ enum sgq_refusal {
 
     /* Of the move of a trace; document 02, K9. There 14 is also "for a non-zero upper part or kind 3". */
     SGQ_REFUSED_NO_WAY_BACK = 19, /* "a version 2 trace that has another rule, credit or cost cannot go back" */
-    SGQ_REFUSED_SHORT_ROOM = 21   /* "room too short"; of a salvage, document 02, K12: "lent room for trace or list too
-                                   * short" */
+
+    /* Of an arrival; document 02, K14: "after 18". */
+    SGQ_REFUSED_DELTA = 20, /* "delta outside 1 to 65,535 or rho above delta" */
+
+    SGQ_REFUSED_SHORT_ROOM = 21, /* of a move, document 02, K9: "room too short"; of a salvage, K12: "lent room for trace or
+                                  * list too short" */
+
+    /* Of a house with several arrays; document 02, K14. */
+    SGQ_REFUSED_ARRAY = 22 /* "1 to 8 arrays, else 22"; "an array not there" */
 };
 
 /* The calls. A table is a pointer to numbers and how many there are; it may be longer than the settings need: "Places
@@ -249,12 +272,19 @@ SGQ_MUST_USE sgq_answer sgq_open(uint64_t *gate, uint64_t depth, uint64_t guests
  * not be what arrived. "An id may be used again after its completion." The cost may be any number; one outside 1 to 64
  * is refused, 18. Document 02, K8: "A next number becomes tag plus cost times spacing, and after a weight send the
  * guest's reservation tags drop by the sent request's cost times the spacing." So a request's own tags do not read its
- * cost; those of the guest's next requests do. */
+ * cost; those of the guest's next requests do.
+ *
+ * Delta and rho are 1 and 1 where the guest has one array: then this is the gate without them. Where it is spread over
+ * several, they say what the others have done for it meanwhile, and the calls sgq_arrays_ work them out. Document 02, K14:
+ * "limit and share next numbers are first raised by (delta - 1) spacings; the reservation's by (rho - 1) spacings, so for
+ * rho 0 it falls by one, never below 0." The spacings are plain ones, whatever the request costs. They may be any numbers;
+ * a delta outside 1 to 65,535 or a rho above delta is refused, 20. */
 SGQ_MUST_USE sgq_answer sgq_arrive(uint64_t *gate,
                                    uint64_t *guest_table, size_t guest_table_length,
                                    uint64_t *waiting, size_t waiting_length,
                                    uint64_t *flight, size_t flight_length,
-                                   uint64_t guest, uint32_t id, uint64_t time, uint64_t cost);
+                                   uint64_t guest, uint32_t id, uint64_t time, uint64_t cost, uint64_t delta,
+                                   uint64_t rho);
 
 /* "A completion takes the named request out of flight, then the choice is made." */
 SGQ_MUST_USE sgq_answer sgq_complete(uint64_t *gate,
@@ -283,6 +313,69 @@ SGQ_MUST_USE uint64_t sgq_batch(uint64_t *gate,
                                 uint64_t *flight, size_t flight_length,
                                 const uint64_t *events, size_t events_length,
                                 uint64_t *answers, size_t answers_length);
+
+/* A house whose guests are spread over several arrays, each with a gate of its own. The calls below count between the
+ * arrays, hand what they have counted to the gate of the array that they name, and give its answer. Document 02, K14: "The
+ * host side counts, for each guest and array, completions anywhere since its last request to that array, or since the start
+ * (delta), and those of them sent by reservation (rho); both stop at 65,535, and a delta of 0 goes out as 1." So a
+ * reservation, a limit and shares are the guest's at all arrays together. A guest's completions alone count for it, and what
+ * is refused counts nothing.
+ *
+ * Each call says how many arrays there are, 1 to SGQ_MOST_ARRAYS, and which one it is of, from 0, and is lent the gate, the
+ * tables and the phases of that array and the counters of all:
+ * - Counters are SGQ_COUNTER_NUMBERS for each guest at each array; guest g at array a has record a * guests + g.
+ * - Phases are a number for each of the depth's places in flight: SGQ_SENT_BY_RESERVATION or SGQ_SENT_BY_WEIGHT, as the
+ *   request there was sent, and 0 where the place is not used.
+ * Both are judged as tables are: 2 where they are too short, 3 where a counter is above 65,535, a rho above its delta, or
+ * the phases are not those of as many requests as are in flight. Places beyond the need are neither read nor changed.
+ *
+ * The guests and their settings are the same at every array, and the host sees to it: a call is lent one array and cannot
+ * tell. Depth, capacity and rule may differ. Each array has its own time, and each answer says when to tick that array. */
+
+/* What is counted for a guest at an array. */
+typedef struct sgq_counter {
+    uint64_t delta; /* its completions at any array since its last accepted request to this one, or since the start */
+    uint64_t rho;   /* those of them that were sent by reservation */
+} sgq_counter;
+
+/* sgq_open for an array: it opens its gate and sets its counters and phases to 0. The counters of the other arrays may hold
+ * anything, and stay. All arrays are opened before one is used, since the calls of events judge all counters. An array that
+ * is opened again counts anew, and the others go on. */
+SGQ_MUST_USE sgq_answer sgq_arrays_open(uint64_t *gate, uint64_t arrays, uint64_t array,
+                                        uint64_t depth, uint64_t guests, uint64_t capacity, uint64_t rule,
+                                        const uint64_t *settings, size_t settings_length,
+                                        uint64_t *guest_table, size_t guest_table_length,
+                                        uint64_t *waiting, size_t waiting_length,
+                                        uint64_t *flight, size_t flight_length,
+                                        uint64_t *counters, size_t counters_length,
+                                        uint64_t *phases, size_t phases_length);
+
+/* sgq_arrive at an array, with what was counted for the guest there; that is 0 again from then on. */
+SGQ_MUST_USE sgq_answer sgq_arrays_arrive(uint64_t *gate, uint64_t arrays, uint64_t array,
+                                          uint64_t *guest_table, size_t guest_table_length,
+                                          uint64_t *waiting, size_t waiting_length,
+                                          uint64_t *flight, size_t flight_length,
+                                          uint64_t *counters, size_t counters_length,
+                                          uint64_t *phases, size_t phases_length,
+                                          uint64_t guest, uint32_t id, uint64_t time, uint64_t cost);
+
+/* sgq_complete at an array: it counts for its guest at all of them. */
+SGQ_MUST_USE sgq_answer sgq_arrays_complete(uint64_t *gate, uint64_t arrays, uint64_t array,
+                                            uint64_t *guest_table, size_t guest_table_length,
+                                            uint64_t *waiting, size_t waiting_length,
+                                            uint64_t *flight, size_t flight_length,
+                                            uint64_t *counters, size_t counters_length,
+                                            uint64_t *phases, size_t phases_length,
+                                            uint64_t guest, uint32_t id, uint64_t time);
+
+/* sgq_tick at an array. */
+SGQ_MUST_USE sgq_answer sgq_arrays_tick(uint64_t *gate, uint64_t arrays, uint64_t array,
+                                        uint64_t *guest_table, size_t guest_table_length,
+                                        uint64_t *waiting, size_t waiting_length,
+                                        uint64_t *flight, size_t flight_length,
+                                        uint64_t *counters, size_t counters_length,
+                                        uint64_t *phases, size_t phases_length,
+                                        uint64_t time);
 
 /* The moves of a trace from one version to the other. They know no gate: a pointer is to bytes here, and a length counts
  * bytes. A trace and its room do not overlap. */
@@ -466,16 +559,24 @@ SGQ_MUST_USE static inline sgq_answer sgq_tables_open_all(const sgq_tables *lent
                            settings_count);
 }
 
-/* sgq_arrive over records. */
-SGQ_MUST_USE static inline sgq_answer sgq_tables_arrive(const sgq_tables *lent, uint64_t guest, uint32_t id,
-                                                        uint64_t time, uint64_t cost)
+/* sgq_arrive over records, of a guest that is spread over several arrays. */
+SGQ_MUST_USE static inline sgq_answer sgq_tables_arrive_spread(const sgq_tables *lent, uint64_t guest, uint32_t id,
+                                                               uint64_t time, uint64_t cost, uint64_t delta,
+                                                               uint64_t rho)
 {
     uint64_t spare = 0;
     return sgq_arrive(&lent->gate->depth,
                       sgq_guest_numbers(lent, &spare), lent->guest_count * SGQ_GUEST_NUMBERS,
                       sgq_waiting_numbers(lent, &spare), lent->waiting_count * SGQ_REQUEST_NUMBERS,
                       sgq_flight_numbers(lent, &spare), lent->flight_count * SGQ_FLIGHT_NUMBERS,
-                      guest, id, time, cost);
+                      guest, id, time, cost, delta, rho);
+}
+
+/* sgq_arrive over records, of a guest that has one array: delta and rho are 1. */
+SGQ_MUST_USE static inline sgq_answer sgq_tables_arrive(const sgq_tables *lent, uint64_t guest, uint32_t id,
+                                                        uint64_t time, uint64_t cost)
+{
+    return sgq_tables_arrive_spread(lent, guest, id, time, cost, 1, 1);
 }
 
 /* sgq_complete over records. */
@@ -514,23 +615,130 @@ SGQ_MUST_USE static inline uint64_t sgq_tables_batch(const sgq_tables *lent, con
                      answer_count == 0 ? &spare : &answers->kind, answer_count * SGQ_ANSWER_NUMBERS);
 }
 
-/* Events for a batch. */
+/* Events for a batch. The second is an arrival of a guest that has one array. */
+static inline sgq_event sgq_arrival_spread(uint64_t guest, uint32_t id, uint64_t time, uint64_t cost, uint64_t delta,
+                                           uint64_t rho)
+{
+    const sgq_event event = {SGQ_ARRIVAL, guest, id, time, cost, delta, rho};
+    return event;
+}
+
 static inline sgq_event sgq_arrival(uint64_t guest, uint32_t id, uint64_t time, uint64_t cost)
 {
-    const sgq_event event = {SGQ_ARRIVAL, guest, id, time, cost};
-    return event;
+    return sgq_arrival_spread(guest, id, time, cost, 1, 1);
 }
 
 static inline sgq_event sgq_completion(uint64_t guest, uint32_t id, uint64_t time)
 {
-    const sgq_event event = {SGQ_COMPLETION, guest, id, time, 0};
+    const sgq_event event = {SGQ_COMPLETION, guest, id, time, 0, 0, 0};
     return event;
 }
 
 static inline sgq_event sgq_tick_at(uint64_t time)
 {
-    const sgq_event event = {SGQ_TICK, 0, 0, time, 0};
+    const sgq_event event = {SGQ_TICK, 0, 0, time, 0, 0, 0};
     return event;
+}
+
+/* What a host with several arrays lends, in records: of all of them the counters, and of the array that a call is of its
+ * number, its tables and its phases. */
+typedef struct sgq_house {
+    uint64_t arrays; /* how many */
+    sgq_counter *counters;
+    size_t counter_count;
+} sgq_house;
+
+typedef struct sgq_array {
+    uint64_t number; /* from 0 */
+    sgq_tables tables;
+    uint64_t *phases;
+    size_t phase_count;
+} sgq_array;
+
+/* A house of so many arrays with an array of counters; and one array of it, with its number, as SGQ_TABLES makes tables:
+ *   sgq_house house = SGQ_HOUSE(4, counters);
+ *   sgq_array first = SGQ_ARRAY(0, gate, guests, waiting, flight, phases); */
+#define SGQ_HOUSE(arrays, counters) {(arrays), (counters), SGQ_COUNT(counters)}
+#define SGQ_ARRAY(number, gate, guests, waiting, flight, phases) \
+    {(number), SGQ_TABLES(gate, guests, waiting, flight), (phases), SGQ_COUNT(phases)}
+
+/* As for tables: where the numbers begin. */
+static inline uint64_t *sgq_counter_numbers(const sgq_house *house, uint64_t *spare)
+{
+    return house->counter_count == 0 ? spare : &house->counters->delta;
+}
+
+static inline uint64_t *sgq_phase_numbers(const sgq_array *lent, uint64_t *spare)
+{
+    return lent->phase_count == 0 ? spare : lent->phases;
+}
+
+/* sgq_arrays_open over records. */
+SGQ_MUST_USE static inline sgq_answer sgq_house_open(const sgq_house *house, const sgq_array *lent, uint64_t depth,
+                                                     uint64_t guests, uint64_t capacity, uint64_t rule,
+                                                     const sgq_settings *settings, size_t settings_count)
+{
+    uint64_t spare = 0;
+    const sgq_tables *tables = &lent->tables;
+    return sgq_arrays_open(&tables->gate->depth, house->arrays, lent->number, depth, guests, capacity, rule,
+                           settings_count == 0 ? &spare : &settings->reservation, settings_count * SGQ_SETTINGS_NUMBERS,
+                           sgq_guest_numbers(tables, &spare), tables->guest_count * SGQ_GUEST_NUMBERS,
+                           sgq_waiting_numbers(tables, &spare), tables->waiting_count * SGQ_REQUEST_NUMBERS,
+                           sgq_flight_numbers(tables, &spare), tables->flight_count * SGQ_FLIGHT_NUMBERS,
+                           sgq_counter_numbers(house, &spare), house->counter_count * SGQ_COUNTER_NUMBERS,
+                           sgq_phase_numbers(lent, &spare), lent->phase_count);
+}
+
+/* sgq_arrays_open over records with every place that is lent, as sgq_tables_open_all. */
+SGQ_MUST_USE static inline sgq_answer sgq_house_open_all(const sgq_house *house, const sgq_array *lent, uint64_t rule,
+                                                         const sgq_settings *settings, size_t settings_count)
+{
+    return sgq_house_open(house, lent, lent->tables.flight_count, settings_count, lent->tables.waiting_count, rule,
+                          settings, settings_count);
+}
+
+/* sgq_arrays_arrive over records. */
+SGQ_MUST_USE static inline sgq_answer sgq_house_arrive(const sgq_house *house, const sgq_array *lent, uint64_t guest,
+                                                       uint32_t id, uint64_t time, uint64_t cost)
+{
+    uint64_t spare = 0;
+    const sgq_tables *tables = &lent->tables;
+    return sgq_arrays_arrive(&tables->gate->depth, house->arrays, lent->number,
+                             sgq_guest_numbers(tables, &spare), tables->guest_count * SGQ_GUEST_NUMBERS,
+                             sgq_waiting_numbers(tables, &spare), tables->waiting_count * SGQ_REQUEST_NUMBERS,
+                             sgq_flight_numbers(tables, &spare), tables->flight_count * SGQ_FLIGHT_NUMBERS,
+                             sgq_counter_numbers(house, &spare), house->counter_count * SGQ_COUNTER_NUMBERS,
+                             sgq_phase_numbers(lent, &spare), lent->phase_count,
+                             guest, id, time, cost);
+}
+
+/* sgq_arrays_complete over records. */
+SGQ_MUST_USE static inline sgq_answer sgq_house_complete(const sgq_house *house, const sgq_array *lent, uint64_t guest,
+                                                         uint32_t id, uint64_t time)
+{
+    uint64_t spare = 0;
+    const sgq_tables *tables = &lent->tables;
+    return sgq_arrays_complete(&tables->gate->depth, house->arrays, lent->number,
+                               sgq_guest_numbers(tables, &spare), tables->guest_count * SGQ_GUEST_NUMBERS,
+                               sgq_waiting_numbers(tables, &spare), tables->waiting_count * SGQ_REQUEST_NUMBERS,
+                               sgq_flight_numbers(tables, &spare), tables->flight_count * SGQ_FLIGHT_NUMBERS,
+                               sgq_counter_numbers(house, &spare), house->counter_count * SGQ_COUNTER_NUMBERS,
+                               sgq_phase_numbers(lent, &spare), lent->phase_count,
+                               guest, id, time);
+}
+
+/* sgq_arrays_tick over records. */
+SGQ_MUST_USE static inline sgq_answer sgq_house_tick(const sgq_house *house, const sgq_array *lent, uint64_t time)
+{
+    uint64_t spare = 0;
+    const sgq_tables *tables = &lent->tables;
+    return sgq_arrays_tick(&tables->gate->depth, house->arrays, lent->number,
+                           sgq_guest_numbers(tables, &spare), tables->guest_count * SGQ_GUEST_NUMBERS,
+                           sgq_waiting_numbers(tables, &spare), tables->waiting_count * SGQ_REQUEST_NUMBERS,
+                           sgq_flight_numbers(tables, &spare), tables->flight_count * SGQ_FLIGHT_NUMBERS,
+                           sgq_counter_numbers(house, &spare), house->counter_count * SGQ_COUNTER_NUMBERS,
+                           sgq_phase_numbers(lent, &spare), lent->phase_count,
+                           time);
 }
 
 /* sgq_salvage with a list of records: room for so many rows. It may be NULL where that is 0. */
@@ -610,7 +818,9 @@ static inline const char *sgq_refusal_text(uint64_t refusal)
     case SGQ_REFUSED_TOO_MANY_EVENTS: return "more than 256 events";
     case SGQ_REFUSED_COST: return "a cost outside 1 to 64";
     case SGQ_REFUSED_NO_WAY_BACK: return "a version 2 trace that has another rule, credit or cost cannot go back";
+    case SGQ_REFUSED_DELTA: return "delta outside 1 to 65,535 or rho above delta";
     case SGQ_REFUSED_SHORT_ROOM: return "room too short";
+    case SGQ_REFUSED_ARRAY: return "not 1 to 8 arrays, or an array not there";
     default: return "no refusal";
     }
 }
@@ -636,6 +846,7 @@ typedef char sgq_request_is_its_row[sizeof(sgq_request) == SGQ_REQUEST_NUMBERS *
 typedef char sgq_flight_is_its_row[sizeof(sgq_flight) == SGQ_FLIGHT_NUMBERS * sizeof(uint64_t) ? 1 : -1];
 typedef char sgq_event_is_its_row[sizeof(sgq_event) == SGQ_EVENT_NUMBERS * sizeof(uint64_t) ? 1 : -1];
 typedef char sgq_answer_is_its_row[sizeof(sgq_answer) == SGQ_ANSWER_NUMBERS * sizeof(uint64_t) ? 1 : -1];
+typedef char sgq_counter_is_its_row[sizeof(sgq_counter) == SGQ_COUNTER_NUMBERS * sizeof(uint64_t) ? 1 : -1];
 typedef char sgq_dropped_is_its_row[sizeof(sgq_dropped) == SGQ_DROPPED_NUMBERS * sizeof(uint64_t) ? 1 : -1];
 typedef char sgq_clock_is_closed_up[sizeof(sgq_clock) == 2 * sizeof(uint64_t) ? 1 : -1];
 typedef char sgq_told_is_closed_up[sizeof(sgq_told) == 2 * sizeof(uint64_t) ? 1 : -1];

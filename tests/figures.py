@@ -1,5 +1,6 @@
 #!/usr/bin/env python3
-"""Holds docs/HOSTS.md to examples/: its figures to what examples/figures prints, its C and its table of costs to the sources there.
+"""Holds docs/HOSTS.md to examples/: its figures to what examples/figures prints, its C and its table of costs to the sources there;
+and what the README says of several arrays to those figures.
 
     python3 tests/figures.py [--mend]     --mend writes the figures that are printed into the page
 
@@ -19,6 +20,7 @@ from machine import before_linked, compiler, is_installed, say_how
 
 EXAMPLES = ROOT / "examples"
 PAGE = ROOT / "docs" / "HOSTS.md"
+README = ROOT / "README.md"
 WARNINGS = ["-Wall", "-Wextra", "-Wpedantic", "-Werror", "-Wshadow", "-Wconversion", "-Wcast-qual"]
 QUOTED = re.compile(r"^(Figures `(\w+)`:\n\n```\n)(.*?)^```$", re.MULTILINE | re.DOTALL)
 CODE = re.compile(r"^```c\n(.*?)^```$", re.MULTILINE | re.DOTALL)
@@ -77,6 +79,13 @@ def test_costs(tally):
     tally.add("the table of costs", None if found == expected and found else f"docs/HOSTS.md has {found}, the example {expected}")
 
 
+def test_readme(tally, figures):
+    """What the README says of a guest that is spread over four arrays."""
+    counted, apart = re.search(r"^200 reserved +4 +200 +(\d+) +(\d+)", figures["arrays"], re.MULTILINE).groups()
+    told = f"200 a second reserved that asks at four arrays gets {counted} in all; at four gates that know nothing of each other it gets {apart}."
+    tally.add("several arrays in the README", None if told in " ".join(README.read_text().split()) else f"it does not say '{told}'")
+
+
 def tests(tally):
     words = sys.argv[1:]
     if words not in ([], ["--mend"]):
@@ -95,6 +104,7 @@ def tests(tally):
     test_figures(tally, figures)
     test_code(tally)
     test_costs(tally)
+    test_readme(tally, figures)
 
 
 sys.exit(run_tests(tests))

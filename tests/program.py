@@ -195,12 +195,17 @@ def test_source(tally):
         above[name.strip()] = set(rest.split())
     wrong = [name for name, stands in above.items() if name != "port" and "tape" in stands]
     tally.add("only port stands on tape", f"{wrong} do too" if wrong else None)
-    for name in ("stream", *PROGRAMS):
+    reading = {name for name, stands in above.items() if stands & {"port", "stream"}}
+    wrong = {"stream", *PROGRAMS} - reading
+    tally.add("both programs read and write by stream", f"not {wrong}" if wrong else None)
+    for name in sorted(reading):
         wrong = above[name] & {"libc", "io", "os"}
         tally.add(f"{name} calls no C", f"it stands on {wrong}" if wrong else None)
         for path in sorted((ROOT / "crates" / name / "src").glob("*.rt")):
             code = "".join(line.split("//")[0] for line in path.read_text().splitlines(keepends=True))
             tally.add(f"{name}/src/{path.name} only lends the count on", "it has '*log'" if "*log" in code else None)
+            if name not in PROGRAMS:
+                tally.add(f"{name}/src/{path.name} starts no count", "it has 'start()'" if "start()" in code else None)
     for name in PROGRAMS:
         main = (ROOT / "crates" / name / "src" / "main.rt").read_text()
         tally.add(f"{name} starts one count", None if main.count("start()") == 1 else "it does not")

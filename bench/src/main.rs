@@ -3,11 +3,12 @@
 //!
 //!     bench-calls WHICH TRACE SKIP COUNT ROUNDS [BATCH [CAPACITY]]
 //!
-//! WHICH is library, second, both or idle. The first SKIP events fill the tables; the COUNT after them are played from there,
+//! WHICH is library, second, both, idle or arrays. The first SKIP events fill the tables; the COUNT after them are played from there,
 //! ROUNDS times, in turn where it is both. The library takes BATCH events in one call; with 0, and where it is not named,
 //! each is a call of its own, as it always is of the second program. CAPACITY stands in for the trace's. idle is the
-//! library on tables with nothing waiting and nothing in flight: the COUNT events are ticks, and none is skipped. Prints
-//! for each round the name and the nanoseconds that the COUNT events took.
+//! library on tables with nothing waiting and nothing in flight: the COUNT events are ticks, and none is skipped; arrays is
+//! the same at the first array of a house that has the most. Prints for each round the name and the nanoseconds that the COUNT
+//! events took.
 //!
 //!     bench-calls moves TRACE ROUNDS
 //!
@@ -30,7 +31,7 @@ mod players;
 mod salvage;
 mod trace;
 
-use players::{after, Batches, Library, Player, Second};
+use players::{after, Arrays, Batches, Library, Player, Second};
 use std::process::ExitCode;
 use std::time::Instant;
 use trace::Trace;
@@ -40,7 +41,7 @@ fn main() -> ExitCode {
     match run(&words) {
         Some(()) => ExitCode::SUCCESS,
         None => {
-            eprintln!("bench-calls library|second|both|idle TRACE SKIP COUNT ROUNDS [BATCH [CAPACITY]], moves|salvage TRACE ROUNDS, lines TRACE, or judge library|second TRACE LINES; TRACE one of 'traces fixed'");
+            eprintln!("bench-calls library|second|both|idle|arrays TRACE SKIP COUNT ROUNDS [BATCH [CAPACITY]], moves|salvage TRACE ROUNDS, lines TRACE, or judge library|second TRACE LINES; TRACE one of 'traces fixed'");
             ExitCode::FAILURE
         }
     }
@@ -69,13 +70,21 @@ fn calls(words: &[&str]) -> Option<()> {
     if let Some(capacity) = more.get(1) {
         trace.capacity = capacity.parse().ok()?;
     }
-    if *which == "idle" {
+    let idle = matches!(*which, "idle" | "arrays");
+    if idle {
         trace.events.drain(..skip);
         trace.events.iter_mut().for_each(to_tick);
     }
-    let skip = if *which == "idle" { 0 } else { skip };
+    let skip = if idle { 0 } else { skip };
     let (first, timed) = trace.events.split_at(skip);
     let start = after(&trace, first);
+    if *which == "arrays" {
+        let arrays = Arrays::new(start);
+        for _ in 0..rounds {
+            let _nothing_to_compare = time("library", &arrays, timed);
+        }
+        return Some(());
+    }
     let library = (*which != "second").then(|| Batches::new(Library(start.clone()), batch));
     let second = matches!(*which, "second" | "both").then_some(Second(start));
     for _ in 0..rounds {

@@ -5,7 +5,7 @@ use second::sample::Owned;
 use second::tables::{Gate as Row, FLIGHT_NUMBERS, WAITING_NUMBERS};
 use second::trace::{Event, ARRIVAL};
 use second::State;
-use sgq::raw;
+use sgq::{raw, MOST_ARRAYS};
 
 pub trait Player {
     /// Plays one event. The number stands for the answer, the same for both players.
@@ -28,9 +28,18 @@ fn folded(kind: u64, guest: u64, id: u64, wake: u64) -> u64 {
     (kind << 60 | guest << 32 | id) ^ wake.rotate_left(17)
 }
 
-/// What an event costs: a trace of version 1 says none, and each arrival costs 1.
-fn cost_of(event: &Event) -> u64 {
-    u64::from(event.kind == ARRIVAL)
+/// The row of an event. A trace of version 1 says no cost, delta or rho: in each arrival all are 1.
+fn row(event: &Event) -> raw::Event {
+    let one = u64::from(event.kind == ARRIVAL);
+    raw::Event {
+        kind: event.kind as u64,
+        guest: event.guest as u64,
+        id: event.id as u64,
+        time: event.time,
+        cost: one,
+        delta: one,
+        rho: one,
+    }
 }
 
 /// The tables as they stand after these events. The second program plays them without the test of soundness, which is
@@ -84,12 +93,9 @@ impl Player for Library {
         // SAFETY: all numbers of the gate, and the tables as long as they are, each in memory of its own.
         let answer = unsafe {
             match event.kind {
-                0 => {
-                    let cost = cost_of(event);
-                    raw::sgq_arrive(
-                        gate, guests, g, waiting, w, flight, f, guest, id, time, cost,
-                    )
-                }
+                0 => raw::sgq_arrive(
+                    gate, guests, g, waiting, w, flight, f, guest, id, time, 1, 1, 1,
+                ),
                 1 => raw::sgq_complete(gate, guests, g, waiting, w, flight, f, guest, id, time),
                 _ => raw::sgq_tick(gate, guests, g, waiting, w, flight, f, time),
             }
@@ -120,13 +126,7 @@ impl Batches {
     /// The rows as a driver fills them, then one call.
     fn play_batch(&mut self, events: &[Event]) {
         self.events.clear();
-        self.events.extend(events.iter().map(|event| raw::Event {
-            kind: event.kind as u64,
-            guest: event.guest as u64,
-            id: event.id as u64,
-            time: event.time,
-            cost: cost_of(event),
-        }));
+        self.events.extend(events.iter().map(row));
         let Owned {
             gate,
             guests,
@@ -183,6 +183,58 @@ fn of_library(answer: raw::Answer) -> u64 {
     folded(answer.kind, answer.guest, named, answer.wake)
 }
 
+/// The library at the first array of a house that has the most. Of events only ticks mean something there: what else a
+/// trace names, another gate has sent.
+#[derive(Clone)]
+pub struct Arrays {
+    tables: Owned,
+    counters: Vec<u64>,
+    phases: Vec<u64>,
+}
+
+impl Arrays {
+    /// On tables with nothing in flight.
+    pub fn new(tables: Owned) -> Arrays {
+        let Row { guests, depth, .. } = tables.view().gate();
+        let rows = (MOST_ARRAYS * guests) as usize;
+        Arrays {
+            tables,
+            counters: vec![0; rows * raw::COUNTER_NUMBERS],
+            phases: vec![0; depth as usize],
+        }
+    }
+}
+
+impl Player for Arrays {
+    fn play(&mut self, event: &Event) -> u64 {
+        let Owned {
+            gate,
+            guests,
+            waiting,
+            flight,
+        } = &mut self.tables;
+        // SAFETY: all numbers of the gate, and all else as long as it is, each in memory of its own.
+        of_library(unsafe {
+            raw::sgq_arrays_tick(
+                gate.as_mut_ptr(),
+                MOST_ARRAYS,
+                0,
+                guests.as_mut_ptr(),
+                guests.len(),
+                waiting.as_mut_ptr(),
+                waiting.len(),
+                flight.as_mut_ptr(),
+                flight.len(),
+                self.counters.as_mut_ptr(),
+                self.counters.len(),
+                self.phases.as_mut_ptr(),
+                self.phases.len(),
+                event.time,
+            )
+        })
+    }
+}
+
 #[derive(Clone)]
 pub struct Second(pub Owned);
 
@@ -191,7 +243,7 @@ impl Player for Second {
         let guest = event.guest as u64;
         let mut lent = self.0.lend();
         let reply = match event.kind {
-            0 => second::arrive(&mut lent, guest, event.id, event.time, cost_of(event)),
+            0 => second::arrive(&mut lent, guest, event.id, event.time, 1, 1, 1),
             1 => second::complete(&mut lent, guest, event.id, event.time),
             _ => second::tick(&mut lent, event.time),
         };

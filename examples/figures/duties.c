@@ -148,6 +148,17 @@ void gates_figures(void)
 
 /* Refusals. */
 
+/* These tables, which are open, as an array of a house. */
+static void refused_arrays(const sgq_tables *lent)
+{
+    uint64_t phases[1] = {SGQ_SENT_BY_WEIGHT}; /* of id 4, which is in flight */
+    sgq_counter counters[1] = {{0, 0}};
+    const sgq_house nine = {9, counters, 1}, one = {1, counters, 1};
+    const sgq_array second = {1, *lent, phases, 1};
+    print_answer("a tick at one of nine arrays", sgq_house_tick(&nine, &second, SGQ_CEILING));
+    print_answer("a tick at array 1 of one", sgq_house_tick(&one, &second, SGQ_CEILING));
+}
+
 void refusals_figures(void)
 {
     const sgq_settings settings[1] = {{0, 1000000, 1, 0}};
@@ -169,6 +180,8 @@ void refusals_figures(void)
     print_answer("a tick at 4 ns", sgq_tables_tick(&lent, 4));
     print_answer("guest 0, id 2 at cost 0", sgq_tables_arrive(&lent, 0, 2, 5, 0));
     print_answer("guest 0, id 2 at cost 65", sgq_tables_arrive(&lent, 0, 2, 5, 65));
+    print_answer("guest 0, id 2 with delta 0", sgq_tables_arrive_spread(&lent, 0, 2, 5, 1, 0, 0));
+    print_answer("guest 0, id 2 with delta 1, rho 2", sgq_tables_arrive_spread(&lent, 0, 2, 5, 1, 1, 2));
     print_answer("guest 0, id 2", sgq_tables_arrive(&lent, 0, 2, 5, 1));
     print_answer("guest 0, id 3", sgq_tables_arrive(&lent, 0, 3, 5, 1));
     print_answer("the end of id 2, which waits", sgq_tables_complete(&lent, 0, 2, 5));
@@ -176,6 +189,7 @@ void refusals_figures(void)
     print_answer("guest 0, id 4 at the ceiling", sgq_tables_arrive(&lent, 0, 4, end, 1));
     print_answer("the end of id 2", sgq_tables_complete(&lent, 0, 2, end));
     print_answer("guest 0, id 5 at the ceiling", sgq_tables_arrive(&lent, 0, 5, end, 1));
+    refused_arrays(&lent);
 }
 
 /* Opening again. */

@@ -42,7 +42,7 @@ static const struct part {
     {"parts", parts_figures},   {"limit", limit_figures},       {"overbooked", overbooked_figures},
     {"reopen", reopen_figures}, {"refusals", refusals_figures}, {"withdrawn", withdrawn_figures},
     {"batch", batch_figures},   {"credit", credit_figures},     {"rules", rules_figures},
-    {"costs", costs_figures},   {"worth", worth_figures},
+    {"costs", costs_figures},   {"worth", worth_figures},       {"arrays", arrays_figures},
 };
 
 int main(void)

@@ -21,6 +21,9 @@ void rules_figures(void);
 void worth_figures(void);
 void costs_figures(void);
 
+/* arrays.c */
+void arrays_figures(void);
+
 /* duties.c */
 void clock_figures(void);
 void ticks_figures(void);

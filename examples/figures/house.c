@@ -13,8 +13,8 @@ void stop_at(const char *what, sgq_answer answer)
     exit(1);
 }
 
-void house_open(struct house *house, uint64_t depth, uint64_t capacity, const sgq_settings *settings, size_t guests,
-                uint64_t servers, uint64_t service)
+/* An array where nobody asks yet, its gate not open. */
+static void build(struct house *house, uint64_t servers, uint64_t service)
 {
     memset(house, 0, sizeof *house);
     house->servers = servers;
@@ -24,10 +24,29 @@ void house_open(struct house *house, uint64_t depth, uint64_t capacity, const sg
         house_weigh(house, guest, 1, 1);
     }
     house->lent = (sgq_tables)SGQ_TABLES(house->gate, house->guests, house->waiting, house->flight);
-    sgq_answer answer = sgq_tables_open(&house->lent, depth, guests, capacity, SGQ_RULE_1, settings, guests);
+}
+
+static void opened(struct house *house, sgq_answer answer)
+{
     if (answer.kind == SGQ_REFUSED)
         stop_at("opening", answer);
     house->wake = answer.wake;
+}
+
+void house_open(struct house *house, uint64_t depth, uint64_t capacity, const sgq_settings *settings, size_t guests,
+                uint64_t servers, uint64_t service)
+{
+    build(house, servers, service);
+    opened(house, sgq_tables_open(&house->lent, depth, guests, capacity, SGQ_RULE_1, settings, guests));
+}
+
+void house_open_array(struct house *house, const sgq_house *whole, uint64_t number, uint64_t depth, uint64_t capacity,
+                      const sgq_settings *settings, size_t guests, uint64_t servers, uint64_t service)
+{
+    build(house, servers, service);
+    house->whole = whole;
+    house->own = (sgq_array){number, house->lent, house->phases, SGQ_COUNT(house->phases)};
+    opened(house, sgq_house_open(whole, &house->own, depth, guests, capacity, SGQ_RULE_1, settings, guests));
 }
 
 void house_load(struct house *house, uint64_t guest, struct load load)
@@ -75,6 +94,29 @@ static size_t place_of(const struct jobs *jobs, uint64_t guest, uint64_t id)
     return place;
 }
 
+/* Events at the gate, or at this array of several. */
+
+static sgq_answer arrive_now(const struct house *house, const struct job *job)
+{
+    if (house->whole != NULL)
+        return sgq_house_arrive(house->whole, &house->own, job->guest, (uint32_t)job->id, house->now, job->cost);
+    return sgq_tables_arrive(&house->lent, job->guest, (uint32_t)job->id, house->now, job->cost);
+}
+
+static sgq_answer complete_now(const struct house *house, const struct job *job)
+{
+    if (house->whole != NULL)
+        return sgq_house_complete(house->whole, &house->own, job->guest, (uint32_t)job->id, house->now);
+    return sgq_tables_complete(&house->lent, job->guest, (uint32_t)job->id, house->now);
+}
+
+static sgq_answer tick_now(const struct house *house)
+{
+    if (house->whole != NULL)
+        return sgq_house_tick(house->whole, &house->own, house->now);
+    return sgq_tables_tick(&house->lent, house->now);
+}
+
 /* Sending. */
 
 /* The server of the array that is free first. */
@@ -104,7 +146,7 @@ static void send_one(struct house *house, sgq_answer answer)
 
 static sgq_answer tick_once(struct house *house)
 {
-    sgq_answer answer = sgq_tables_tick(&house->lent, house->now);
+    sgq_answer answer = tick_now(house);
     house->ticks += 1;
     house->idle_ticks += !sgq_sent(answer);
     return answer;
@@ -142,7 +184,7 @@ static void let_in(struct house *house)
             place++;
             continue;
         }
-        sgq_answer answer = sgq_tables_arrive(&house->lent, job.guest, (uint32_t)job.id, house->now, job.cost);
+        sgq_answer answer = arrive_now(house, &job);
         if (answer.kind == SGQ_REFUSED && answer.refusal == SGQ_REFUSED_WAITING_FULL) {
             house->tally[job.guest].refused += 1;
             return;
@@ -184,7 +226,7 @@ static void complete(struct house *house, size_t place)
     if (tally->longest_whole < house->now - job.asked)
         tally->longest_whole = house->now - job.asked;
     house->events += 1;
-    follow(house, sgq_tables_complete(&house->lent, job.guest, (uint32_t)job.id, house->now));
+    follow(house, complete_now(house, &job));
     if (load->under_way != 0 && house->now < load->until)
         ask(house, job.guest);
     let_in(house);

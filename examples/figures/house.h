@@ -1,6 +1,6 @@
 /* house.h: a simulated house around the gate, for the figures of docs/HOSTS.md: an array, guests that ask, a host that
- * hands events to the gate and keeps a quota. Time is simulated and all is whole numbers, so that the figures are the
- * same on every machine. */
+ * hands events to the gate and keeps a quota; it may be one of several arrays that count between them. Time is simulated and
+ * all is whole numbers, so that the figures are the same on every machine. */
 #ifndef HOUSE_H
 #define HOUSE_H
 
@@ -38,6 +38,9 @@ struct house {
     sgq_request waiting[SGQ_MOST_CAPACITY];
     sgq_flight flight[SGQ_MOST_DEPTH];
     sgq_tables lent;
+    const sgq_house *whole; /* where this is one of several arrays: the counters of all; else NULL */
+    sgq_array own;
+    uint64_t phases[SGQ_MOST_DEPTH];
 
     uint64_t servers, service; /* the array works on so many requests at once, each so long, in order of sending */
     uint64_t server_free[SGQ_MOST_DEPTH];
@@ -54,6 +57,10 @@ struct house {
 /* Opens the gate under rule 1, with an array that works on `servers` requests at once for `service` ns each. */
 void house_open(struct house *house, uint64_t depth, uint64_t capacity, const sgq_settings *settings, size_t guests,
                 uint64_t servers, uint64_t service);
+
+/* The same as an array of a house with several, the one of this number; all of them are opened before one is played. */
+void house_open_array(struct house *house, const sgq_house *whole, uint64_t number, uint64_t depth, uint64_t capacity,
+                      const sgq_settings *settings, size_t guests, uint64_t servers, uint64_t service);
 
 /* Lets a guest ask from now on. */
 void house_load(struct house *house, uint64_t guest, struct load load);

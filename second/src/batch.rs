@@ -7,8 +7,8 @@ use crate::trace::{ARRIVAL, COMPLETION, TICK};
 /// The most events a batch may have.
 pub const MOST_EVENTS: usize = 256;
 
-/// An event in a batch: kind, guest, id, time, cost.
-pub const EVENT_NUMBERS: usize = 5;
+/// An event in a batch: kind, guest, id, time, cost, delta, rho.
+pub const EVENT_NUMBERS: usize = 7;
 
 /// An answer in a batch: kind, guest, id, refusal, time to wake.
 pub const ANSWER_NUMBERS: usize = 5;
@@ -34,17 +34,19 @@ pub fn batch(lent: &mut Tables, events: &[u64], answers: &mut [u64]) -> u8 {
 }
 
 /// One event as a single call. What cannot be one is 14, before the tables
-/// are looked at: also what has a cost and is no arrival. The cost of an
-/// arrival is the call's to judge.
+/// are looked at: also what has a cost, a delta or a rho and is no arrival.
+/// Those of an arrival are the call's to judge.
 fn single(lent: &mut Tables, event: &[u64]) -> Reply {
-    let [kind, guest, id, time, cost] = [event[0], event[1], event[2], event[3], event[4]];
+    let [kind, guest, id, time] = [event[0], event[1], event[2], event[3]];
+    let [cost, delta, rho] = [event[4], event[5], event[6]];
     let Ok(id) = u32::try_from(id) else {
         return Reply::refused(14);
     };
+    let bare = [cost, delta, rho] == [0, 0, 0];
     match u8::try_from(kind) {
-        Ok(ARRIVAL) => arrive(lent, guest, id, time, cost),
-        Ok(COMPLETION) if cost == 0 => complete(lent, guest, id, time),
-        Ok(TICK) if guest == 0 && id == 0 && cost == 0 => tick(lent, time),
+        Ok(ARRIVAL) => arrive(lent, guest, id, time, cost, delta, rho),
+        Ok(COMPLETION) if bare => complete(lent, guest, id, time),
+        Ok(TICK) if bare && guest == 0 && id == 0 => tick(lent, time),
         _ => Reply::refused(14),
     }
 }

@@ -76,8 +76,19 @@ pub fn open(
     }
 }
 
-pub fn arrive(lent: &mut Tables, guest: u64, id: u32, time: u64, cost: u64) -> Reply {
-    play(lent, |state| state.arrive(guest, id, time, cost))
+/// A house with one array has 1 for delta and for rho.
+pub fn arrive(
+    lent: &mut Tables,
+    guest: u64,
+    id: u32,
+    time: u64,
+    cost: u64,
+    delta: u64,
+    rho: u64,
+) -> Reply {
+    play(lent, |state| {
+        state.arrive_spread(guest, id, time, cost, delta, rho)
+    })
 }
 
 pub fn complete(lent: &mut Tables, guest: u64, id: u32, time: u64) -> Reply {

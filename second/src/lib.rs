@@ -7,6 +7,7 @@
 //! - `wake`:    when a tick alone would next send something
 //! - `calls`:   the library calls on lent tables
 //! - `batch`:   many events in one call
+//! - `arrays`:  houses with several arrays, above the calls
 //! - `trace`:   the trace in its two versions and the program that prints it
 //! - `moves`:   the moves from one version to the other
 //! - `salvage`: what is good of a torn trace, and why the rest is not
@@ -16,6 +17,7 @@
 //! - `sample`:  random numbers and random tables, for tests
 //! - `kinds`:   random traces, for tests and benchmarks
 
+pub mod arrays;
 pub mod batch;
 pub mod calls;
 pub mod clock;
@@ -32,6 +34,7 @@ pub mod tables;
 pub mod trace;
 pub mod wake;
 
+pub use arrays::House;
 pub use batch::batch;
 pub use calls::{arrive, complete, open, tick, Reply, NEVER};
 pub use clock::{clock_read, Clock};

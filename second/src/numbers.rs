@@ -15,6 +15,8 @@ pub const MOST_RATE: u64 = 1_000_000;
 pub const MOST_CREDIT: u64 = 256;
 /// The largest cost of a request; the smallest is 1.
 pub const MOST_COST: u64 = 64;
+/// The largest delta and rho of an arrival; the smallest delta is 1.
+pub const MOST_DELTA: u64 = 65_535;
 /// How far a next number may lie behind the last tag.
 pub const MOST_STEP: u64 = MOST_COST * SECOND;
 
@@ -36,6 +38,11 @@ pub fn rule_good(rule: u64) -> bool {
 
 pub fn cost_good(cost: u64) -> bool {
     (1..=MOST_COST).contains(&cost)
+}
+
+/// Is delta in its range, and rho, which counts some of the same, not above?
+pub fn spread_good(delta: u64, rho: u64) -> bool {
+    (1..=MOST_DELTA).contains(&delta) && rho <= delta
 }
 
 /// What a guest is opened with. Reservation 0 is none, limit 0 is unlimited.

@@ -1,10 +1,11 @@
 //! The rules of the gate on a sound state: the events with their refusals,
-//! the adjustment, the stamping, the choice and the drop.
+//! the raise, the adjustment, the stamping, the choice and the drop.
 //!
 //! Soundness is not tested here. In a sound state every sum below fits 64
-//! bits: a tag is below 2^62, a next number below 2^62 + 64 * 10^9.
+//! bits: a tag is below 2^62, a next number at most 2^62 + 64 * 10^9, and one
+//! that is raised at most 65,535 * 10^9 more.
 
-use crate::numbers::{cost_good, Settings, CEILING, RULE_1, RULE_2};
+use crate::numbers::{cost_good, spread_good, Settings, CEILING, RULE_1, RULE_2};
 use crate::tables::{Flight, Guest, Waiting};
 
 #[derive(Clone, Copy, Debug, PartialEq, Eq)]
@@ -76,8 +77,22 @@ impl State {
         }
     }
 
+    /// An arrival in a house with one array: delta and rho are 1.
     pub fn arrive(&mut self, guest: u64, id: u32, t: u64, cost: u64) -> Answer {
-        match self.take_arrival(guest, id, t, cost) {
+        self.arrive_spread(guest, id, t, cost, 1, 1)
+    }
+
+    /// An arrival of a guest that is spread over several arrays.
+    pub fn arrive_spread(
+        &mut self,
+        guest: u64,
+        id: u32,
+        t: u64,
+        cost: u64,
+        delta: u64,
+        rho: u64,
+    ) -> Answer {
+        match self.take_spread(guest, id, t, cost, delta, rho) {
             Ok(()) => self.choose(),
             Err(number) => Answer::Refused(number),
         }
@@ -97,15 +112,35 @@ impl State {
         }
     }
 
-    /// An arrival up to the choice, or its refusal.
+    /// An arrival up to the choice, or its refusal; delta and rho are 1.
     pub fn take_arrival(&mut self, guest: u64, id: u32, t: u64, cost: u64) -> Result<(), u8> {
+        self.take_spread(guest, id, t, cost, 1, 1)
+    }
+
+    /// An arrival with its delta and rho up to the choice, or its refusal.
+    pub fn take_spread(
+        &mut self,
+        guest: u64,
+        id: u32,
+        t: u64,
+        cost: u64,
+        delta: u64,
+        rho: u64,
+    ) -> Result<(), u8> {
         let id = id as u64;
-        if let Some(number) = self.arrival_refusal(guest, id, t, cost) {
+        if let Some(number) = self.named_refusal(guest, t) {
+            return Err(number);
+        }
+        if let Some(number) = asked_refusal(cost, delta, rho) {
+            return Err(number);
+        }
+        if let Some(number) = self.room_refusal(guest, id) {
             return Err(number);
         }
         // Judged before anything is changed: 9 is the last refusal.
         let from = self.adjusted_from(guest);
-        let tags = stamp(&self.guests[guest as usize], self.idle(guest), t);
+        let raised = raised(self.guests[guest as usize], delta, rho);
+        let tags = stamp(&raised, self.idle(guest), t);
         if self.would_pass(from, tags, t) {
             return Err(9);
         }
@@ -161,13 +196,9 @@ impl State {
         }
     }
 
-    /// 4, 5, 6, 18, 7, 8.
-    fn arrival_refusal(&self, guest: u64, id: u64, t: u64, cost: u64) -> Option<u8> {
-        if let Some(number) = self.named_refusal(guest, t) {
-            Some(number)
-        } else if !cost_good(cost) {
-            Some(18)
-        } else if self.holds(guest, id) {
+    /// 7, 8.
+    fn room_refusal(&self, guest: u64, id: u64) -> Option<u8> {
+        if self.holds(guest, id) {
             Some(7)
         } else if self.waiting.len() == self.capacity {
             Some(8)
@@ -299,21 +330,52 @@ impl State {
     }
 
     /// After a weight send of this cost: the guest does not pay its
-    /// reservation for spare service. The sent one was its first, and open,
-    /// so under either rule its reservation tag was not due, and what is left
-    /// lay the cost further on: it stays above the time and cannot fall below
-    /// 0.
+    /// reservation for spare service. Where an arrival had a rho of 0 what is
+    /// left may lie less than the cost behind the sent one, so it may fall to
+    /// the time or before it, and stops at 0 (document 02, K14). The next
+    /// number follows the last that waits.
     fn drop_reservation(&mut self, guest: u64, cost: u64) {
         let record = &mut self.guests[guest as usize];
         if !record.settings.has_reservation() {
             return;
         }
-        let drop = cost * record.settings.reservation_spacing();
-        record.rnext -= drop;
+        let spacing = record.settings.reservation_spacing();
+        let dropped = |number: u64| number.saturating_sub(cost * spacing);
+        record.rnext = dropped(record.rnext);
         for w in self.waiting.iter_mut().filter(|w| w.guest == guest) {
-            w.rtag -= drop;
+            w.rtag = dropped(w.rtag);
+            record.rnext = w.rtag + w.cost * spacing;
         }
     }
+}
+
+/// 18, 20: what an arrival says of itself.
+fn asked_refusal(cost: u64, delta: u64, rho: u64) -> Option<u8> {
+    if !cost_good(cost) {
+        Some(18)
+    } else if !spread_good(delta, rho) {
+        Some(20)
+    } else {
+        None
+    }
+}
+
+/// A guest as an arrival finds it, for what its other arrays did for it since
+/// its last request to this one (document 02, K14): delta - 1 spacings on in
+/// limit and shares, rho - 1 in the reservation. So for a rho of 0 that falls
+/// by one, but not below 0.
+fn raised(guest: Guest, delta: u64, rho: u64) -> Guest {
+    let s = guest.settings;
+    let mut raised = guest;
+    if s.has_reservation() {
+        let spacing = s.reservation_spacing();
+        raised.rnext = (guest.rnext + rho * spacing).saturating_sub(spacing);
+    }
+    if s.has_limit() {
+        raised.lnext += (delta - 1) * s.limit_spacing();
+    }
+    raised.snext += (delta - 1) * s.share_spacing();
+    raised
 }
 
 /// Each tag the guest has is the larger of its next number and t; but for

@@ -1,16 +1,20 @@
 //! Random numbers, settings, tables, batches and lines, and damage to them and
 //! to traces, for tests and for the traces.
 
+use crate::arrays::{House, BY_RESERVATION, BY_WEIGHT, COUNTER_NUMBERS, MOST_ARRAYS};
 use crate::batch::{ANSWER_NUMBERS, EVENT_NUMBERS, MOST_EVENTS};
 use crate::calls::{read, table_refusal};
 use crate::clock::Clock;
 use crate::judge::{answer_line, heading, lines_of, ways, Breaker, Ties};
 use crate::numbers::{
-    Settings, CEILING, MOST_COST, MOST_CREDIT, MOST_RATE, MOST_STEP, RULE_1, RULE_2, SECOND,
+    Settings, CEILING, MOST_COST, MOST_CREDIT, MOST_DELTA, MOST_RATE, MOST_STEP, RULE_1, RULE_2,
+    SECOND,
 };
 use crate::rules::{Answer, Phase, State};
 use crate::salvage::MOST_AHEAD;
-use crate::tables::{Flight, Gate, Guest, Tables, View, Waiting, FLIGHT_NUMBERS, WAITING_NUMBERS};
+use crate::tables::{
+    Flight, Gate, Guest, Tables, View, Waiting, FLIGHT_NUMBERS, GUEST_NUMBERS, WAITING_NUMBERS,
+};
 use crate::trace::{events, Header, ARRIVAL, COMPLETION, EVENT_BYTES, TICK};
 
 /// A small generator of numbers (splitmix64): the same seed, the same run.
@@ -100,6 +104,53 @@ pub fn any_cost(rng: &mut Prng) -> u64 {
         bad_cost(rng)
     } else {
         good_cost(rng)
+    }
+}
+
+/// Delta and rho that an arrival may have: often 1 and 1, both ends of each.
+pub fn good_spread(rng: &mut Prng) -> [u64; 2] {
+    let any = rng.between(1, MOST_DELTA);
+    let small = rng.between(1, 9);
+    let delta = match rng.below(8) {
+        0..=1 => return [1, 1],
+        2..=3 => 1,
+        4..=5 => small,
+        6 => rng.pick(&[2, 64, MOST_DELTA - 1, MOST_DELTA]),
+        _ => any,
+    };
+    let rho = rng.below(delta + 1);
+    [delta, rng.pick(&[0, 0, 1, rho, delta])]
+}
+
+/// Delta and rho that no arrival may have: a delta of 0, of 65,536, a huge
+/// one; a rho just above delta, or huge.
+pub fn bad_spread(rng: &mut Prng) -> [u64; 2] {
+    let [delta, rho] = good_spread(rng);
+    let large = MOST_DELTA + 1 + rng.sized(63);
+    let huge = [
+        MOST_DELTA + 2,
+        1 << 32,
+        (1 << 32) + 1,
+        1 << 63,
+        u64::MAX,
+        large,
+    ];
+    match rng.below(6) {
+        0 => [0, 0],
+        1 => [0, rng.pick(&[1, rho, MOST_DELTA, u64::MAX])],
+        2 => [MOST_DELTA + 1, rng.pick(&[0, 1, rho, MOST_DELTA + 1])],
+        3 => [rng.pick(&huge), rng.pick(&[0, 1, rho, u64::MAX])],
+        4 => [delta, delta + 1],
+        _ => [delta, rng.pick(&huge)],
+    }
+}
+
+/// Delta and rho of any kind, most often good ones.
+pub fn any_spread(rng: &mut Prng) -> [u64; 2] {
+    if rng.chance(4) {
+        bad_spread(rng)
+    } else {
+        good_spread(rng)
     }
 }
 
@@ -242,8 +293,8 @@ fn idle_guest(rng: &mut Prng, time: u64) -> Guest {
     }
 }
 
-/// Requests with tags as far apart as soundness wants or further, and the
-/// next numbers that follow from them.
+/// Requests with tags as far apart as soundness wants or further, reservation
+/// tags also closer, and the next numbers that follow from them.
 fn waiting_requests(
     rng: &mut Prng,
     guests: &mut [Guest],
@@ -257,12 +308,17 @@ fn waiting_requests(
     };
     // Only some guests wait, so that others are idle.
     let active = rng.between(1, guests.len() as u64);
+    // In some tables no reservation is due, so that what goes, goes by weight.
+    let none_due = rng.chance(30);
     let mut all: Vec<Waiting> = Vec::new();
     for _ in 0..count {
         let number = rng.below(active);
         let guest = guests[number as usize];
-        let first = !all.iter().any(|w| w.guest == number);
-        let request = waiting_request(rng, number, &guest, first, time);
+        let last = all.iter().rfind(|w| w.guest == number);
+        let mut request = waiting_request(rng, number, &guest, last, time);
+        if none_due && last.is_none() && guest.settings.has_reservation() {
+            request.rtag = time + 1 + rng.sized(34);
+        }
         let past = request.rtag.max(request.ltag).max(request.stag) > CEILING;
         let twice = all.iter().any(|w| w.guest == number && w.id == request.id);
         if !past && !twice {
@@ -273,22 +329,39 @@ fn waiting_requests(
     all
 }
 
-fn waiting_request(rng: &mut Prng, number: u64, guest: &Guest, first: bool, time: u64) -> Waiting {
-    let apart = if rng.chance(50) { 0 } else { 32 };
-    let mut tag = |has: bool, next: u64| match (has, first) {
-        (false, _) => 0,
-        (true, true) => near(rng, time),
-        (true, false) => next + rng.sized(apart),
-    };
+fn waiting_request(
+    rng: &mut Prng,
+    number: u64,
+    guest: &Guest,
+    last: Option<&Waiting>,
+    time: u64,
+) -> Waiting {
     let s = guest.settings;
+    // What the guest's last left as its next reservation number, or closer.
+    let rnext = match last {
+        Some(last) if rng.chance(40) => closer(rng, last.rtag, guest.rnext),
+        _ => guest.rnext,
+    };
+    let apart = if rng.chance(50) { 0 } else { 32 };
+    let mut tag = |has: bool, next: u64| match (has, last) {
+        (false, _) => 0,
+        (true, None) => near(rng, time),
+        (true, Some(_)) => next + rng.sized(apart),
+    };
     Waiting {
         guest: number,
-        rtag: tag(s.has_reservation(), guest.rnext),
+        rtag: tag(s.has_reservation(), rnext),
         ltag: tag(s.has_limit(), guest.lnext),
         stag: tag(true, guest.snext),
         id: some_id(rng),
         cost: good_cost(rng),
     }
+}
+
+/// A number from low to high, the low end often.
+fn closer(rng: &mut Prng, low: u64, high: u64) -> u64 {
+    let any = rng.between(low, high);
+    rng.pick(&[low, low, any, any])
 }
 
 fn some_id(rng: &mut Prng) -> u64 {
@@ -368,6 +441,9 @@ const EDGES: [u64; 10] = [
 /// Changes one number of one table, or cuts a table: most often what
 /// comes out is not sound, sometimes it still is.
 pub fn spoil(rng: &mut Prng, tables: &mut Owned) {
+    if rng.chance(8) {
+        return spoil_reservation(rng, tables);
+    }
     let table = match rng.below(4) {
         0 => &mut tables.gate,
         1 => &mut tables.guests,
@@ -388,6 +464,143 @@ pub fn spoil(rng: &mut Prng, tables: &mut Owned) {
         5 => table[at] = old | 1 << 32,
         6 => table[at] = rng.pick(&EDGES),
         _ => table[at] = rng.sized(64),
+    }
+}
+
+/// A waiting request gets about the reservation tag of its guest's one before
+/// it, or of the time. Where it is the guest's last, the next number follows,
+/// so that most often nothing but the order of tags can be wrong.
+pub fn spoil_reservation(rng: &mut Prng, tables: &mut Owned) {
+    if table_refusal(&tables.view()).is_some() {
+        return;
+    }
+    let mut state = read(&tables.view());
+    let pairs: Vec<(usize, usize)> = neighbours(&state);
+    if pairs.is_empty() {
+        return;
+    }
+    let (earlier, later) = rng.pick(&pairs);
+    let (tag, time) = (state.waiting[earlier].rtag, state.time);
+    let below = tag.saturating_sub(rng.sized(34));
+    let picked = rng.pick(&[tag, tag + 1, tag.saturating_sub(1), below, time, 0]);
+    let w = &mut state.waiting[later];
+    w.rtag = picked;
+    let (row, guest) = (*w, w.guest as usize);
+    tables.waiting[later * WAITING_NUMBERS..][..WAITING_NUMBERS].copy_from_slice(&row.numbers());
+    let last = state.waiting.iter().rposition(|w| w.guest == row.guest);
+    if last == Some(later) && rng.chance(80) {
+        let record = followed(state.guests[guest], &row);
+        tables.guests[guest * GUEST_NUMBERS..][..GUEST_NUMBERS].copy_from_slice(&record.numbers());
+    }
+}
+
+/// The places of one guest's next neighbours, where it has a reservation.
+fn neighbours(state: &State) -> Vec<(usize, usize)> {
+    let mut pairs = Vec::new();
+    for (later, w) in state.waiting.iter().enumerate() {
+        let before = &state.waiting[..later];
+        let earlier = before.iter().rposition(|other| other.guest == w.guest);
+        if state.guests[w.guest as usize].settings.has_reservation() {
+            pairs.extend(earlier.map(|earlier| (earlier, later)));
+        }
+    }
+    pairs
+}
+
+/// What a call of a house is lent, owned.
+#[derive(Clone, Debug, PartialEq, Eq)]
+pub struct OwnedHouse {
+    pub arrays: u64,
+    pub array: u64,
+    pub counters: Vec<u64>,
+    pub tables: Owned,
+    pub phases: Vec<u64>,
+}
+
+impl OwnedHouse {
+    pub fn lend(&mut self) -> House<'_> {
+        House {
+            arrays: self.arrays,
+            array: self.array,
+            counters: &mut self.counters,
+            tables: self.tables.lend(),
+            phases: &mut self.phases,
+        }
+    }
+}
+
+/// A random house of 1 to 8 arrays as a call is lent it: random sound tables,
+/// a phase for each request in flight, counters from the whole range. Some have
+/// places beyond what the settings need.
+pub fn sound_house(rng: &mut Prng) -> OwnedHouse {
+    let tables = sound_tables(rng);
+    let gate = tables.view().gate();
+    let arrays = rng.between(1, MOST_ARRAYS);
+    let rows = arrays * gate.guests;
+    let counters = (0..rows).flat_map(|_| any_counters(rng)).collect();
+    let phases = (0..gate.flight).map(|_| rng.pick(&[BY_RESERVATION, BY_WEIGHT]));
+    let phases = phases.collect();
+    OwnedHouse {
+        arrays,
+        array: rng.below(arrays),
+        counters: with_rest(rng, counters),
+        tables,
+        phases: padded(rng, phases, gate.depth as usize),
+    }
+}
+
+/// Delta and rho of a guest at an array: nothing counted, few, or many up to
+/// where counting stops.
+pub fn any_counters(rng: &mut Prng) -> [u64; COUNTER_NUMBERS] {
+    let (few, any) = (rng.below(9), rng.below(MOST_DELTA + 1));
+    let delta = rng.pick(&[0, 0, few, few, any, MOST_DELTA - 1, MOST_DELTA]);
+    let some = rng.below(delta + 1);
+    [delta, rng.pick(&[0, some, delta.saturating_sub(1), delta])]
+}
+
+/// Changes one thing that a call of a house is lent, or which array it names:
+/// most often it is then refused.
+pub fn spoil_house(rng: &mut Prng, house: &mut OwnedHouse) {
+    match rng.below(10) {
+        0 => house.arrays = rng.pick(&[0, 1, MOST_ARRAYS, MOST_ARRAYS + 1, 1 << 32, u64::MAX]),
+        1 => house.array = rng.pick(&[house.arrays, MOST_ARRAYS, 1 << 32, u64::MAX]),
+        2..=4 => spoil_counters(rng, &mut house.counters),
+        5..=7 => spoil_phases(rng, &mut house.phases),
+        _ => spoil(rng, &mut house.tables),
+    }
+}
+
+fn spoil_counters(rng: &mut Prng, counters: &mut Vec<u64>) {
+    let rows = counters.len() / COUNTER_NUMBERS;
+    if rows == 0 {
+        return;
+    }
+    let row = rng.below(rows as u64) as usize;
+    let numbers = &mut counters[row * COUNTER_NUMBERS..][..COUNTER_NUMBERS];
+    match rng.below(6) {
+        0 => counters.truncate(rng.below(counters.len() as u64) as usize),
+        1 => drop(counters.pop()),
+        2 => numbers[0] = rng.pick(&[MOST_DELTA, MOST_DELTA + 1, 1 << 32, u64::MAX]),
+        3 => numbers[1] = rng.pick(&[MOST_DELTA, MOST_DELTA + 1, 1 << 32, u64::MAX]),
+        4 => numbers[1] = numbers[0].wrapping_add(1),
+        _ => numbers.swap(0, 1),
+    }
+}
+
+fn spoil_phases(rng: &mut Prng, phases: &mut Vec<u64>) {
+    if phases.is_empty() {
+        return;
+    }
+    let at = rng.below(phases.len() as u64) as usize;
+    // The last that is used, or the first that is not.
+    let end = phases.iter().position(|phase| *phase == 0).unwrap_or(at);
+    match rng.below(6) {
+        0 => phases.truncate(at),
+        1 => drop(phases.pop()),
+        2 => phases[end] = rng.pick(&[BY_RESERVATION, BY_WEIGHT]),
+        3 => phases[end.saturating_sub(1)] = 0,
+        4 => phases[at] = rng.pick(&[3, 1 << 32, (1 << 32) + 1, u64::MAX]),
+        _ => phases[at] = rng.pick(&[0, BY_RESERVATION, BY_WEIGHT]),
     }
 }
 
@@ -481,11 +694,11 @@ fn batch_events(rng: &mut Prng, tables: &Owned, count: u64) -> Vec<u64> {
     let mut events = Vec::new();
     for _ in 0..count {
         let mut event = batch_event(rng, &state);
-        let [kind, guest, id, time, cost] = event;
+        let [kind, guest, id, time, cost, delta, rho] = event;
         if rng.chance(damaged) {
             damage(rng, &mut event);
         } else if kind == ARRIVAL as u64 {
-            state.arrive(guest, id as u32, time, cost);
+            state.arrive_spread(guest, id as u32, time, cost, delta, rho);
         } else if kind == COMPLETION as u64 {
             state.complete(guest, id as u32, time);
         } else {
@@ -506,13 +719,17 @@ fn batch_event(rng: &mut Prng, state: &State) -> [u64; EVENT_NUMBERS] {
     };
     let (arrival, completion) = (ARRIVAL as u64, COMPLETION as u64);
     match rng.below(10) {
-        0..=4 => [arrival, guest, some_id(rng), time, any_cost(rng)],
+        0..=4 => {
+            let [delta, rho] = any_spread(rng);
+            let id = some_id(rng);
+            [arrival, guest, id, time, any_cost(rng), delta, rho]
+        }
         5..=7 if !state.flight.is_empty() => {
             let f = rng.pick(&state.flight);
-            [completion, f.guest, f.id, time, 0]
+            [completion, f.guest, f.id, time, 0, 0, 0]
         }
-        8 => [completion, guest, some_id(rng), time, 0],
-        _ => [TICK as u64, 0, 0, time, 0],
+        8 => [completion, guest, some_id(rng), time, 0, 0, 0],
+        _ => [TICK as u64, 0, 0, time, 0, 0, 0],
     }
 }
 
@@ -534,17 +751,23 @@ fn batch_time(rng: &mut Prng, state: &State) -> u64 {
 /// An event that is often none.
 fn damage(rng: &mut Prng, event: &mut [u64; EVENT_NUMBERS]) {
     let tick = TICK as u64;
-    let [_, _, _, time, cost] = *event;
-    match rng.below(8) {
+    let [_, _, _, time, cost, delta, rho] = *event;
+    let guest = rng.pick(&[1, 64, 256, 1 << 32]);
+    let id = rng.pick(&[1, 256, 1 << 32, u64::MAX]);
+    match rng.below(11) {
         0 => event[0] = rng.pick(&[3, 4, 255, 256, 257, 258, 1 << 32, u64::MAX]),
         1 => event[2] |= 1 << 32,
         2 => event[2] = rng.pick(&[1 << 32, (1 << 32) + 1, u64::MAX]),
-        3 => *event = [tick, rng.pick(&[1, 64, 256, 1 << 32]), 0, time, cost],
-        4 => *event = [tick, 0, rng.pick(&[1, 256, 1 << 32, u64::MAX]), time, 0],
+        3 => *event = [tick, guest, 0, time, cost, delta, rho],
+        4 => *event = [tick, 0, id, time, 0, 0, 0],
         // A cost where none may be, a bad one in an arrival.
         5 => event[4] = bad_cost(rng),
-        6 => *event = [tick, 0, 0, time, any_cost(rng)],
-        _ => *event = [3, 64, 64, 64, 64].map(|bits| rng.sized(bits)),
+        6 => *event = [tick, 0, 0, time, any_cost(rng), 0, 0],
+        // So with delta and rho, both or one of them.
+        7 => event[5..].copy_from_slice(&bad_spread(rng)),
+        8 => event[rng.pick(&[5, 6])] = rng.pick(&[0, 1, 1 << 32, u64::MAX]),
+        9 => event[5..].copy_from_slice(&good_spread(rng)),
+        _ => *event = [3, 64, 64, 64, 64, 64, 64].map(|bits| rng.sized(bits)),
     }
 }
 

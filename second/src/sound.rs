@@ -113,10 +113,12 @@ fn tags_spaced(t: &View) -> bool {
     true
 }
 
+/// Reservation tags only do not fall (document 02, K14); limit and share tags
+/// lie the earlier one's cost apart.
 fn spaced(guest: &Guest, earlier: &Waiting, later: &Waiting) -> bool {
     let s = guest.settings;
     let apart = |tag, spacing| after(tag, earlier.cost, spacing);
-    (!s.has_reservation() || apart(earlier.rtag, s.reservation_spacing()) <= wide(later.rtag))
+    (!s.has_reservation() || earlier.rtag <= later.rtag)
         && (!s.has_limit() || apart(earlier.ltag, s.limit_spacing()) <= wide(later.ltag))
         && apart(earlier.stag, s.share_spacing()) <= wide(later.stag)
 }

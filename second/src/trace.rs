@@ -251,7 +251,7 @@ impl Event {
 }
 
 /// Plays one event up to the choice; 14 is judged before all other
-/// refusals.
+/// refusals. A trace is of one array: its arrivals have 1 for delta and rho.
 pub fn take(state: &mut State, event: Event) -> Result<(), u8> {
     if !event.well_formed() {
         return Err(14);

@@ -29,12 +29,13 @@ fn answers_of(t: &mut Owned, events: &[Event]) -> Answers {
 
 /// The single call that a row of a batch stands for.
 fn single(event: Event) -> Option<Call> {
-    let [kind, guest, id, time, cost] = event;
+    let [kind, guest, id, time, cost, delta, rho] = event;
     let id = u32::try_from(id).ok()?;
+    let bare = cost == 0 && delta == 0 && rho == 0;
     match kind {
-        ARRIVAL => Some(Call::Arrive(guest, id, time, cost)),
-        COMPLETION => (cost == 0).then_some(Call::Complete(guest, id, time)),
-        TICK => (guest == 0 && id == 0 && cost == 0).then_some(Call::Tick(time)),
+        ARRIVAL => Some(Call::Arrive(guest, id, time, cost, [delta, rho])),
+        COMPLETION => bare.then_some(Call::Complete(guest, id, time)),
+        TICK => (bare && guest == 0 && id == 0).then_some(Call::Tick(time)),
         _ => None,
     }
 }
@@ -42,9 +43,9 @@ fn single(event: Event) -> Option<Call> {
 #[test]
 fn the_example_in_one_call() {
     let mut t = opened(4, 8, &[guest(100, 250, 1)]);
-    let mut events: Vec<Event> = (1..=4).map(|id| [ARRIVAL, 0, id, 0, 1]).collect();
-    events.extend([4, 8, 10, 9].map(|ms| [TICK, 0, 0, ms * MS, 0]));
-    events.extend([[COMPLETION, 0, 1, 10 * MS, 0]; 2]);
+    let mut events: Vec<Event> = (1..=4).map(|id| [ARRIVAL, 0, id, 0, 1, 1, 1]).collect();
+    events.extend([4, 8, 10, 9].map(|ms| [TICK, 0, 0, ms * MS, 0, 0, 0]));
+    events.extend([[COMPLETION, 0, 1, 10 * MS, 0, 0, 0]; 2]);
     let wanted = [
         [1, 0, 1, 0, NEVER],
         [0, 0, 0, 0, 4 * MS],
@@ -69,7 +70,7 @@ fn no_events_change_nothing_and_judge_nothing() {
     let before = t.clone();
     for length in 0..EVENT_NUMBERS {
         let mut answers = [77; 3];
-        assert_eq!(batch(&mut t.lend(), &[1; 9][..length], &mut answers), 0);
+        assert_eq!(batch(&mut t.lend(), &[1; 13][..length], &mut answers), 0);
         assert_eq!(answers, [77; 3]);
     }
     assert_eq!(batch(&mut t.lend(), &[], &mut []), 0);
@@ -82,40 +83,51 @@ fn what_is_no_event_is_14_and_passed_over() {
     let large = 1 << 32;
     let past = u64::MAX;
     let events = [
-        [3, 0, 1, 0, 1],
-        [256, 0, 1, 0, 0],
-        [large, 0, 1, 0, 65],
-        [past, 9, 1, past, past],
-        [TICK, 1, 0, past, 0],
-        [TICK, 0, 1, past, 0],
-        [TICK, large, 0, 0, 0],
-        [TICK, 0, large, 0, 0],
-        [TICK, 0, 0, 0, 1],
-        [TICK, 0, 0, past, past],
-        [ARRIVAL, 0, large, 5, 1],
-        [ARRIVAL, 9, large + 1, past, 65],
-        [COMPLETION, 0, large, 0, 0],
-        [COMPLETION, 9, past, past, 0],
-        [COMPLETION, 0, 1, 0, 1],
-        [COMPLETION, 9, 1, past, large],
+        [3, 0, 1, 0, 1, 1, 1],
+        [256, 0, 1, 0, 0, 0, 0],
+        [large, 0, 1, 0, 65, 0, 0],
+        [past, 9, 1, past, past, past, past],
+        [TICK, 1, 0, past, 0, 0, 0],
+        [TICK, 0, 1, past, 0, 0, 0],
+        [TICK, large, 0, 0, 0, 0, 0],
+        [TICK, 0, large, 0, 0, 0, 0],
+        [TICK, 0, 0, 0, 1, 0, 0],
+        [TICK, 0, 0, past, past, 0, 0],
+        [TICK, 0, 0, 0, 0, 1, 0],
+        [TICK, 0, 0, 0, 0, 0, 1],
+        [TICK, 0, 0, past, 0, large, past],
+        [ARRIVAL, 0, large, 5, 1, 1, 1],
+        [ARRIVAL, 9, large + 1, past, 65, 0, 1],
+        [COMPLETION, 0, large, 0, 0, 0, 0],
+        [COMPLETION, 9, past, past, 0, 0, 0],
+        [COMPLETION, 0, 1, 0, 1, 0, 0],
+        [COMPLETION, 9, 1, past, large, 0, 0],
+        [COMPLETION, 0, 1, 0, 0, 1, 0],
+        [COMPLETION, 0, 1, 0, 0, 0, large],
+        [COMPLETION, 9, 1, past, 0, 1, 1],
     ];
     let before = t.clone();
-    assert_eq!(answers_of(&mut t, &events), [refusal(14); 16]);
+    assert_eq!(answers_of(&mut t, &events), [refusal(14); 22]);
     assert_eq!(t, before);
     // The others are judged as ever, and the good ones go on.
     let events = [
-        [ARRIVAL, 0, large - 1, 5, 64],
-        [3, 0, 0, 9, 0],
-        [ARRIVAL, large, 1, 5, 1],
-        [TICK, 0, 0, CEILING + 1, 0],
-        [TICK, 0, 0, 4, 0],
+        [ARRIVAL, 0, large - 1, 5, 64, 65_535, 0],
+        [3, 0, 0, 9, 0, 0, 0],
+        [ARRIVAL, large, 1, 5, 1, 1, 1],
+        [TICK, 0, 0, CEILING + 1, 0, 0, 0],
+        [TICK, 0, 0, 4, 0, 0, 0],
         // A bad cost is no bad event, and judged in its turn.
-        [ARRIVAL, 0, 2, 4, 0],
-        [ARRIVAL, 0, large - 1, 5, 0],
-        [ARRIVAL, 0, 2, 5, 65],
-        [ARRIVAL, 0, 2, 5, past],
-        [ARRIVAL, 0, large - 1, 5, 1],
-        [COMPLETION, 0, large - 1, 6, 0],
+        [ARRIVAL, 0, 2, 4, 0, 0, 0],
+        [ARRIVAL, 0, large - 1, 5, 0, 1, 1],
+        [ARRIVAL, 0, 2, 5, 65, 0, 0],
+        [ARRIVAL, 0, 2, 5, past, 1, 2],
+        // Nor is a bad delta or rho.
+        [ARRIVAL, 0, 2, 4, 1, 0, 0],
+        [ARRIVAL, 0, large - 1, 5, 1, 0, 0],
+        [ARRIVAL, 0, 2, 5, 1, 65_536, 1],
+        [ARRIVAL, 0, 2, 5, 64, 7, 8],
+        [ARRIVAL, 0, large - 1, 5, 1, 1, 1],
+        [COMPLETION, 0, large - 1, 6, 0, 0, 0],
     ];
     let wanted = [
         [2, 0, large - 1, 0, NEVER],
@@ -127,6 +139,10 @@ fn what_is_no_event_is_14_and_passed_over() {
         refusal(18),
         refusal(18),
         refusal(18),
+        refusal(6),
+        refusal(20),
+        refusal(20),
+        refusal(20),
         refusal(7),
         [0, 0, 0, 0, NEVER],
     ];
@@ -136,8 +152,9 @@ fn what_is_no_event_is_14_and_passed_over() {
 
 #[test]
 fn number_14_comes_before_2_and_3() {
-    let bad = [7, 0, 0, 0, 0];
-    let events = [bad, [TICK, 0, 0, 0, 0], bad, [ARRIVAL, 9, 1 << 32, 0, 0]];
+    let bad = [7, 0, 0, 0, 0, 0, 0];
+    let tick = [TICK, 0, 0, 0, 0, 0, 0];
+    let events = [bad, tick, bad, [ARRIVAL, 9, 1 << 32, 0, 0, 0, 0]];
     let answers = |number| [refusal(14), refusal(number), refusal(14), refusal(14)];
     let mut t = opened(1, 1, &[guest(0, 0, 1)]);
     t.gate[TIME] = CEILING + 1;
@@ -150,7 +167,7 @@ fn number_14_comes_before_2_and_3() {
 
 /// Arrivals of as many ids, at a gate that takes 64 and refuses the rest.
 fn arrivals(count: usize) -> Vec<u64> {
-    let rows = (0..count as u64).map(|id| [ARRIVAL, 0, id, 0, 1]);
+    let rows = (0..count as u64).map(|id| [ARRIVAL, 0, id, 0, 1, 1, 1]);
     rows.flatten().collect()
 }
 
@@ -194,8 +211,8 @@ fn numbers_behind_the_last_row_are_no_event() {
     let mut answers = vec![77; 256 * ANSWER_NUMBERS];
     assert_eq!(batch(&mut t.lend(), &events, &mut answers), 0);
     let mut answers = [77; 2 * ANSWER_NUMBERS];
-    let number = batch(&mut t.lend(), &[TICK, 0, 0, 7, 0, 9, 9, 9, 9], &mut answers);
-    assert_eq!(number, 0);
+    let events = [TICK, 0, 0, 7, 0, 0, 0, 9, 9, 9, 9, 9, 9];
+    assert_eq!(batch(&mut t.lend(), &events, &mut answers), 0);
     assert_eq!(answers, [0, 0, 0, 0, NEVER, 77, 77, 77, 77, 77]);
 }
 
@@ -247,7 +264,7 @@ fn a_batch_goes_as_its_events_one_by_one() {
         assert_eq!(t, one_by_one);
     }
     let wholes = ["whole 0", "whole 16", "whole 17"];
-    let refusals = [2, 3, 4, 5, 6, 7, 8, 9, 10, 14, 18].map(|number| format!("X {number}"));
+    let refusals = [2, 3, 4, 5, 6, 7, 8, 9, 10, 14, 18, 20].map(|number| format!("X {number}"));
     for wanted in wholes.into_iter().chain(["0", "1", "2"]) {
         assert!(seen.contains(wanted), "{wanted}");
     }

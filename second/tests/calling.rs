@@ -4,7 +4,7 @@
 mod common;
 use common::*;
 use second::numbers::SECOND;
-use second::sample::{any_cost, sound_tables, spoil, Owned, Prng};
+use second::sample::{any_cost, any_spread, sound_tables, spoil, Owned, Prng};
 use second::tables::*;
 use second::Answer::{Nothing, Refused};
 use second::{first_broken, Answer, Tables, CEILING, NEVER};
@@ -111,7 +111,7 @@ fn opening_reads_no_settings_beyond_the_guests() {
 
 fn calls(guest: u64, id: u32, time: u64) -> [Call; 3] {
     [
-        Call::Arrive(guest, id, time, 1),
+        arrive(guest, id, time, 1),
         Call::Complete(guest, id, time),
         Call::Tick(time),
     ]
@@ -173,8 +173,8 @@ fn short_tables_and_counts_out_of_range() {
 /// One guest waits with id 1 and has id 0 in flight; capacity 1.
 fn busy() -> Owned {
     let mut t = opened(1, 1, &[guest(0, 0, 1), guest(0, 1, 1)]);
-    call(&mut t.lend(), Call::Arrive(0, 0, 10, 1));
-    call(&mut t.lend(), Call::Arrive(0, 1, 10, 1));
+    call(&mut t.lend(), arrive(0, 0, 10, 1));
+    call(&mut t.lend(), arrive(0, 1, 10, 1));
     t
 }
 
@@ -198,39 +198,47 @@ fn refusals_come_in_order() {
     for c in calls(2, 0, past) {
         assert_eq!(answer_of(&unsound, c), Refused(3));
     }
-    assert_eq!(answer_of(&high, Call::Arrive(2, 0, past, 1)), Refused(4));
+    assert_eq!(answer_of(&high, arrive(2, 0, past, 1)), Refused(4));
     assert_eq!(answer_of(&high, Call::Complete(2, 9, 0)), Refused(4));
-    assert_eq!(answer_of(&high, Call::Arrive(0, 0, past, 1)), Refused(5));
+    assert_eq!(answer_of(&high, arrive(0, 0, past, 1)), Refused(5));
     assert_eq!(answer_of(&high, Call::Complete(0, 9, past)), Refused(5));
     assert_eq!(answer_of(&high, Call::Tick(past)), Refused(5));
-    assert_eq!(answer_of(&high, Call::Arrive(0, 0, 9, 1)), Refused(6));
+    assert_eq!(answer_of(&high, arrive(0, 0, 9, 1)), Refused(6));
     assert_eq!(answer_of(&high, Call::Complete(0, 9, 9)), Refused(6));
     assert_eq!(answer_of(&high, Call::Tick(9)), Refused(6));
     // A bad cost comes before a repeated id and a full table.
     for cost in [0, 65, 256 + 1, u64::MAX] {
-        assert_eq!(answer_of(&high, Call::Arrive(2, 0, past, cost)), Refused(4));
-        assert_eq!(answer_of(&high, Call::Arrive(0, 0, past, cost)), Refused(5));
-        assert_eq!(answer_of(&high, Call::Arrive(0, 0, 9, cost)), Refused(6));
-        assert_eq!(answer_of(&high, Call::Arrive(0, 0, 10, cost)), Refused(18));
-        assert_eq!(answer_of(&high, Call::Arrive(1, 0, 10, cost)), Refused(18));
-        assert_eq!(
-            answer_of(&unsound, Call::Arrive(1, 0, 10, cost)),
-            Refused(3)
-        );
+        assert_eq!(answer_of(&high, arrive(2, 0, past, cost)), Refused(4));
+        assert_eq!(answer_of(&high, arrive(0, 0, past, cost)), Refused(5));
+        assert_eq!(answer_of(&high, arrive(0, 0, 9, cost)), Refused(6));
+        assert_eq!(answer_of(&high, arrive(0, 0, 10, cost)), Refused(18));
+        assert_eq!(answer_of(&high, arrive(1, 0, 10, cost)), Refused(18));
+        assert_eq!(answer_of(&unsound, arrive(1, 0, 10, cost)), Refused(3));
+    }
+    // A bad delta or rho comes right behind it.
+    for spread in [[0, 0], [1, 2], [65_536, 1], [u64::MAX, 0], [1, u64::MAX]] {
+        let spread_at = |guest, time, cost| Call::Arrive(guest, 0, time, cost, spread);
+        assert_eq!(answer_of(&unsound, spread_at(1, 10, 1)), Refused(3));
+        assert_eq!(answer_of(&high, spread_at(2, past, 1)), Refused(4));
+        assert_eq!(answer_of(&high, spread_at(0, past, 1)), Refused(5));
+        assert_eq!(answer_of(&high, spread_at(0, 9, 1)), Refused(6));
+        assert_eq!(answer_of(&high, spread_at(0, 10, 65)), Refused(18));
+        assert_eq!(answer_of(&high, spread_at(0, 10, 1)), Refused(20));
+        assert_eq!(answer_of(&high, spread_at(1, 10, 1)), Refused(20));
     }
     // In flight and waiting; the table is full.
-    assert_eq!(answer_of(&high, Call::Arrive(0, 0, 10, 1)), Refused(7));
-    assert_eq!(answer_of(&high, Call::Arrive(0, 1, 10, 1)), Refused(7));
+    assert_eq!(answer_of(&high, arrive(0, 0, 10, 1)), Refused(7));
+    assert_eq!(answer_of(&high, arrive(0, 1, 10, 1)), Refused(7));
     // Full, and it would pass the ceiling.
-    assert_eq!(answer_of(&high, Call::Arrive(1, 0, 10, 1)), Refused(8));
+    assert_eq!(answer_of(&high, arrive(1, 0, 10, 1)), Refused(8));
     // Waiting is not in flight; another guest's id is not one's own.
     assert_eq!(answer_of(&high, Call::Complete(0, 1, 10)), Refused(10));
     assert_eq!(answer_of(&high, Call::Complete(1, 0, 10)), Refused(10));
     assert_eq!(answer_of(&high, Call::Complete(0, 0, 10)), weight(0, 1));
     let mut freed = high.clone();
     call(&mut freed.lend(), Call::Complete(0, 0, 10));
-    assert_eq!(answer_of(&freed, Call::Arrive(1, 0, 10, 1)), Refused(9));
-    assert_eq!(answer_of(&freed, Call::Arrive(0, 0, 10, 1)), Nothing);
+    assert_eq!(answer_of(&freed, arrive(1, 0, 10, 1)), Refused(9));
+    assert_eq!(answer_of(&freed, arrive(0, 0, 10, 1)), Nothing);
 }
 
 #[test]
@@ -239,9 +247,9 @@ fn a_send_closes_up_and_leaves_zeros() {
     t.waiting.push(5);
     t.flight.push(6);
     for id in 1..=4 {
-        call(&mut t.lend(), Call::Arrive(0, id, 0, 1));
+        call(&mut t.lend(), arrive(0, id, 0, 1));
     }
-    call(&mut t.lend(), Call::Arrive(1, 1, 0, 1));
+    call(&mut t.lend(), arrive(1, 1, 0, 1));
     assert_eq!(t.gate, [2, 2, 3, 0, 3, 2, 1]);
     assert_eq!(t.flight, [0, 1, 0, 2, 6]);
     assert_eq!(
@@ -279,9 +287,9 @@ fn any_call(rng: &mut Prng) -> Call {
         _ => rng.pick(&[0, CEILING, CEILING + 1, u64::MAX]),
     };
     let id = rng.sized(32) as u32;
-    let cost = any_cost(rng);
+    let (cost, spread) = (any_cost(rng), any_spread(rng));
     rng.pick(&[
-        Call::Arrive(guest, id, time, cost),
+        Call::Arrive(guest, id, time, cost, spread),
         Call::Complete(guest, id, time),
         Call::Tick(time),
     ])

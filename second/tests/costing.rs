@@ -2,6 +2,7 @@
 
 mod common;
 use common::*;
+use second::batch::EVENT_NUMBERS;
 use second::calls::read;
 use second::numbers::SECOND;
 use second::sample::{
@@ -226,7 +227,8 @@ fn the_samples_have_costs_of_all_kinds() {
         let mut t = sound_tables(&mut rng);
         kept.extend(kept_in(&t));
         let Batch { events, .. } = batch(&mut rng, &t);
-        let arrivals = events.chunks_exact(5).filter(|row| row[0] == 0);
+        let arrivals = events.chunks_exact(EVENT_NUMBERS);
+        let arrivals = arrivals.filter(|row| row[0] == 0);
         asked.extend(arrivals.map(|row| row[4]));
         spoil(&mut rng, &mut t);
         spoiled.extend(kept_in(&t));

@@ -4,7 +4,7 @@ mod common;
 use common::mirror::Mirror;
 use common::*;
 use second::calls::read;
-use second::sample::{any_cost, sound_tables, Prng};
+use second::sample::{any_cost, any_spread, sound_tables, Prng};
 use second::State;
 
 fn any_call(rng: &mut Prng, state: &State) -> Call {
@@ -21,7 +21,10 @@ fn any_call(rng: &mut Prng, state: &State) -> Call {
     };
     let guest = rng.below(state.guests.len() as u64 + 1);
     match rng.below(10) {
-        0..=4 => Call::Arrive(guest, rng.sized(9) as u32, time, any_cost(rng)),
+        0..=4 => {
+            let (id, cost) = (rng.sized(9) as u32, any_cost(rng));
+            Call::Arrive(guest, id, time, cost, any_spread(rng))
+        }
         5..=7 if !state.flight.is_empty() => {
             let f = rng.pick(&state.flight);
             Call::Complete(f.guest, f.id as u32, time)
@@ -40,11 +43,7 @@ fn the_gate_and_its_mirror_agree() {
         let mut mirror = Mirror::of(&state);
         for _ in 0..80 {
             let c = any_call(&mut rng, &state);
-            let answer = match c {
-                Call::Arrive(guest, id, t, cost) => state.arrive(guest, id, t, cost),
-                Call::Complete(guest, id, t) => state.complete(guest, id, t),
-                Call::Tick(t) => state.tick(t),
-            };
+            let answer = play(&mut state, c);
             assert_eq!(answer, mirror.play(c), "{c:?}");
             assert!(mirror.shows(&state), "{c:?} {answer:?}");
         }

@@ -11,7 +11,7 @@ use second::{wake, Flight, Phase, Reply, State, CEILING};
 /// The replies to document 01's example under a rule.
 fn example(rule: u64) -> Vec<Reply> {
     let mut t = opened_under(rule, 4, 8, &[guest(100, 250, 1)]);
-    let mut calls: Vec<Call> = (1..=4).map(|id| Call::Arrive(0, id, 0, 1)).collect();
+    let mut calls: Vec<Call> = (1..=4).map(|id| arrive(0, id, 0, 1)).collect();
     calls.extend([4, 8, 10, 9].map(|ms| Call::Tick(ms * MS)));
     calls.extend([Call::Complete(0, 1, 10 * MS); 2]);
     calls.push(Call::Tick(12 * MS - 1));

@@ -4,7 +4,7 @@ mod common;
 use common::*;
 use second::calls::read;
 use second::kinds::trace;
-use second::sample::{any_cost, any_settings, sound_tables, Owned, Prng};
+use second::sample::{any_cost, any_settings, any_spread, sound_tables, Owned, Prng};
 use second::tables::*;
 use second::trace::play;
 use second::{first_broken, Answer, Phase, Settings, State, CEILING};
@@ -27,7 +27,10 @@ fn likely_call(rng: &mut Prng, t: &Owned) -> Call {
     let time = likely_time(rng, &state);
     let guest = rng.below(state.guests.len() as u64);
     match rng.below(10) {
-        0..=4 => Call::Arrive(guest, rng.sized(12) as u32, time, any_cost(rng)),
+        0..=4 => {
+            let (id, cost) = (rng.sized(12) as u32, any_cost(rng));
+            Call::Arrive(guest, id, time, cost, any_spread(rng))
+        }
         5..=7 if !state.flight.is_empty() => {
             let f = rng.pick(&state.flight);
             Call::Complete(f.guest, f.id as u32, time)
@@ -83,7 +86,7 @@ fn accepted_events_keep_soundness_and_refused_ones_everything() {
         assert_eq!(first_broken(&after.view()), None, "{c:?} {answer:?}");
         assert!(after.gate[FLIGHT] <= after.gate[DEPTH]);
         let time = match c {
-            Call::Arrive(_, _, time, _) | Call::Complete(_, _, time) | Call::Tick(time) => time,
+            Call::Arrive(_, _, time, ..) | Call::Complete(_, _, time) | Call::Tick(time) => time,
         };
         assert_eq!(after.gate[TIME], time);
     });
@@ -133,36 +136,11 @@ fn requests_of_one_guest_leave_in_order_of_acceptance() {
             Some(w) => assert_eq!(w.id, id),
             // Nothing of it waited: it is the one that just arrived.
             None => match c {
-                Call::Arrive(g, i, _, _) => assert_eq!((g, i as u64), (guest, id)),
+                Call::Arrive(g, i, ..) => assert_eq!((g, i as u64), (guest, id)),
                 _ => panic!("sent from nowhere"),
             },
         }
     });
-}
-
-#[test]
-fn after_a_weight_send_its_reservation_tags_stay_above_the_time() {
-    let mut seen = 0;
-    runs(34, 400, 60, |_, _, answer, after| {
-        let Answer::Sent {
-            phase: Phase::Weight,
-            guest,
-            ..
-        } = answer
-        else {
-            return;
-        };
-        let state = read(&after.view());
-        let record = state.guests[guest as usize];
-        if !record.settings.has_reservation() {
-            return;
-        }
-        seen += 1;
-        assert!(record.rnext > state.time);
-        let own = state.waiting.iter().filter(|w| w.guest == guest);
-        assert!(own.into_iter().all(|w| w.rtag > state.time));
-    });
-    assert!(seen > 100, "{seen}");
 }
 
 /// How many waiting requests stand before this one in the reservation
@@ -190,7 +168,7 @@ fn place_was_free(before: &State, c: Call) -> bool {
 fn a_due_reservation_is_sent_in_its_turn() {
     let mut rng = Prng::new(35);
     let mut followed = [0, 0];
-    for _ in 0..3_000 {
+    for _ in 0..4_000 {
         let mut t = start(&mut rng);
         // Some way into a run, which may be no way at all.
         for _ in 0..rng.below(30) {

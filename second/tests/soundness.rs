@@ -166,9 +166,9 @@ fn tags_are_at_most_the_ceiling() {
 }
 
 #[test]
-fn later_tags_are_the_cost_in_spacings_further_on() {
+fn later_limit_and_share_tags_are_the_cost_in_spacings_further_on() {
     let rule = Some(Rule::TagsSpaced);
-    for kind in [RTAG, LTAG, STAG] {
+    for kind in [LTAG, STAG] {
         let (first, third) = (waiting_at(0, kind), waiting_at(2, kind));
         assert_eq!(broken(|t| t.waiting[first] += 1), rule);
         assert_eq!(broken(|t| t.waiting[first] -= 1), None);
@@ -179,6 +179,35 @@ fn later_tags_are_the_cost_in_spacings_further_on() {
     assert_eq!(broken(|t| t.waiting[first] = 3), rule);
     assert_eq!(broken(|t| t.waiting[first] = 64), rule);
     assert_eq!(broken(|t| t.waiting[first] = 1), None);
+}
+
+#[test]
+fn reservation_tags_do_not_fall() {
+    let rule = Some(Rule::TagsSpaced);
+    let (first, third) = (waiting_at(0, RTAG), waiting_at(2, RTAG));
+    let tenth = SECOND / 10;
+    // The earlier one may lie anywhere before the later, or at it.
+    for tag in [0, tenth + 1, 3 * tenth - 1, 3 * tenth] {
+        assert_eq!(broken(|t| t.waiting[first] = tag), None);
+    }
+    assert_eq!(broken(|t| t.waiting[first] = 3 * tenth + 1), rule);
+    // The later one too, and the next number lies its cost behind it.
+    for (tag, found) in [
+        (tenth, None),
+        (tenth + 1, None),
+        (tenth - 1, rule),
+        (0, rule),
+    ] {
+        let lower = |t: &mut Owned| {
+            t.waiting[third] = tag;
+            t.guests[RNEXT] = tag + 3 * tenth;
+        };
+        assert_eq!(broken(lower), found);
+    }
+    assert_eq!(
+        broken(|t| t.waiting[third] = tenth),
+        Some(Rule::NextFollowsLast)
+    );
 }
 
 #[test]
@@ -311,8 +340,12 @@ fn plainly_sound(t: &Owned) -> bool {
                 (Some(_), None) => next <= ceiling + 64 * n(SECOND),
                 (Some(apart), Some(_)) => {
                     let room = |i: usize| tags[i] + costs[i] * apart;
+                    let least = |i: usize| match kind {
+                        RESERVATION => tags[i],
+                        _ => room(i),
+                    };
                     let last = tags.len() - 1;
-                    let spaced = (0..=last).all(|j| (0..j).all(|i| tags[j] >= room(i)));
+                    let spaced = (0..=last).all(|j| (0..j).all(|i| tags[j] >= least(i)));
                     next == room(last) && spaced && tags.iter().all(|tag| *tag <= ceiling)
                 }
             };

@@ -18,7 +18,7 @@ fn the_example_is_woken_for_each_send() {
     let mut wakes = Vec::new();
     let mut told = |c| wakes.push(reply(&mut t.lend(), c).wake_number());
     for id in 1..=4 {
-        told(Call::Arrive(0, id, 0, 1));
+        told(arrive(0, id, 0, 1));
     }
     for ms in [4, 8, 10, 9] {
         told(Call::Tick(ms * MS));

@@ -1,6 +1,7 @@
 /* What header.c does not try of sgq.h: tables of no records, counts taken from arrays, free places and waiting counts,
- * when to wake, the rules for limits, costs, many events in one call, traces moved from one version to the other and
- * salvaged, lines judged, and a short clock. C99 and C++ alike; prints a line for each thing that is not as it should be. */
+ * when to wake, the rules for limits, costs, delta and rho, many events in one call, houses with several arrays, traces moved
+ * from one version to the other and salvaged, lines judged, and a short clock. C99 and C++ alike; prints a line for each
+ * thing that is not as it should be. */
 #include "sgq.h"
 
 #include <inttypes.h>
@@ -179,7 +180,135 @@ static void costs(void)
     }
 }
 
-/* Five events in one call, one of them refused and two that are none; the place past their answers stays as it is. Then
+/* One in 100 ms is reserved. A delta and a rho of 3 bring the next tags two spacings on, a rho of 0 the reservation's one
+ * back. What none may have is refused, between a bad cost and an id in use. */
+static void spreads(void)
+{
+    static const sgq_settings settings[] = {{10, 10, 1, 0}};
+    static const uint64_t spacing = UINT64_C(100000000);
+    static const uint64_t bad[][2] = {{0, 0}, {1, 2}, {SGQ_MOST_DELTA + 1, 0}, {SGQ_MOST_DELTA, UINT64_MAX}};
+    static sgq_gate gate;
+    static sgq_guest guests[1];
+    static sgq_request waiting[CAPACITY];
+    static sgq_flight flight[1];
+    static const sgq_tables lent = SGQ_TABLES(gate, guests, waiting, flight);
+
+    same("open", sgq_tables_open_all(&lent, SGQ_RULE_1, settings, SGQ_COUNT(settings)).kind, SGQ_NOTHING);
+    same("one and one", sgq_tables_arrive(&lent, 0, 1, 0, 1).kind, SGQ_SENT_BY_RESERVATION);
+    same("three and three", sgq_tables_arrive_spread(&lent, 0, 2, 0, 1, 3, 3).kind, SGQ_NOTHING);
+    same("its reservation tag", waiting[0].rtag, 3 * spacing);
+    same("its limit tag", waiting[0].ltag, 3 * spacing);
+    same("most and none", sgq_tables_arrive_spread(&lent, 0, 3, 0, 1, SGQ_MOST_DELTA, 0).kind, SGQ_NOTHING);
+    same("the same reservation tag", waiting[1].rtag, 3 * spacing);
+    same("another limit tag", waiting[1].ltag, (3 + SGQ_MOST_DELTA) * spacing);
+    for (size_t place = 0; place < SGQ_COUNT(bad); place++) {
+        const uint64_t delta = bad[place][0], rho = bad[place][1];
+        refused("a bad delta", sgq_tables_arrive_spread(&lent, 0, 4, 0, 1, delta, rho), SGQ_REFUSED_DELTA);
+        refused("after the cost", sgq_tables_arrive_spread(&lent, 0, 4, 0, 0, delta, rho), SGQ_REFUSED_COST);
+        refused("before an id in use", sgq_tables_arrive_spread(&lent, 0, 3, 0, 1, delta, rho), SGQ_REFUSED_DELTA);
+    }
+    same("the words of it", (uint64_t)strlen(sgq_refusal_text(SGQ_REFUSED_DELTA)), 44);
+    waiting[1].rtag -= 1;
+    refused("a tag that falls", sgq_tables_tick(&lent, 0), SGQ_REFUSED_NOT_SOUND);
+}
+
+/* A house of two arrays: a guest's completion at one is told to the other with its next request there. */
+static void houses(void)
+{
+    static const sgq_settings settings[] = {{10, 0, 1, 0}};
+    static const uint64_t spacing = UINT64_C(100000000);
+    static sgq_gate gates[2];
+    static sgq_guest guests[2][1];
+    static sgq_request waiting[2][CAPACITY];
+    static sgq_flight flight[2][1];
+    static uint64_t phases[2][1];
+    static sgq_counter counters[2];
+    static const sgq_house both = SGQ_HOUSE(2, counters);
+    static const sgq_array arrays[] = {SGQ_ARRAY(0, gates[0], guests[0], waiting[0], flight[0], phases[0]),
+                                       SGQ_ARRAY(1, gates[1], guests[1], waiting[1], flight[1], phases[1])};
+
+    counters[1].rho = 1; /* anything, before it is opened */
+    for (size_t at = 0; at < SGQ_COUNT(arrays); at++) {
+        same("open", sgq_house_open_all(&both, &arrays[at], SGQ_RULE_1, settings, SGQ_COUNT(settings)).kind,
+             SGQ_NOTHING);
+        same("depth", gates[at].depth, 1);
+        same("nothing is counted", counters[at].delta + counters[at].rho + phases[at][0], 0);
+    }
+    for (size_t at = 0; at < SGQ_COUNT(arrays); at++) {
+        same("sent", sgq_house_arrive(&both, &arrays[at], 0, 1, 0, 1).kind, SGQ_SENT_BY_RESERVATION);
+        same("its phase", phases[at][0], SGQ_SENT_BY_RESERVATION);
+    }
+    for (size_t at = 0; at < SGQ_COUNT(arrays); at++)
+        same("done", sgq_house_complete(&both, &arrays[at], 0, 1, 5).kind, SGQ_NOTHING);
+    same("no phase", phases[0][0], 0);
+    same("delta", counters[1].delta, 2);
+    same("rho", counters[1].rho, 2);
+    same("by weight", sgq_house_arrive(&both, &arrays[1], 0, 2, 5, 1).kind, SGQ_SENT_BY_WEIGHT);
+    same("its phase", phases[1][0], SGQ_SENT_BY_WEIGHT);
+    same("what is behind it", sgq_house_arrive(&both, &arrays[1], 0, 3, 5, 1).kind, SGQ_NOTHING);
+    same("the drop, and a rho of 0", waiting[1][0].rtag, spacing);
+    same("counted again", counters[1].delta + counters[1].rho, 0);
+    same("not at the other", counters[0].delta, 2);
+    same("a tick", sgq_house_tick(&both, &arrays[0], 6).wake, SGQ_NEVER);
+}
+
+/* A house of two arrays, of which only the first is there to be lent. */
+static sgq_gate half_gate;
+static sgq_guest half_guests[1];
+static sgq_request half_waiting[CAPACITY];
+static sgq_flight half_flight[1];
+static uint64_t half_phases[1];
+static sgq_counter half_counters[2];
+static sgq_house house = SGQ_HOUSE(2, half_counters);
+static sgq_array array = SGQ_ARRAY(0, half_gate, half_guests, half_waiting, half_flight, half_phases);
+
+/* What its opening is refused, and in which order. */
+static void house_openings(void)
+{
+    static const sgq_settings settings[] = {{0, 0, 1, 0}};
+
+    house.arrays = SGQ_MOST_ARRAYS + 1;
+    refused("nine arrays", sgq_house_open_all(&house, &array, 3, NULL, 0), SGQ_REFUSED_ARRAY);
+    house.arrays = 2;
+    array.number = 2;
+    refused("array 2 of 2", sgq_house_open_all(&house, &array, 3, NULL, 0), SGQ_REFUSED_ARRAY);
+    array.number = 0;
+    refused("no guests", sgq_house_open_all(&house, &array, SGQ_RULE_1, NULL, 0), SGQ_REFUSED_SETTING);
+    house.counter_count = 1;
+    refused("short counters", sgq_house_open_all(&house, &array, SGQ_RULE_1, settings, 1), SGQ_REFUSED_SHORT_TABLE);
+    house.counter_count = 2;
+    array.phase_count = 0;
+    array.phases = NULL;
+    refused("no phases", sgq_house_open(&house, &array, 1, 1, CAPACITY, SGQ_RULE_1, settings, 1), SGQ_REFUSED_SHORT_TABLE);
+    array.phase_count = 1;
+    array.phases = half_phases;
+    same("open", sgq_house_open_all(&house, &array, SGQ_RULE_1, settings, 1).kind, SGQ_NOTHING);
+}
+
+/* What its events are refused, and in which order, when it is open. */
+static void house_refusals(void)
+{
+    house.arrays = 0;
+    refused("no array", sgq_house_tick(&house, &array, 0), SGQ_REFUSED_ARRAY);
+    house.arrays = 2;
+    half_counters[1].rho = 1;
+    refused("a rho above delta", sgq_house_arrive(&house, &array, 1, 1, 0, 1), SGQ_REFUSED_NOT_SOUND);
+    half_counters[1].rho = 0;
+    half_phases[0] = SGQ_SENT_BY_WEIGHT;
+    refused("a phase of nothing", sgq_house_complete(&house, &array, 1, 1, 0), SGQ_REFUSED_NOT_SOUND);
+    half_phases[0] = 0;
+    array.number = 2;
+    refused("no such guest", sgq_house_arrive(&house, &array, 1, 1, 0, 1), SGQ_REFUSED_UNKNOWN_GUEST);
+    refused("no such array", sgq_house_arrive(&house, &array, 0, 1, UINT64_MAX, 0), SGQ_REFUSED_ARRAY);
+    array.number = 0;
+    refused("a bad cost", sgq_house_arrive(&house, &array, 0, 1, 0, 0), SGQ_REFUSED_COST);
+    house.counters = NULL;
+    house.counter_count = 0;
+    refused("no counters", sgq_house_tick(&house, &array, 0), SGQ_REFUSED_SHORT_TABLE);
+    same("the words of 22", (uint64_t)strlen(sgq_refusal_text(SGQ_REFUSED_ARRAY)), 40);
+}
+
+/* Seven events in one call, two of them refused and three that are none; the place past their answers stays as it is. Then
  * one event more than a call takes. */
 static void batches(void)
 {
@@ -200,14 +329,19 @@ static void batches(void)
     many[3] = sgq_completion(0, 1, 7);
     many[3].cost = 1;
     many[4] = sgq_completion(0, 1, 7);
-    answers[5].kind = 77;
-    same("five events", sgq_tables_batch(&lent, many, 5, answers, SGQ_COUNT(answers)), 0);
+    many[4].rho = 1;
+    many[5] = sgq_arrival_spread(0, 2, 7, 1, 0, 0);
+    many[6] = sgq_completion(0, 1, 7);
+    answers[7].kind = 77;
+    same("seven events", sgq_tables_batch(&lent, many, 7, answers, SGQ_COUNT(answers)), 0);
     same("the first is sent", (uint64_t)sgq_sent(answers[0]), 1);
     refused("the second is there", answers[1], SGQ_REFUSED_ID_IN_USE);
     refused("the third is none", answers[2], SGQ_REFUSED_EVENT_KIND);
     refused("nor is the fourth", answers[3], SGQ_REFUSED_EVENT_KIND);
-    same("the fifth", answers[4].kind, SGQ_NOTHING);
-    same("a spare place", answers[5].kind, 77);
+    refused("nor is the fifth", answers[4], SGQ_REFUSED_EVENT_KIND);
+    refused("the sixth has no delta", answers[5], SGQ_REFUSED_DELTA);
+    same("the seventh", answers[6].kind, SGQ_NOTHING);
+    same("a spare place", answers[7].kind, 77);
     same("time", gate.time, 7);
     same("one too many", sgq_tables_batch(&lent, many, SGQ_COUNT(many), answers, SGQ_COUNT(answers)),
          SGQ_REFUSED_TOO_MANY_EVENTS);
@@ -366,7 +500,11 @@ int main(void)
     wakes();
     rules();
     costs();
+    spreads();
     batches();
+    houses();
+    house_openings();
+    house_refusals();
     moves();
     salvages();
     judges();

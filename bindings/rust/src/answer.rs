@@ -70,9 +70,10 @@ pub enum Refusal {
     /// "a setting is out of range, when opening"; of a call on a trace, in its header.
     Setting = 1,
     /// "a lent table, or at opening the lent list of guest settings, is shorter than the settings need". A
-    /// [`crate::Gate`] lends tables of the right length, so it never gives this.
+    /// [`crate::Gate`] lends tables of the right length, and [`crate::Arrays`] likewise, so they never give this.
     ShortTable = 2,
-    /// "the table is not sound". A [`crate::Gate`] keeps its tables to itself, so it never gives this.
+    /// "the table is not sound". A [`crate::Gate`] and [`crate::Arrays`] keep their tables to themselves, so they never
+    /// give this.
     NotSound = 3,
     /// "unknown guest".
     UnknownGuest = 4,
@@ -95,7 +96,7 @@ pub enum Refusal {
     /// Of a call on a trace: "trace header cut short".
     TraceHeaderCut = 13,
     /// "event kind above 2, or a tick with non-zero guest or id", or an id of more than 32 bits, or a completion or tick
-    /// with a cost: an event of a batch that is none. The makers of [`crate::Event`] make no such one.
+    /// with a cost, a delta or a rho: an event of a batch that is none. The makers of [`crate::Event`] make no such one.
     EventKind = 14,
     /// Of a move, and in what a judge says was due: "last event cut short".
     TraceEventCut = 15,
@@ -107,8 +108,13 @@ pub enum Refusal {
     Cost = 18,
     /// Of a move; document 02, K9: "a version 2 trace that has another rule, credit or cost cannot go back".
     NoWayBack = 19,
+    /// Of an arrival; document 02, K14: "delta outside 1 to 65,535 or rho above delta". [`crate::Arrays`] counts them, so it
+    /// never gives this.
+    Delta = 20,
     /// Of a move; document 02, K9: "room too short". Of a salvage; K12: "lent room for trace or list too short".
     ShortRoom = 21,
+    /// Of a house with several arrays; document 02, K14: "1 to 8 arrays, else 22"; "an array not there".
+    Array = 22,
 }
 
 impl Refusal {
@@ -133,7 +139,9 @@ impl Refusal {
         Refusal::TooManyEvents,
         Refusal::Cost,
         Refusal::NoWayBack,
+        Refusal::Delta,
         Refusal::ShortRoom,
+        Refusal::Array,
     ];
 
     /// The refusal of this number, if the calls give it.
@@ -174,7 +182,9 @@ impl Refusal {
             Refusal::NoWayBack => {
                 "a version 2 trace that has another rule, credit or cost cannot go back"
             }
+            Refusal::Delta => "delta outside 1 to 65,535 or rho above delta",
             Refusal::ShortRoom => "room too short",
+            Refusal::Array => "not 1 to 8 arrays, or an array not there",
         }
     }
 }

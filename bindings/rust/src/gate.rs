@@ -49,14 +49,19 @@ impl Gate {
         rule: Rule,
         guests: &[Settings],
     ) -> Result<Gate, Refusal> {
-        // Counts out of range are refused before the lengths are looked at, so no table need be longer than the most.
-        let mut gate = Gate {
+        let mut gate = Gate::with_room(depth, capacity, guests.len());
+        gate.call_open(depth, capacity, rule, guests).map(|_| gate)
+    }
+
+    /// Tables that are not open yet, with room for so much. Counts out of range are refused before the lengths are looked
+    /// at, so no table need be longer than the most.
+    pub(crate) fn with_room(depth: u64, capacity: u64, guests: usize) -> Gate {
+        Gate {
             numbers: Numbers::default(),
-            guests: vec![Guest::default(); guests.len()],
+            guests: vec![Guest::default(); guests],
             waiting: vec![Request::default(); places(capacity, MOST_CAPACITY)],
             flight: vec![Flight::default(); places(depth, MOST_DEPTH)],
-        };
-        gate.call_open(depth, capacity, rule, guests).map(|_| gate)
+        }
     }
 
     fn call_open(
@@ -88,8 +93,8 @@ impl Gate {
         })
     }
 
-    /// A request of a guest arrives, at a cost from 1 to [`crate::MOST_COST`]: it gets its tags, waits, and then the
-    /// choice is made. Document 02, K8: "A next number becomes tag plus cost times spacing, and after a weight send the
+    /// A request arrives of a guest that has one array, at a cost from 1 to [`crate::MOST_COST`]: it gets its tags, waits,
+    /// and then the choice is made. Document 02, K8: "A next number becomes tag plus cost times spacing, and after a weight send the
     /// guest's reservation tags drop by the sent request's cost times the spacing." So a request's own tags do not read
     /// its cost; those of the guest's next requests do.
     ///
@@ -104,6 +109,27 @@ impl Gate {
         id: u32,
         time: u64,
         cost: u64,
+    ) -> Result<Outcome, Refusal> {
+        self.arrive_spread(guest, id, time, cost, 1, 1)
+    }
+
+    /// A request arrives of a guest that is spread over several arrays. Delta is 1 to [`crate::MOST_DELTA`] and rho at most
+    /// delta; they say what the other arrays have done for the guest since its last request to this one, and
+    /// [`crate::Arrays`] counts them. Document 02, K14: "limit and share next numbers are first raised by (delta − 1)
+    /// spacings; the reservation's by (rho − 1) spacings, so for rho 0 it falls by one, never below 0." "One and one give
+    /// the old gate."
+    ///
+    /// # Errors
+    ///
+    /// As [`Gate::arrive`], and [`Refusal::Delta`] after [`Refusal::Cost`]. The gate is then as it was.
+    pub fn arrive_spread(
+        &mut self,
+        guest: u64,
+        id: u32,
+        time: u64,
+        cost: u64,
+        delta: u64,
+        rho: u64,
     ) -> Result<Outcome, Refusal> {
         let lent = self.lend();
         // SAFETY: see `lend`.
@@ -120,6 +146,8 @@ impl Gate {
                 id,
                 time,
                 cost,
+                delta,
+                rho,
             )
         })
     }
@@ -281,7 +309,7 @@ impl Gate {
 
     /// The tables as the library takes them. Each is its own memory, as long as is said, and no one else has it while
     /// the gate is borrowed here; every row is 64-bit numbers alone, for which any bits are good.
-    fn lend(&mut self) -> Lent {
+    pub(crate) fn lend(&mut self) -> Lent {
         Lent {
             gate: (&raw mut self.numbers).cast(),
             guests_length: numbers_in(&self.guests),
@@ -314,22 +342,22 @@ impl Iterator for Answers<'_> {
 impl ExactSizeIterator for Answers<'_> {}
 
 /// Pointers and lengths, in the order of the calls.
-struct Lent {
-    gate: *mut u64,
-    guests: *mut u64,
-    guests_length: usize,
-    waiting: *mut u64,
-    waiting_length: usize,
-    flight: *mut u64,
-    flight_length: usize,
+pub(crate) struct Lent {
+    pub gate: *mut u64,
+    pub guests: *mut u64,
+    pub guests_length: usize,
+    pub waiting: *mut u64,
+    pub waiting_length: usize,
+    pub flight: *mut u64,
+    pub flight_length: usize,
 }
 
 /// How many 64-bit numbers the records have.
-fn numbers_in<T>(records: &[T]) -> usize {
+pub(crate) fn numbers_in<T>(records: &[T]) -> usize {
     size_of_val(records) / size_of::<u64>()
 }
 
-fn places(wanted: u64, most: u64) -> usize {
+pub(crate) fn places(wanted: u64, most: u64) -> usize {
     usize::try_from(wanted.min(most)).expect("the most fits")
 }
 

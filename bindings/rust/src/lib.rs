@@ -68,6 +68,25 @@
 //! # }
 //! ```
 //!
+//! Where guests are spread over several arrays, [`Arrays`] owns the gates of all of them and counts between them, so that a
+//! guest's reservation, limit and shares are those of all arrays together:
+//!
+//! ```
+//! use sgq::{Answer, Arrays, Counter, Phase, Refusal, Rule, Settings, Size};
+//!
+//! # fn main() -> Result<(), Refusal> {
+//! let guests = [Settings { reservation: 100, limit: 0, shares: 1, credit: 0 }];
+//! let mut arrays = Arrays::open(&[Size { depth: 4, capacity: 8 }; 2], Rule::One, &guests)?;
+//! // The array, and then as at a gate: guest, id, time and cost.
+//! let sent = Answer::Sent { phase: Phase::Reservation, guest: 0, id: 1 };
+//! assert_eq!(arrays.arrive(0, 0, 1, 0, 1)?.answer, sent);
+//! println!("{}", arrays.complete(0, 0, 1, 5)?);
+//! // What array 1 will be told of it.
+//! assert_eq!(arrays.counter(1, 0), Some(Counter { delta: 1, rho: 1 }));
+//! # Ok(())
+//! # }
+//! ```
+//!
 //! A trace of events goes from one version to the other by [`trace_up`] and [`trace_back`], and what a torn one still has
 //! is kept by [`salvage`](fn@salvage); they know no gate. [`judge`](fn@judge) tells whether another maker's gate printed the
 //! right lines for a trace.
@@ -94,11 +113,12 @@
 //! # What is proved
 //!
 //! The library's calls are. This wrapper is not: it keeps the tables, passes them on as pointers and lengths, and gives
-//! the answers names. Its `unsafe` blocks are those ten calls.
+//! the answers names. Its `unsafe` blocks are those fourteen calls.
 
 #![deny(missing_docs, unsafe_op_in_unsafe_fn)]
 
 mod answer;
+mod arrays;
 mod clock;
 mod gate;
 mod judge;
@@ -107,11 +127,12 @@ pub mod raw;
 mod salvage;
 
 pub use answer::{Answer, Outcome, Phase, Refusal};
+pub use arrays::{Arrays, Size};
 pub use clock::Clock;
 pub use gate::{Answers, Gate, Rule};
 pub use judge::{judge, Due, Wrong};
 pub use moves::{trace_back, trace_up, NotMoved};
-pub use raw::{Dropped, Event, Flight, Guest, Request, Settings};
+pub use raw::{Counter, Dropped, Event, Flight, Guest, Request, Settings};
 pub use salvage::{most_dropped, salvage, Reason, Salvage};
 
 /// "Time and tags are whole nanoseconds, 0 to 4,611,686,018,427,387,903 (2^62 − 1, the ceiling)."
@@ -138,6 +159,12 @@ pub const MOST_CREDIT: u64 = 256;
 /// The most that a request costs. Document 02, K8: "An arrival now carries a cost from 1 to 64, worked out by the
 /// driver." A request of cost c counts as c requests of cost 1 against its guest's reservation, limit and shares.
 pub const MOST_COST: u64 = 64;
+
+/// The largest delta and rho of an arrival, where counting stops.
+pub const MOST_DELTA: u64 = 65_535;
+
+/// The most arrays of a house. Document 02, K14: "Larger houses spread a guest over up to 8 arrays".
+pub const MOST_ARRAYS: u64 = 8;
 
 /// By how many bytes a trace grows at the most when it goes up: the rule, and a credit for each of 64 guests.
 pub const MOST_GROWTH: usize = 129;

@@ -17,9 +17,11 @@ pub const REQUEST_NUMBERS: usize = 6;
 /// How many numbers a request in flight is.
 pub const FLIGHT_NUMBERS: usize = 2;
 /// How many numbers an event of a batch is.
-pub const EVENT_NUMBERS: usize = 5;
+pub const EVENT_NUMBERS: usize = 7;
 /// How many numbers an answer is.
 pub const ANSWER_NUMBERS: usize = 5;
+/// How many numbers a counter of a house with several arrays is.
+pub const COUNTER_NUMBERS: usize = 2;
 /// How many numbers a row of the list of a salvage is.
 pub const DROPPED_NUMBERS: usize = 2;
 
@@ -31,6 +33,7 @@ const _: () = assert!(numbers_of::<Request>() == REQUEST_NUMBERS);
 const _: () = assert!(numbers_of::<Flight>() == FLIGHT_NUMBERS);
 const _: () = assert!(numbers_of::<Event>() == EVENT_NUMBERS);
 const _: () = assert!(numbers_of::<Answer>() == ANSWER_NUMBERS);
+const _: () = assert!(numbers_of::<Counter>() == COUNTER_NUMBERS);
 const _: () = assert!(numbers_of::<Dropped>() == DROPPED_NUMBERS);
 
 const fn numbers_of<T>() -> usize {
@@ -148,18 +151,37 @@ pub struct Event {
     pub time: u64,
     /// 1 to 64 in an arrival, else 0.
     pub cost: u64,
+    /// 1 to 65,535 in an arrival, else 0.
+    pub delta: u64,
+    /// 0 to delta.
+    pub rho: u64,
 }
 
 impl Event {
-    /// A request of a guest arrives, at this cost.
+    /// A request arrives of a guest that has one array, at this cost: delta and rho are 1.
     #[must_use]
     pub fn arrival(guest: u64, id: u32, time: u64, cost: u64) -> Event {
+        Event::arrival_spread(guest, id, time, cost, 1, 1)
+    }
+
+    /// A request arrives of a guest that is spread over several arrays; see [`crate::Gate::arrive_spread`].
+    #[must_use]
+    pub fn arrival_spread(
+        guest: u64,
+        id: u32,
+        time: u64,
+        cost: u64,
+        delta: u64,
+        rho: u64,
+    ) -> Event {
         Event {
             kind: ARRIVAL,
             guest,
             id: id.into(),
             time,
             cost,
+            delta,
+            rho,
         }
     }
 
@@ -171,7 +193,7 @@ impl Event {
             guest,
             id: id.into(),
             time,
-            cost: 0,
+            ..Event::default()
         }
     }
 
@@ -216,6 +238,16 @@ pub struct Answer {
     pub refusal: u64,
     /// When to tick: a time, or [`NEVER`]; 0 in a refusal, where what was said last still stands.
     pub wake: u64,
+}
+
+/// What is counted for a guest at an array of a house with several; [`crate::Arrays`] keeps them.
+#[repr(C)]
+#[derive(Clone, Copy, Debug, Default, PartialEq, Eq, Hash)]
+pub struct Counter {
+    /// The guest's completions at any array since its last accepted request to this one, or since the start.
+    pub delta: u64,
+    /// Those of them that were sent by reservation.
+    pub rho: u64,
 }
 
 /// What the move of a trace answers; [`crate::NotMoved`] has names for it.
@@ -320,7 +352,8 @@ extern "C" {
         flight_length: usize,
     ) -> Answer;
 
-    /// A request arrives, at a cost from 1 to [`crate::MOST_COST`]; any other is refused.
+    /// A request arrives, at a cost from 1 to [`crate::MOST_COST`], a delta from 1 to [`crate::MOST_DELTA`] and a rho up to
+    /// delta; any others are refused.
     pub fn sgq_arrive(
         gate: *mut u64,
         guest_table: *mut u64,
@@ -333,6 +366,8 @@ extern "C" {
         id: u32,
         time: u64,
         cost: u64,
+        delta: u64,
+        rho: u64,
     ) -> Answer;
 
     /// A request in flight is done.
@@ -377,6 +412,89 @@ extern "C" {
         answers: *mut u64,
         answers_length: usize,
     ) -> u64;
+
+    /// Opens the gate of an array, one of `arrays`. Counters are [`COUNTER_NUMBERS`] for each guest at each array, phases
+    /// one number for each place of the depth: [`SENT_BY_RESERVATION`] or [`SENT_BY_WEIGHT`], 0 where it is not used.
+    pub fn sgq_arrays_open(
+        gate: *mut u64,
+        arrays: u64,
+        array: u64,
+        depth: u64,
+        guests: u64,
+        capacity: u64,
+        rule: u64,
+        settings: *const u64,
+        settings_length: usize,
+        guest_table: *mut u64,
+        guest_table_length: usize,
+        waiting: *mut u64,
+        waiting_length: usize,
+        flight: *mut u64,
+        flight_length: usize,
+        counters: *mut u64,
+        counters_length: usize,
+        phases: *mut u64,
+        phases_length: usize,
+    ) -> Answer;
+
+    /// A request arrives at an array, with what was counted for its guest there.
+    pub fn sgq_arrays_arrive(
+        gate: *mut u64,
+        arrays: u64,
+        array: u64,
+        guest_table: *mut u64,
+        guest_table_length: usize,
+        waiting: *mut u64,
+        waiting_length: usize,
+        flight: *mut u64,
+        flight_length: usize,
+        counters: *mut u64,
+        counters_length: usize,
+        phases: *mut u64,
+        phases_length: usize,
+        guest: u64,
+        id: u32,
+        time: u64,
+        cost: u64,
+    ) -> Answer;
+
+    /// A request in flight at an array is done.
+    pub fn sgq_arrays_complete(
+        gate: *mut u64,
+        arrays: u64,
+        array: u64,
+        guest_table: *mut u64,
+        guest_table_length: usize,
+        waiting: *mut u64,
+        waiting_length: usize,
+        flight: *mut u64,
+        flight_length: usize,
+        counters: *mut u64,
+        counters_length: usize,
+        phases: *mut u64,
+        phases_length: usize,
+        guest: u64,
+        id: u32,
+        time: u64,
+    ) -> Answer;
+
+    /// Time has gone on at an array.
+    pub fn sgq_arrays_tick(
+        gate: *mut u64,
+        arrays: u64,
+        array: u64,
+        guest_table: *mut u64,
+        guest_table_length: usize,
+        waiting: *mut u64,
+        waiting_length: usize,
+        flight: *mut u64,
+        flight_length: usize,
+        counters: *mut u64,
+        counters_length: usize,
+        phases: *mut u64,
+        phases_length: usize,
+        time: u64,
+    ) -> Answer;
 
     /// A trace of version 1 as one of version 2. Trace and room are bytes, and do not overlap.
     pub fn sgq_trace_up(

@@ -1,7 +1,7 @@
 //! The names beside the numbers of the library, and the calls on tables that a `Gate` never lends.
 
 use sgq::raw::{self, FLIGHT_NUMBERS, GUEST_NUMBERS, REQUEST_NUMBERS};
-use sgq::{Answer, Flight, Gate, Guest, Outcome, Phase, Refusal, Request, Rule};
+use sgq::{Answer, Arrays, Flight, Gate, Guest, Outcome, Phase, Refusal, Request, Rule};
 use sgq::{CEILING, MOST_COST, MOST_CREDIT};
 
 #[test]
@@ -42,9 +42,10 @@ fn answers_in_words() {
 }
 
 #[test]
-fn a_gate_goes_to_another_thread() {
+fn gates_go_to_another_thread() {
     fn goes<T: Send + Sync>() {}
     goes::<Gate>();
+    goes::<Arrays>();
 }
 
 /// A guest with one share and this credit, to which nothing has happened.
@@ -151,8 +152,8 @@ fn batch(gate: raw::Numbers, events: &[u64], room: &mut [u64]) -> u64 {
 /// Numbers behind the last whole row are no event, and take no room.
 #[test]
 fn rows_of_a_batch() {
-    let tick = [raw::TICK, 0, 0, 7, 0];
-    let more = [raw::TICK, 0, 0, 7];
+    let tick = [raw::TICK, 0, 0, 7, 0, 0, 0];
+    let more = [raw::TICK, 0, 0, 7, 0, 0];
     let events: Vec<u64> = tick.into_iter().chain(more).collect();
     let mut room = [77; 9];
     assert_eq!(batch(SOUND, &events, &mut room[..4]), 16);
@@ -166,14 +167,16 @@ fn rows_of_a_batch() {
 #[test]
 fn a_batch_on_unsound_tables() {
     let unsound = raw::Numbers { depth: 0, ..SOUND };
-    let mut room = [77; 20];
-    let kind_3 = [3, 0, 0, 0, 0];
-    let costly = [raw::TICK, 0, 0, 0, 1];
-    let tick = [raw::TICK, 0, 0, 0, 0];
-    let free = [raw::ARRIVAL, 0, 1, 0, 0];
-    let events = [kind_3, costly, tick, free].concat();
+    let mut room = [77; 30];
+    let kind_3 = [3, 0, 0, 0, 0, 0, 0];
+    let costly = [raw::TICK, 0, 0, 0, 1, 0, 0];
+    let spread = [raw::TICK, 0, 0, 0, 0, 1, 0];
+    let tick = [raw::TICK, 0, 0, 0, 0, 0, 0];
+    let free = [raw::ARRIVAL, 0, 1, 0, 0, 1, 1];
+    let bare = [raw::ARRIVAL, 0, 1, 0, 1, 0, 0];
+    let events = [kind_3, costly, spread, tick, free, bare].concat();
     assert_eq!(batch(unsound, &events, &mut room), 0);
-    let told = [14, 14, 3, 3].map(|refusal| [raw::REFUSED, 0, 0, refusal, 0]);
+    let told = [14, 14, 14, 3, 3, 3].map(|refusal| [raw::REFUSED, 0, 0, refusal, 0]);
     assert_eq!(room, *told.concat());
     assert_eq!(batch(unsound, &[], &mut room), 0);
 }

@@ -1,10 +1,10 @@
 //! Document 01's example and edge readings, each refusal, when to tick, credit for bursts, the two rules for limits,
-//! costs, and many events in one call, through the wrapper.
+//! costs, delta and rho, and many events in one call, through the wrapper.
 
 #![allow(clippy::unnecessary_wraps)] // what a call must give is compared as it is given
 
-use sgq::MOST_COST;
-use sgq::{raw, Answer, Event, Flight, Gate, Guest, Outcome, Phase, Refusal, Rule, Settings};
+use sgq::{raw, Answer, Event, Flight, Gate, Guest, Outcome, Phase, Refusal, Request, Rule};
+use sgq::{Settings, MOST_COST, MOST_DELTA};
 use sgq::{CEILING, MOST_CAPACITY, MOST_CREDIT, MOST_DEPTH, MOST_EVENTS, MOST_GUESTS, MOST_RATE};
 
 const MS: u64 = 1_000_000;
@@ -425,6 +425,107 @@ fn ceiling_by_cost() {
     assert_eq!(gate.complete(0, 1, CEILING), NOTHING);
 }
 
+/// Spacings of 100, 50 and 10 ms. Id 2 waits from 0 with all of them, so that id 3 has next numbers of 200, 100 and 10 ms,
+/// and they are raised first: by delta those of limit and shares, by rho that of the reservation.
+#[test]
+fn raised_by_delta_and_rho() {
+    for (delta, rho, tags) in [
+        (1, 1, [200, 100, 10]),
+        (1, 0, [100, 100, 10]),
+        (4, 0, [100, 250, 40]),
+        (4, 1, [200, 250, 40]),
+        (4, 4, [500, 250, 40]),
+        (MOST_DELTA, MOST_DELTA, [6_553_600, 3_276_800, 655_350]),
+    ] {
+        let mut gate = open(1, 8, &[settings(10, 20, 100)]);
+        assert_eq!(gate.arrive(0, 1, 0, 1), by_reservation(0, 1));
+        assert_eq!(gate.arrive(0, 2, 0, 1), NOTHING);
+        assert_eq!(gate.arrive_spread(0, 3, 0, 5, delta, rho), NOTHING);
+        let Request {
+            rtag, ltag, stag, ..
+        } = gate.waiting()[1];
+        assert_eq!([rtag, ltag, stag], tags.map(|tag| tag * MS));
+        let guest = gate.guests()[0];
+        let next = [tags[0] + 500, tags[1] + 250, tags[2] + 50].map(|tag| tag * MS);
+        assert_eq!([guest.rnext, guest.lnext, guest.snext], next);
+    }
+}
+
+/// One in 100 ms reserved. With a rho of 0 id 3 has the reservation tag of id 2, and when id 2 goes by weight both lie
+/// 100 ms earlier; the next number is set from the last.
+#[test]
+fn drop_of_equal_tags() {
+    let mut gate = open(1, 8, &[settings(10, 0, 1)]);
+    assert_eq!(gate.arrive(0, 1, 0, 1), by_reservation(0, 1));
+    assert_eq!(gate.arrive(0, 2, 0, 1), NOTHING);
+    for (id, cost) in [(3, 1), (4, 2)] {
+        assert_eq!(gate.arrive_spread(0, id, 0, cost, 1, 0), NOTHING);
+    }
+    let tags = |gate: &Gate| -> Vec<u64> {
+        let waiting = gate.waiting().iter();
+        waiting.map(|request| request.rtag / MS).collect()
+    };
+    assert_eq!(tags(&gate), [100, 100, 100]);
+    assert_eq!(gate.guests()[0].rnext, 300 * MS);
+    assert_eq!(gate.complete(0, 1, 0), by_weight(0, 2));
+    assert_eq!(tags(&gate), [0, 0]);
+    assert_eq!(gate.guests()[0].rnext, 200 * MS);
+    // What is due now goes by reservation, and nothing drops.
+    assert_eq!(gate.complete(0, 2, 0), by_reservation(0, 3));
+    assert_eq!(gate.complete(0, 3, 0), by_reservation(0, 4));
+}
+
+/// Document 02, K14: "delta outside 1 to 65,535 or rho above delta is 20, after 18".
+#[test]
+fn bad_deltas() {
+    let mut gate = open(1, 1, &[settings(0, 0, 1)]);
+    let most = [MOST_DELTA; 2];
+    assert_eq!(
+        gate.arrive_spread(0, 1, 5, 1, most[0], most[1]),
+        by_weight(0, 1)
+    );
+    assert_eq!(gate.arrive(0, 2, 5, 1), NOTHING);
+    for [delta, rho] in [
+        [0, 0],
+        [0, 1],
+        [1, 2],
+        [MOST_DELTA, MOST_DELTA + 1],
+        [MOST_DELTA + 1, 0],
+        [1 << 32 | 1, 1],
+        [u64::MAX, u64::MAX],
+        [1, u64::MAX],
+    ] {
+        for (guest, id, time, cost, refusal) in [
+            (1, 1, 5, 0, Refusal::UnknownGuest),
+            (0, 1, CEILING + 1, 0, Refusal::TimeAboveCeiling),
+            (0, 1, 4, 0, Refusal::TimeBeforeLast),
+            (0, 1, 5, 0, Refusal::Cost),
+            (0, 1, 5, 1, Refusal::Delta),
+            (0, 3, 5, 1, Refusal::Delta),
+        ] {
+            refused(&mut gate, refusal, |gate| {
+                gate.arrive_spread(guest, id, time, cost, delta, rho)
+            });
+        }
+    }
+    refused(&mut gate, Refusal::IdInUse, |gate| {
+        gate.arrive_spread(0, 1, 5, 1, most[0], 0)
+    });
+}
+
+/// A raise may bring a tag past the ceiling: 9, and what was raised is not kept.
+#[test]
+fn raised_past_the_ceiling() {
+    let mut gate = open(1, 8, &[settings(0, 1, 1)]);
+    let early = CEILING - 10_000 * MS;
+    assert_eq!(gate.arrive(0, 1, early, 1), by_weight(0, 1));
+    refused(&mut gate, Refusal::TagAboveCeiling, |gate| {
+        gate.arrive_spread(0, 2, early, 1, 11, 0)
+    });
+    assert_eq!(gate.arrive_spread(0, 2, early, 1, 10, 0), NOTHING);
+    assert_eq!(gate.waiting()[0].ltag, CEILING);
+}
+
 #[test]
 fn what_a_gate_shows() {
     let mut gate = open(2, 3, &[settings(0, 1, 1)]);
@@ -566,13 +667,16 @@ fn one_by_one() {
 fn what_is_no_event() {
     let mut gate = limited(2, 10, 3);
     let before = gate.clone();
-    let event = |kind, guest, id, cost| Event {
+    let spread = |kind, guest, id, [cost, delta, rho]: [u64; 3]| Event {
         kind,
         guest,
         id,
         time: 0,
         cost,
+        delta,
+        rho,
     };
+    let event = |kind, guest, id, cost| spread(kind, guest, id, [cost, 0, 0]);
     let none = [
         event(3, 0, 0, 0),
         event(3, 0, 0, 1),
@@ -584,13 +688,18 @@ fn what_is_no_event() {
         event(raw::COMPLETION, 9, u64::MAX, 0),
         event(raw::COMPLETION, 0, 1, 1),
         event(raw::COMPLETION, 0, 1, u64::MAX),
+        spread(raw::TICK, 0, 0, [0, 1, 0]),
+        spread(raw::TICK, 0, 0, [0, 0, u64::MAX]),
+        spread(raw::COMPLETION, 0, 1, [0, 0, 1]),
+        spread(raw::COMPLETION, 0, 1, [0, 1, 1]),
     ];
     let answers = batch(&mut gate, &none);
     assert_eq!(answers, vec![Err(Refusal::EventKind); none.len()]);
     let far = event(raw::ARRIVAL, u64::MAX, 1, 0);
     let free = event(raw::ARRIVAL, 0, 1, 0);
-    let answers = batch(&mut gate, &[far, free]);
-    let expected = [Err(Refusal::UnknownGuest), Err(Refusal::Cost)];
+    let bare = event(raw::ARRIVAL, 0, 1, 1);
+    let answers = batch(&mut gate, &[far, free, bare]);
+    let expected = [Refusal::UnknownGuest, Refusal::Cost, Refusal::Delta].map(Err);
     assert_eq!(answers, expected);
     assert_eq!(gate, before);
 }

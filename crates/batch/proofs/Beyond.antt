@@ -10,12 +10,12 @@ use Rattle.rules.specs.declared.Outcome.{Outcome}
 use Rattle.gate.specs.Promise.{Lending, handedIn, followedIn, judgedIn, calledIn}
 use Rattle.gate.specs.Needs.{Beyond, Alike, Same}
 use Rattle.gate.specs.Calls.{Host, holds}
-use Rattle.gate.specs.declared.numbers.Judged.the-variants.{Good as Accepted}
+use Rattle.gate.specs.declared.Judged.the-variants.{Good as Accepted}
 use Rattle.gate.proofs.Lending.{Lawful}
 use Rattle.gate.proofs.Beyond.{chosen-sized, called-beyond}
 use Rattle.gate.proofs.Unread.{called-unread}
-use Rattle.batch.specs.declared.events.Read.{Read}
-use Rattle.batch.specs.declared.events.Read.the-variants.{Good, Bad}
+use Rattle.batch.specs.declared.Read.{Read}
+use Rattle.batch.specs.declared.Read.the-variants.{Good, Bad}
 use Rattle.batch.specs.Rows.{eventsIn, answersOver}
 use Rattle.batch.specs.Promise.{hostOf, one, heldAfter, outcomes, batchTests, batchedBy, batchedIn}
 

@@ -10,16 +10,16 @@ use Rattle.lists.specs.Words.{if_then_else_, all}
 use Rattle.lists.specs.WordsLaws.{both, join, all-append, places-all}
 use Rattle.lists.specs.Tab.{tab, getD-tab, length-tab}
 use Rattle.rules.specs.declared.Event.the-variants.{Arrival, Completion, Tick}
-use Rattle.rules.specs.TurnAt.{TurnKept}
+use Rattle.turns.specs.TurnAt.{TurnKept}
 use Rattle.rules.specs.Refusals.{judged, isAccept}
 use Rattle.gate.specs.Promise.{Lending}
 use Rattle.gate.specs.Calls.{Host, holds, call, held, shows, firm, narrow, freeReplies}
 use Rattle.gate.proofs.Lending.{Lawful}
 use Rattle.gate.proofs.Demand3.{calls-demand-3-places}
 use Rattle.gate.proofs.Runs.{calls-run}
-use Rattle.batch.specs.declared.events.Read.{Read}
-use Rattle.batch.specs.declared.events.Read.the-variants.{Good, Bad}
-use Rattle.batch.specs.Rows.{countOf, eventFrom, eventNumber, EVENT_KIND, EVENT_GUEST, EVENT_ID, EVENT_TIME, EVENT_COST, eventAt, eventsIn}
+use Rattle.batch.specs.declared.Read.{Read}
+use Rattle.batch.specs.declared.Read.the-variants.{Good, Bad}
+use Rattle.batch.specs.Rows.{countOf, eventFrom, eventNumber, EVENT_KIND, EVENT_GUEST, EVENT_ID, EVENT_TIME, EVENT_COST, EVENT_DELTA, EVENT_RHO, eventAt, eventsIn}
 use Rattle.batch.specs.Promise.{batchTests}
 use Rattle.batch.specs.Batches.{goods, narrowRead, Batch, doneBy, allDone, heldBatches, freeAnswers}
 use Rattle.batch.proofs.OneByOne.{batches-as-calls}
@@ -27,11 +27,11 @@ use Rattle.batch.proofs.OneByOne.{batches-as-calls}
 -- IDS
 
 -- what a row brings, by its tests
-abbrev brings : (guest id time cost : ℕ) → (short first free second third : Bool) → Read
-brings guest id time cost a b f c d =
+abbrev brings : (guest id time cost delta rho : ℕ) → (short first free second third : Bool) → Read
+brings guest id time cost delta rho a b f c d =
     if a
     then
-    if b then Good (Arrival (record { guest = guest; id = id; cost = cost }) time)
+    if b then Good (Arrival (record { guest = guest; id = id; cost = cost; delta = delta; rho = rho }) time)
     else if f
     then
     if c then Good (Completion (record { guest = guest; id = id }) time)
@@ -41,19 +41,19 @@ brings guest id time cost a b f c d =
     else Bad
 
 -- every id that a row brings has 32 bits
-from-narrow : (kind guest id time cost : ℕ) → narrowRead (eventFrom kind guest id time cost) ≡ true
+from-narrow : (kind guest id time cost delta rho : ℕ) → narrowRead (eventFrom kind guest id time cost delta rho) ≡ true
 unfolding eventFrom
-from-narrow kind guest id time cost = go (ltb id 4294967296) refl
+from-narrow kind guest id time cost delta rho = go (ltb id 4294967296) refl
   where
-    kinds : ltb id 4294967296 ≡ true → (b f c d : Bool) → narrowRead (brings guest id time cost true b f c d) ≡ true
+    kinds : ltb id 4294967296 ≡ true → (b f c d : Bool) → narrowRead (brings guest id time cost delta rho true b f c d) ≡ true
     kinds e true f c d = e
     kinds e false false c d = refl
     kinds e false true true d = refl
     kinds e false true false true = refl
     kinds e false true false false = refl
 
-    go : (a : Bool) → ltb id 4294967296 ≡ a → narrowRead (brings guest id time cost a (eqb kind 0) (eqb cost 0) (eqb kind 1) (eqb kind 2 && eqb guest 0 && eqb id 0)) ≡ true
-    go true e = kinds e (eqb kind 0) (eqb cost 0) (eqb kind 1) (eqb kind 2 && eqb guest 0 && eqb id 0)
+    go : (a : Bool) → ltb id 4294967296 ≡ a → narrowRead (brings guest id time cost delta rho a (eqb kind 0) (eqb cost 0 && eqb delta 0 && eqb rho 0) (eqb kind 1) (eqb kind 2 && eqb guest 0 && eqb id 0)) ≡ true
+    go true e = kinds e (eqb kind 0) (eqb cost 0 && eqb delta 0 && eqb rho 0) (eqb kind 1) (eqb kind 2 && eqb guest 0 && eqb id 0)
     go false e = refl
 
 pub events-narrow : (es : List ℕ) → all narrowRead (eventsIn es) ≡ true
@@ -63,7 +63,7 @@ events-narrow es =
     (λ k l.
     ap narrowRead (getD-tab (countOf es) (eventAt es) k Bad (rw length-tab at l))
     ∙ from-narrow (eventNumber es k EVENT_KIND) (eventNumber es k EVENT_GUEST) (eventNumber es k EVENT_ID) (eventNumber es k EVENT_TIME)
-    (eventNumber es k EVENT_COST))
+    (eventNumber es k EVENT_COST) (eventNumber es k EVENT_DELTA) (eventNumber es k EVENT_RHO))
 
 done-narrow : (b : Batch) → all narrowRead (doneBy b) ≡ true
 done-narrow b = go (isAccept (judged (batchTests (b .events) (b .answers))))

@@ -19,11 +19,11 @@ use Rattle.gate.specs.Promise.{numbers, HandedIn, seen, called}
 use Rattle.gate.specs.Calls.{Host, holds}
 use Rattle.gate.specs.Judges.{Judges}
 use Rattle.gate.specs.Replies.{replyOf}
-use Rattle.gate.specs.declared.numbers.Judged.{Judged}
-use Rattle.gate.specs.declared.replies.Reply.{Reply}
+use Rattle.gate.specs.declared.Judged.{Judged}
+use Rattle.gate.specs.declared.Reply.{Reply}
 use Rattle.gate.proofs.Once.{seen-once}
-use Rattle.batch.specs.declared.events.Read.{Read}
-use Rattle.batch.specs.declared.events.Read.the-variants.{Good, Bad}
+use Rattle.batch.specs.declared.Read.{Read}
+use Rattle.batch.specs.declared.Read.the-variants.{Good, Bad}
 use Rattle.batch.specs.Rows.{countOf, eventAt, eventsIn, answerWide, rowOf, lineOf, linesOf, answersOver}
 use Rattle.batch.specs.Promise.{hostOf, one, heldAfter, outcomes}
 use Rattle.batch.specs.Turns.{turn, Ran}

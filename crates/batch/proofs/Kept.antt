@@ -17,8 +17,8 @@ use Rattle.rules.specs.declared.Refusal.the-variants.{AnswersShort}
 use Rattle.rules.proofs.Judged.{passed, numberOf-some}
 use Rattle.gate.specs.Promise.{Lending}
 use Rattle.gate.specs.Calls.{Host}
-use Rattle.gate.specs.declared.numbers.Judged.{Judged}
-use Rattle.gate.specs.declared.numbers.Judged.the-variants.{Good as Accepted, Bad as Barred}
+use Rattle.gate.specs.declared.Judged.{Judged}
+use Rattle.gate.specs.declared.Judged.the-variants.{Good as Accepted, Bad as Barred}
 use Rattle.batch.specs.Rows.{countOf, eventsIn, answerWide, linesOf, answersOver}
 use Rattle.batch.specs.Promise.{BatchIn, hostOf, foundOf, outcomes, batchTests, batchedBy, batchedIn}
 use Rattle.batch.proofs.Runs.{length-lines, length-outcomes, length-events}

@@ -6,8 +6,8 @@ use mathlib.Core.List.{List}
 use Rattle.rules.specs.declared.Gate.{Gate}
 use Rattle.rules.proofs.Judged.{numberOf-once, numberOf-some}
 use Rattle.gate.specs.Promise.{Lending}
-use Rattle.gate.specs.declared.numbers.Judged.{Judged}
-use Rattle.gate.specs.declared.numbers.Judged.the-variants.{Good as Accepted, Bad as Barred}
+use Rattle.gate.specs.declared.Judged.{Judged}
+use Rattle.gate.specs.declared.Judged.the-variants.{Good as Accepted, Bad as Barred}
 use Rattle.batch.specs.Promise.{foundOf, BatchIn, SeenBatchIn, seenBatchIn, batchedIn}
 
 -- what was found is its number

@@ -18,8 +18,8 @@ use Rattle.rules.specs.declared.Wake.{Wake}
 use Rattle.rules.specs.declared.Refusal.the-variants.{BadEvent}
 use Rattle.gate.specs.Promise.{Lending}
 use Rattle.gate.specs.Calls.{Host, holds, call, held, replies, wakings, narrow}
-use Rattle.batch.specs.declared.events.Read.{Read}
-use Rattle.batch.specs.declared.events.Read.the-variants.{Good, Bad}
+use Rattle.batch.specs.declared.Read.{Read}
+use Rattle.batch.specs.declared.Read.the-variants.{Good, Bad}
 use Rattle.batch.specs.Rows.{countOf, eventFrom, eventAt, eventsIn, answersOver}
 use Rattle.batch.specs.Promise.{hostOf, one, heldAfter, outcomes, batchTests, batchedBy, batchedIn}
 use Rattle.batch.specs.Batches.{goods, good, narrowRead, Batch, doneBy, allDone, leaves, batch, heldBatches}

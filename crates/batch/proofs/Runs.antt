@@ -8,7 +8,7 @@ use Rattle.lists.specs.Tab.{length-tab}
 use Rattle.rules.specs.declared.Outcome.{Outcome}
 use Rattle.gate.specs.Promise.{Lending}
 use Rattle.gate.specs.Calls.{Host, holds}
-use Rattle.batch.specs.declared.events.Read.{Read}
+use Rattle.batch.specs.declared.Read.{Read}
 use Rattle.batch.specs.Rows.{countOf, eventAt, eventsIn, answerWide, lineOf, linesOf}
 use Rattle.batch.specs.Promise.{one, heldAfter, outcomes}
 

@@ -11,8 +11,8 @@ use Rattle.rules.specs.declared.Refusal.the-variants.{AnswersShort, TooManyEven
 use Rattle.rules.specs.Refusals.{Verdict, accept, refuse, judged}
 use Rattle.gate.specs.Promise.{numbers}
 use Rattle.gate.specs.Calls.{Host}
-use Rattle.gate.specs.declared.numbers.Judged.the-variants.{Good as Accepted, Bad as Barred}
-use Rattle.batch.specs.declared.numbers.Batched.{Batched}
+use Rattle.gate.specs.declared.Judged.the-variants.{Good as Accepted, Bad as Barred}
+use Rattle.batch.specs.declared.Batched.{Batched}
 use Rattle.batch.specs.Rows.{countOf, mostEvents, answerWide}
 use Rattle.batch.specs.Promise.{BatchIn, batchTests, hostOf, batchedBy, batchedIn, batched, seenBatch}
 use Rattle.batch.specs.Turns.{Ran}

@@ -14,9 +14,9 @@ use Rattle.rules.specs.declared.Answer.{Answer}
 use Rattle.rules.specs.declared.Outcome.{Outcome}
 use Rattle.gate.specs.Promise.{Lending}
 use Rattle.gate.specs.Calls.{Host, holds, call, finds, narrow}
-use Rattle.batch.specs.declared.events.Read.{Read}
-use Rattle.batch.specs.declared.events.Read.the-variants.{Good, Bad}
-use Rattle.batch.specs.declared.numbers.Batched.{Batched}
+use Rattle.batch.specs.declared.Read.{Read}
+use Rattle.batch.specs.declared.Read.the-variants.{Good, Bad}
+use Rattle.batch.specs.declared.Batched.{Batched}
 use Rattle.batch.specs.Rows.{countOf, eventsIn, mostEvents, answerWide}
 use Rattle.batch.specs.Promise.{foundOf, BatchIn, hostOf, batchTests, batchedIn}
 

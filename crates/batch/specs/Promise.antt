@@ -14,11 +14,11 @@ use Rattle.rules.specs.declared.Answer.the-variants.{Refused}
 use Rattle.rules.specs.declared.Outcome.{Outcome}
 use Rattle.gate.specs.Promise.{Lending, numbers, HandedIn, unchangedIn}
 use Rattle.gate.specs.Calls.{Host, holds, call}
-use Rattle.gate.specs.declared.numbers.Judged.{Judged}
-use Rattle.gate.specs.declared.numbers.Judged.the-variants.{Good as Accepted, Bad as Barred}
-use Rattle.batch.specs.declared.events.Read.{Read}
-use Rattle.batch.specs.declared.events.Read.the-variants.{Good, Bad}
-use Rattle.batch.specs.declared.numbers.Batched.{Batched}
+use Rattle.gate.specs.declared.Judged.{Judged}
+use Rattle.gate.specs.declared.Judged.the-variants.{Good as Accepted, Bad as Barred}
+use Rattle.batch.specs.declared.Read.{Read}
+use Rattle.batch.specs.declared.Read.the-variants.{Good, Bad}
+use Rattle.batch.specs.declared.Batched.{Batched}
 use Rattle.batch.specs.Rows.{countOf, eventsIn, mostEvents, answerWide, answersOver}
 
 -- the tests of the whole call: "16, answer buffer short, before all others; 17, more than 256 events, next"

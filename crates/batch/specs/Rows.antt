@@ -1,4 +1,4 @@
--- Document 02, K5: events and answers as rows of numbers in lent lists. An event has five, with K8's cost, an answer five.
+-- Document 02, K5: events and answers as rows of numbers in lent lists. An event has seven, with K8's cost and K14's delta and rho, an answer five.
 use Prim.Native.Nat.{ℕ, _+_, _*_, _/_}
 use mathlib.Core.Bool.{_&&_}
 use mathlib.Core.List.{List, [], _∷_, _++_}
@@ -9,13 +9,13 @@ use Rattle.lists.specs.Tab.{tab}
 use Rattle.rules.specs.declared.Event.the-variants.{Arrival, Completion, Tick}
 use Rattle.rules.specs.declared.Outcome.{Outcome}
 use Rattle.gate.specs.Replies.{replyOf}
-use Rattle.gate.specs.declared.replies.Reply.{Reply}
-use Rattle.batch.specs.declared.events.Read.{Read}
-use Rattle.batch.specs.declared.events.Read.the-variants.{Good, Bad}
+use Rattle.gate.specs.declared.Reply.{Reply}
+use Rattle.batch.specs.declared.Read.{Read}
+use Rattle.batch.specs.declared.Read.the-variants.{Good, Bad}
 
 -- EVENTS
 
--- where the kind of an event stands in its row, its guest, its id, its time and its cost
+-- where the kind of an event stands in its row, its guest, its id, its time, its cost, its delta and its rho
 abbrev pub EVENT_KIND : ℕ
 EVENT_KIND = 0
 
@@ -31,22 +31,29 @@ EVENT_TIME = 3
 abbrev pub EVENT_COST : ℕ
 EVENT_COST = 4
 
+abbrev pub EVENT_DELTA : ℕ
+EVENT_DELTA = 5
+
+abbrev pub EVENT_RHO : ℕ
+EVENT_RHO = 6
+
 -- how many numbers it has
 abbrev pub eventWide : ℕ
-eventWide = 5
+eventWide = 7
 
 -- the most events of one call
 abbrev pub mostEvents : ℕ
 mostEvents = 256
 
--- an event of this kind (0 arrival, 1 completion, 2 tick), guest, id, time and cost. None, refusal 14, is an "event kind above 2, or a tick with non-zero guest or
--- id"; nor is a number of more than 32 bits an id. Only an arrival carries a cost, of any size until it is judged: another event with one is none
-unfoldable pub eventFrom : (kind guest id time cost : ℕ) → Read
-eventFrom kind guest id time cost =
+-- an event of this kind (0 arrival, 1 completion, 2 tick), guest, id, time, cost, delta and rho. None, refusal 14, is an "event kind above 2, or a tick with non-zero guest or
+-- id"; nor is a number of more than 32 bits an id. Only an arrival carries a cost, a delta and a rho, of any size until they are judged: another
+-- event with one of them is none
+unfoldable pub eventFrom : (kind guest id time cost delta rho : ℕ) → Read
+eventFrom kind guest id time cost delta rho =
     if ltb id 4294967296
     then
-    if eqb kind 0 then Good (Arrival (record { guest = guest; id = id; cost = cost }) time)
-    else if eqb cost 0
+    if eqb kind 0 then Good (Arrival (record { guest = guest; id = id; cost = cost; delta = delta; rho = rho }) time)
+    else if eqb cost 0 && eqb delta 0 && eqb rho 0
     then
     if eqb kind 1 then Good (Completion (record { guest = guest; id = id }) time)
     else if eqb kind 2 && eqb guest 0 && eqb id 0 then Good (Tick time)
@@ -61,7 +68,7 @@ eventNumber es k j = getD es (k * eventWide + j) 0
 -- the event of row k
 unfoldable pub eventAt : List ℕ → ℕ → Read
 eventAt es k = eventFrom (eventNumber es k EVENT_KIND) (eventNumber es k EVENT_GUEST) (eventNumber es k EVENT_ID) (eventNumber es k EVENT_TIME)
-    (eventNumber es k EVENT_COST)
+    (eventNumber es k EVENT_COST) (eventNumber es k EVENT_DELTA) (eventNumber es k EVENT_RHO)
 
 -- how many events a lent list has: numbers behind the last whole row are none
 abbrev pub countOf : List ℕ → ℕ

@@ -5,7 +5,7 @@ use mathlib.Core.List.{List}
 use lib.Seq.{sets}
 use Rattle.gate.specs.Promise.{numbers}
 use Rattle.gate.specs.Calls.{Host, holds}
-use Rattle.batch.specs.declared.events.Read.{Read}
+use Rattle.batch.specs.declared.Read.{Read}
 use Rattle.batch.specs.Rows.{eventsIn, answerWide, lineOf, answersOver}
 use Rattle.batch.specs.Promise.{one, heldAfter, outcomes}
 

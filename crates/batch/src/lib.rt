@@ -1,5 +1,16 @@
-// Many events in one call: each answered in its place of a lent buffer, exactly as if they came one by one. The lent tables are tested once for all of
-// them. No `requires`: whatever is handed in.
-pub mod events; // rows of events
-pub mod answers; // rows of answers
-pub mod numbers; // the call over lent numbers
+// Document 02, K5: many events in one call. The crate has no code: it stands for what is in specs/ and proofs/; `slots` reads and writes the rows, and `bulk` is the call.
+use gate::Judged;
+use rules::Event;
+use rules::Gate;
+
+// An event as its row has it, or none: refusal 14.
+pub enum Read {
+    Good(Event),
+    Bad,
+}
+
+// The gate after a batch, and what was found before any of it was done: nothing, or why all of it is refused.
+pub struct Batched {
+    pub gate: Gate,
+    pub found: Judged,
+}

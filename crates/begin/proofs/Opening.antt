@@ -26,7 +26,7 @@ use Rattle.gate.proofs.Opened.{opened-firm, opened-known}
 use Rattle.trace.specs.Header.{firstVersion, lastVersion, settingsAt, settingsIn, headerOf}
 use Rattle.trace.specs.declared.Header.the-variants.{Opened}
 use Rattle.trace.proofs.HeaderLaws.{Opens, opened as header-opens}
-use Rattle.trace.proofs.SettingsRows.{filled, length-filled, settings-rows}
+use Rattle.headers.proofs.SettingsRows.{filled, length-filled, settings-rows}
 use Rattle.feed.specs.Promise.{Became}
 use Rattle.begin.specs.Begin.{Largest}
 use Rattle.begin.proofs.Begins.{Sizes, sizes}

@@ -1,7 +1,7 @@
 // The beginning of a trace: the tables are opened as its header says, and the bytes of the events move to the front.
+use fields::body;
+use headers::read_settings;
 use rules::Gate;
-use trace::opening::body;
-use trace::opening::read_settings;
 ghost use mathlib.Core.Path.{_≡_};
 ghost use Prim.Native.Nat.{_≤_};
 ghost use lib.ListN.{length, take};
@@ -31,7 +31,7 @@ pub fn open_tables(
     ensures { λ r. ⌜ tableOf r (now (guests .exit)) (now (waiting .exit)) (now (flight .exit)) ≡ fresh depth capacity rule (settingsIn (now (bytes .entry))) ⌝ }
 {
     read_settings(bytes, version, known as usize, settings);
-    let opened = gate::numbers::open(
+    let opened = opens::open(
         depth,
         known,
         capacity,
@@ -82,6 +82,6 @@ pub fn begin(
         waiting,
         flight,
     );
-    let rest = feed::buffer::shift(buffer, body(version, known as usize), have);
+    let rest = buffers::shift(buffer, body(version, known as usize), have);
     Begun { gate, rest }
 }

@@ -1,7 +1,7 @@
 // The clock of a board that counts microseconds in 32 bits: one record that each reading moves on. It tells the time in nanoseconds, as the gate
 // takes it. What a reading does is in specs/Reading.antt. No `requires`: whatever record, whatever reading.
 use rules::Refusal;
-use table::numbers::CEILING;
+use tags::CEILING;
 ghost use mathlib.Core.Path.{_≡_};
 ghost use Rattle.clock.specs.Reading.{elapsed as elapsedOf, clockOf, movedTo, doing};
 
@@ -65,7 +65,7 @@ fn advance(time: u64, last: u32, started: u32, reading: u32) -> Turn
     if CEILING - since < time {
         return Turn {
             told: Told {
-                refusal: rules::number(Refusal::TimeAboveCeiling),
+                refusal: refusals::number(Refusal::TimeAboveCeiling),
                 time: 0,
             },
             clock: Clock {

@@ -12,8 +12,8 @@ use Rattle.stream.specs.Outcome.{Next, Last, First}
 use Rattle.trace.specs.Header.{headerOf}
 use Rattle.trace.specs.Printed.{Place, begun, printed}
 use Rattle.trace.specs.declared.Header.the-variants.{Opened, Refused as Unopened}
-use Rattle.decide.specs.Standing.{Standing}
-use Rattle.decide.proofs.Stands.{refused-lacks, opened-stands, stands-right}
+use Rattle.prints.specs.Standing.{Standing}
+use Rattle.prints.proofs.Stands.{refused-lacks, opened-stands, stands-right}
 
 -- A BAD HEADER: its line is the last
 pub refused-last : (n : ℕ) (bs : List ℕ) (why : Refusal) → First n bs → headerOf bs ≡ Unopened why → Last printed n (refusalLine why)

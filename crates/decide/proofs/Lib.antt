@@ -1,4 +1,2 @@
-pub mod Stands
 pub mod Heading
-pub mod Pumping
 pub mod Whole

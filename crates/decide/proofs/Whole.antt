@@ -8,7 +8,7 @@ use Rattle.stream.specs.declared.End.{End}
 use Rattle.stream.specs.declared.End.the-variants.{Whole}
 use Rattle.stream.proofs.Outcomes.{ran-whole, ran-beginning}
 use Rattle.trace.specs.Printed.{printed}
-use Rattle.decide.specs.Standing.{Decided}
+use Rattle.prints.specs.Standing.{Decided}
 
 -- THE PROGRAM: where it ends well, and the input has ended, what was written is what is printed of all the bytes that were read
 pub whole : (n : ℕ) → Decided Whole n → (t : Tape) × Holds n t × (t .ended ≡ true → t .wrote ≡ printed (t .read))

@@ -1,5 +1,6 @@
 // Reads a trace from standard input and prints what each of its events is answered. `main` makes the arrays. Each function is told by the count
-// `log` what was read and written before it, and promises what was after it: specs/Standing.antt. It reads and writes by `stream` alone.
+// `log` what was read and written before it, and promises what was after it: crates/prints/specs/Standing.antt. It reads and writes by `stream` alone.
+use headers::read_header;
 use rules::Refusal;
 use stream::End;
 use stream::Filled;
@@ -8,7 +9,6 @@ use table::columns::GUESTS_LONG;
 use table::columns::SETTINGS_LONG;
 use table::columns::WAITING_LONG;
 use trace::Header;
-use trace::opening::read_header;
 ghost use mathlib.Core.Path.{_≡_};
 ghost use Prim.Native.Nat.{_≤_};
 ghost use lib.ListN.{length, take};
@@ -19,10 +19,7 @@ ghost use Rattle.trace.specs.Printed.{printed};
 ghost use Rattle.trace.specs.declared.Header.the-variants.{Opened};
 ghost use Rattle.stream.specs.Outcome.{Last, First};
 ghost use Rattle.begin.specs.Begin.{Largest};
-ghost use Rattle.decide.specs.Standing.{Decided};
-
-mod events; // the events are judged, a buffer at a turn
-mod output; // lines are handed on to be written
+ghost use Rattle.prints.specs.Standing.{Decided};
 
 // Makes the arrays, each for the largest settings, runs the trace on them, and says on standard error where a read or a write failed.
 fn main() {
@@ -127,7 +124,7 @@ fn refuse(out: &mut [u8], refusal: Refusal, log: &mut u64) -> End
     ensures { λ r. ⌜ Decided r (now (log .exit)) ⌝ }
 {
     let n = lines::put_refusal(out, 0, refusal);
-    output::last(out, n, log)
+    prints::output::last(out, n, log)
 }
 
 // A good header: opens the tables, writes the header line, and goes on with the events. A buffer that is not full holds all of the input.
@@ -167,11 +164,11 @@ fn follow(
     );
     let rest = begun.rest;
     let gate = begun.gate;
-    if !output::title(out, log) {
+    if !prints::output::title(out, log) {
         return End::Unwritten;
     }
     if have < 4096 {
-        return events::close(
+        return pumps::close(
             version,
             buffer,
             rest,
@@ -183,7 +180,7 @@ fn follow(
             log,
         );
     }
-    events::pump(
+    pumps::pump(
         version,
         buffer,
         rest,

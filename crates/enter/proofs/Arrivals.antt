@@ -11,7 +11,7 @@ use Rattle.lists.specs.Rows.{overRows, Unused}
 use Rattle.lists.specs.RowsLaws.{length-rows, length-over-rows, rows-over, over-twice, over-unused, over-same}
 use Rattle.rules.specs.Numbers.{ceiling}
 use Rattle.rules.specs.Tables.{Request, Table, owner, idle, lacks, names}
-use Rattle.rules.specs.Sound.{fair}
+use Rattle.rules.specs.Sound.{fair, spread}
 use Rattle.rules.specs.declared.Setup.{Setup}
 use Rattle.rules.specs.declared.Guest.{Guest}
 use Rattle.rules.specs.declared.Flight.{Flight}
@@ -22,7 +22,7 @@ use Rattle.rules.specs.declared.Event.the-variants.{Arrival}
 use Rattle.rules.specs.Refusals.{eventTests, passing, accept, refuse, judged, verdict}
 use Rattle.rules.proofs.SameSettings.{adjusted-settings, same-count}
 use Rattle.rules.specs.declared.Gate.{Gate}
-use Rattle.rules.specs.declared.Refusal.the-variants.{BadCost, IdInUse, NoRoom, TagAboveCeiling}
+use Rattle.rules.specs.declared.Refusal.the-variants.{BadCost, BadDelta, IdInUse, NoRoom, TagAboveCeiling}
 use Rattle.table.specs.Columns.{guestWide, waitingWide}
 use Rattle.table.specs.View.{gateAt, guestForm, requestForm, flightForm, guestsOf, waitingOf, tableOf, Known}
 use Rattle.table.specs.ViewLaws.{guest-exact, request-exact, flight-exact}
@@ -64,23 +64,28 @@ module _ (g : Gate) (gs ws fs : List ℕ) (k : Known g gs ws fs) (a : Arriving) 
     unfolding eventTests
     arrival-costly d = arrival-judged ∙ rw d
 
-    -- its name is in use
-    pub arrival-used : fair (a .cost) ≡ true → lacks (calledBy a) (names t) ≡ false → verdict t ev ≡ refuse IdInUse
+    -- its delta or its rho is
+    pub arrival-spread : fair (a .cost) ≡ true → spread (a .delta) (a .rho) ≡ false → verdict t ev ≡ refuse BadDelta
     unfolding eventTests
-    arrival-used c u = arrival-judged ∙ rw (c, u)
+    arrival-spread c d = arrival-judged ∙ rw (c, d)
 
-    module _ (cheap : fair (a .cost) ≡ true) (new : lacks (calledBy a) (names t) ≡ true) where
+    -- its name is in use
+    pub arrival-used : fair (a .cost) ≡ true → spread (a .delta) (a .rho) ≡ true → lacks (calledBy a) (names t) ≡ false → verdict t ev ≡ refuse IdInUse
+    unfolding eventTests
+    arrival-used c d u = arrival-judged ∙ rw (c, d, u)
+
+    module _ (cheap : fair (a .cost) ≡ true) (many : spread (a .delta) (a .rho) ≡ true) (new : lacks (calledBy a) (names t) ≡ true) where
       -- no place is free to wait in
       pub arrival-full : g .waiting ≡ g .setup .capacity → verdict t ev ≡ refuse NoRoom
       unfolding eventTests
-      arrival-full f = arrival-judged ∙ rw (cheap, new, length-rows requestForm ws (g .waiting), eq-eqb (g .waiting) (g .setup .capacity) f)
+      arrival-full f = arrival-judged ∙ rw (cheap, many, new, length-rows requestForm ws (g .waiting), eq-eqb (g .waiting) (g .setup .capacity) f)
 
       module _ (free : g .waiting ≡ g .setup .capacity → ⊥) (i : Bool) (e : idle t (a .guest) ≡ i) where
         -- only refusal 9 is left
         arrival-left : verdict t ev ≡ (if passing i now a t then refuse TagAboveCeiling else accept)
         unfolding eventTests
         arrival-left =
-            arrival-judged ∙ rw (cheap, new, length-rows requestForm ws (g .waiting), ne-eqb (g .waiting) (g .setup .capacity) free)
+            arrival-judged ∙ rw (cheap, many, new, length-rows requestForm ws (g .waiting), ne-eqb (g .waiting) (g .setup .capacity) free)
             (ap (λ (b : Bool). if passing b now a t then refuse TagAboveCeiling else accept) e)
 
         -- a tag would pass the ceiling

@@ -9,31 +9,33 @@ use Rattle.lists.specs.Words.{lowest}
 use Rattle.lists.specs.Lines.{lineAt}
 use Rattle.lists.specs.Rows.{overRows}
 use Rattle.lists.specs.RowsLaws.{length-rows, row-at, length-over-rows, rows-over}
-use Rattle.rules.specs.Numbers.{mostCredit}
 use Rattle.rules.specs.Tables.{Request, Table, owner, idle}
 use Rattle.rules.specs.declared.Settings.{Settings}
 use Rattle.rules.specs.declared.Guest.{Guest}
-use Rattle.rules.specs.Events.{adjusted, stamped, stampedFor}
+use Rattle.rules.specs.Events.{adjusted, stamped, raised, stampedFor}
 use Rattle.rules.specs.declared.Arriving.{Arriving}
 use Rattle.rules.specs.declared.Event.{Event}
 use Rattle.rules.specs.declared.Event.the-variants.{Arrival}
 use Rattle.rules.specs.Refusals.{passing, refuse, verdict}
+use Rattle.rules.specs.Refused.{Good}
 use Rattle.rules.proofs.Facts.{lawful-is}
 use Rattle.rules.proofs.Spacings.{fair-is}
+use Rattle.rules.proofs.Raises.{spread-most}
+use Rattle.rules.proofs.NextFits.{NextFits, next-fits}
 use Rattle.rules.proofs.SameSettings.{adjusted-settings, same-count, same-owner}
 use Rattle.rules.specs.declared.Gate.{Gate}
 use Rattle.rules.specs.declared.Refusal.the-variants.{TagAboveCeiling}
-use Rattle.table.specs.Columns.{guestWide, LIMIT, CREDIT, guestAt}
+use Rattle.table.specs.Columns.{guestWide, LIMIT}
 use Rattle.table.specs.View.{guestForm, requestForm, guestsOf, tableOf, Known}
 use Rattle.table.specs.ViewLaws.{guest-exact, request-exact}
 use Rattle.moves.specs.Moves.{appended, followed}
 use Rattle.table.specs.Stamp.{lawfulTags, movesFit}
 use Rattle.walks.specs.Survey.{highest}
 use Rattle.shares.specs.Passing.{passing-is}
-use Rattle.enter.specs.declared.arrive.Stamp.{Stamp}
+use Rattle.stamps.specs.declared.Stamp.{Stamp}
 use Rattle.table.specs.Does.{placedGate}
 use Rattle.enter.specs.Enters.{EntersAt}
-use Rattle.enter.specs.Arrive.{stampOf, requestOf, Ready, Placeable, Placed}
+use Rattle.stamps.specs.Arrive.{stampOf, requestOf, Stampable, Ready, Placeable, Placed}
 use Rattle.table.proofs.Facts.{Facts, facts, guest-is}
 use Rattle.enter.proofs.Arrivals.{arrival-enters, arrival-passing}
 
@@ -55,14 +57,28 @@ module _ (g : Gate) (gs ws fs : List ℕ) (k : Known g gs ws fs) (a : Arriving) 
   row-asks : a .guest * guestWide + guestWide ≤ length gs
   row-asks = omega (arith, known, k .guestRoom)
 
-  -- and its credit is in range
-  pub tags-ask : (a .guest * guestWide + guestWide ≤ length gs) × (guestAt gs (a .guest) CREDIT ≤ mostCredit)
-  tags-ask = (row-asks, subst (λ (h : Guest). h .settings .credit ≤ mostCredit) (guest-is g gs ws fs k (a .guest) known) (z .settles (a .guest) known .credits))
+  -- its settings are in range, and its next numbers may be raised
+  pub tags-ask : Stampable gs a
+  tags-ask =
+      let own = guest-is g gs ws fs k (a .guest) known in
+      let good : Good ((guestForm .read (lineAt guestWide gs (a .guest))) .settings) = subst (λ (h : Guest). Good (h .settings)) own (z .settles (a .guest) known) in
+      let next : NextFits (guestForm .read (lineAt guestWide gs (a .guest))) = subst NextFits own (next-fits t (k .isSound) (a .guest)) in
+      let most = spread-most (a .delta) (a .rho) (ready .timely .many) in
+      record {
+        row = row-asks;
+        limits = good .limits;
+        credits = good .credits;
+        delta = most .0;
+        rho = most .1;
+        reservation = next .reservation;
+        limit = next .limit;
+        share = next .share;
+      }
 
   -- the tags by the numbers are the request's
-  module _ (s : Stamp) (es : s ≡ stampOf i now (guestForm .read (lineAt guestWide gs (a .guest)))) where
-    stamp-is : s ≡ stampOf i now (owner (t .guests) (a .guest))
-    stamp-is = es ∙ ap (stampOf i now) (sym (guest-is g gs ws fs k (a .guest) known))
+  module _ (s : Stamp) (es : s ≡ stampOf i now (raised a (guestForm .read (lineAt guestWide gs (a .guest))))) where
+    stamp-is : s ≡ stampOf i now (raised a (owner (t .guests) (a .guest)))
+    stamp-is = es ∙ ap (λ (h : Guest). stampOf i now (raised a h)) (sym (guest-is g gs ws fs k (a .guest) known))
 
     request-is : requestOf a s ≡ stampedFor i now a t
     unfolding stamped
@@ -80,7 +96,7 @@ module _ (g : Gate) (gs ws fs : List ℕ) (k : Known g gs ws fs) (a : Arriving) 
         ∙ ap (λ (x : Stamp). not (movesFit i now low high && lawfulTags (x .rtag) (x .ltag) (x .stag))) (sym stamp-is)
 
     refused-so : passing i now a t ≡ true → verdict t ev ≡ refuse TagAboveCeiling
-    refused-so = arrival-passing g gs ws fs k a now known (ready .timely .late) (ready .timely .early) (ready .timely .cheap) (ready .new) (ready .free) i e
+    refused-so = arrival-passing g gs ws fs k a now known (ready .timely .late) (ready .timely .early) (ready .timely .cheap) (ready .timely .many) (ready .new) (ready .free) i e
 
     -- a tag given would pass the ceiling
     pub stamp-passes : lawfulTags (s .rtag) (s .ltag) (s .stag) ≡ false → verdict t ev ≡ refuse TagAboveCeiling
@@ -111,7 +127,7 @@ module _ (g : Gate) (gs ws fs : List ℕ) (k : Known g gs ws fs) (a : Arriving) 
             (subst (λ (x : List ℕ). EntersAt ev g gs ws fs (placedGate now g) x ps fs) (sym (p .guests))
             (subst (λ (x : List ℕ). EntersAt ev g gs ws fs (placedGate now g) (followed (a .guest) (s .rtag) (s .ltag) (s .stag) (a .cost) hs) x fs) (sym (p .waiting))
             (subst At (sym request-is)
-            (arrival-enters g gs ws fs k a now known (ready .timely .late) (ready .timely .early) (ready .timely .cheap) (ready .new) (ready .free) i e passes-not hs vs ph pv bits))))
+            (arrival-enters g gs ws fs k a now known (ready .timely .late) (ready .timely .early) (ready .timely .cheap) (ready .timely .many) (ready .new) (ready .free) i e passes-not hs vs ph pv bits))))
 
         -- there is room for the request, and its guest's next numbers fit
         pub placeable : Placeable g hs vs a s

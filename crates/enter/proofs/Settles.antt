@@ -30,7 +30,7 @@ use Rattle.shares.specs.Shares.{TagsMove, NextsMove, movedTags, movedNexts}
 use Rattle.shares.specs.SharesLaws.{adjusted-is}
 use Rattle.shares.specs.MovableLaws.{tags-movable, nexts-movable}
 use Rattle.shares.specs.Passing.{lowest-highest, highest-fits}
-use Rattle.enter.specs.Arrive.{Timely, Ready}
+use Rattle.stamps.specs.Arrive.{Timely, Ready}
 use Rattle.table.proofs.Facts.{facts}
 use Rattle.walks.specs.Walks.{Finds}
 use Rattle.walks.specs.Survey.{ownOf}
@@ -135,20 +135,20 @@ module _ (g : Gate) (gs ws fs : List ℕ) (k : Known g gs ws fs) (a : Arriving) 
   f = calledBy a
 
   pub waits-refused : lacks f (map name (at .waiting)) ≡ false → verdict at comes ≡ refuse IdInUse
-  waits-refused e = arrival-used g gs ws fs k a now (timely .known) (timely .late) (timely .early) (timely .cheap) (waits-used at f e)
+  waits-refused e = arrival-used g gs ws fs k a now (timely .known) (timely .late) (timely .early) (timely .cheap) (timely .many) (waits-used at f e)
 
   module _ (x : Found) (found : Finds f (at .flight) x) where
     pub flies-refused : (place : ℕ) → x ≡ At place → verdict at comes ≡ refuse IdInUse
     flies-refused place e =
         let h : Finds f (at .flight) (At place) = subst (Finds f (at .flight)) e found in
-        arrival-used g gs ws fs k a now (timely .known) (timely .late) (timely .early) (timely .cheap) (flies-used at f (h .1))
+        arrival-used g gs ws fs k a now (timely .known) (timely .late) (timely .early) (timely .cheap) (timely .many) (flies-used at f (h .1))
 
     module _ (e : x ≡ NoPlace) (absent : lacks f (map name (at .waiting)) ≡ true) where
       new : lacks f (names at) ≡ true
       new = names-new at f absent (subst (Finds f (at .flight)) e found)
 
       pub full-refused : g .waiting ≡ g .setup .capacity → verdict at comes ≡ refuse NoRoom
-      full-refused = arrival-full g gs ws fs k a now (timely .known) (timely .late) (timely .early) (timely .cheap) new
+      full-refused = arrival-full g gs ws fs k a now (timely .known) (timely .late) (timely .early) (timely .cheap) (timely .many) new
 
       pub is-ready : (g .waiting ≡ g .setup .capacity → ⊥) → Ready g gs ws fs a now
       is-ready free = record { timely = timely; new = new; free = free }

@@ -1,2 +1,1 @@
 pub mod Enters
-pub mod Arrive

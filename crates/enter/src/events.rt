@@ -4,7 +4,7 @@ use rules::Flight;
 use rules::Gate;
 use rules::Refusal;
 use table::gates;
-use table::numbers::CEILING;
+use tags::CEILING;
 use walks::Found;
 ghost use Rattle.rules.specs.declared.Event.the-variants.{Completion, Tick};
 ghost use Rattle.table.specs.View.{Known};
@@ -52,7 +52,7 @@ pub fn complete(
         return Entered::Refused(Refusal::TimeBeforeLast);
     }
     let flying = gate.flight as usize;
-    let found = walks::rows::find_flight(&flight[..], flying, which.guest, which.id as u64);
+    let found = walks::flight::find_flight(&flight[..], flying, which.guest, which.id as u64);
     match found {
         Found::At(place) => {
             moves::rows::take_out(flight, place, flying);

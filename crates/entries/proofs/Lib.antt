@@ -1,6 +1,1 @@
 pub mod AllRows
-pub mod Chains
-pub mod Floors
-pub mod GapLaws
-pub mod OneKind
-pub mod RowFacts

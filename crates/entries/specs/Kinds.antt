@@ -9,8 +9,8 @@ use Rattle.lists.specs.Words.{if_then_else_, all}
 use Rattle.rules.specs.Numbers.{down, up, idleBound}
 use Rattle.rules.specs.Tables.{Request, reserved, limited, rspacing, lspacing, sspacing, owner, mine, name}
 use Rattle.rules.specs.declared.Guest.{Guest}
-use Rattle.rules.specs.Sound.{kept}
-use Rattle.table.specs.Columns.{LIMIT, SHARES, RNEXT, guestWide, waitingWide, mostGuests, guestAt}
+use Rattle.rules.specs.Sound.{kept, noGap}
+use Rattle.table.specs.Columns.{RESERVATION, LIMIT, SHARES, RNEXT, guestWide, waitingWide, mostGuests, guestAt}
 use Rattle.table.specs.View.{guestsOf, waitingOf}
 use Rattle.entries.specs.Tests.{settledGuest, named, fits}
 
@@ -25,6 +25,11 @@ ends d f n = if eqb d 0 then eqb n 0 else (if eqb f 0 then leb n idleBound else 
 -- how far apart the tags of a kind stand at cost 1, by the guest's setting n of that kind
 abbrev pub gapOf : (kind setting : ℕ) → ℕ
 gapOf k n = if eqb k LIMIT then up n else down n
+
+-- what the next tag of a kind keeps of the distance that the next number keeps, cost times the gap: document 02, K14: "Soundness then asks only that a guest's
+-- reservation tags do not fall"
+abbrev pub nearOf : (kind distance : ℕ) → ℕ
+nearOf k x = if eqb k RESERVATION then 0 else x
 
 -- guest g's gap of a kind
 abbrev pub gapAt : (gs : List ℕ) (kind g : ℕ) → ℕ
@@ -45,7 +50,7 @@ endsAt gs k floors g = ends (guestAt gs g k) (getD floors g 0) (nextAt gs k g)
 
 -- one kind of `orderly`
 abbrev pub keptOf : ℕ → Guest → List Request → Bool
-keptOf zero h l = kept (reserved (h .settings)) Request.rtag (rspacing (h .settings)) (rspacing (h .settings)) l (h .rnext)
+keptOf zero h l = kept (reserved (h .settings)) Request.rtag noGap (rspacing (h .settings)) l (h .rnext)
 keptOf (suc zero) h l = kept (limited (h .settings)) Request.ltag (lspacing (h .settings)) (lspacing (h .settings)) l (h .lnext)
 keptOf (suc (suc k)) h l = kept true Request.stag (sspacing (h .settings)) (sspacing (h .settings)) l (h .snext)
 

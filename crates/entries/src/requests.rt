@@ -1,4 +1,5 @@
 // Whether each request, by itself, is one: its guest exists, its id has 32 bits, its tags are at most the ceiling, its cost is from 1 to 64.
+use ranges::is_fair;
 use table::columns::COST;
 use table::columns::FLIGHT_WIDE;
 use table::columns::GUEST;
@@ -7,8 +8,7 @@ use table::columns::LTAG;
 use table::columns::RTAG;
 use table::columns::STAG;
 use table::columns::WAITING_WIDE;
-use table::numbers::stamp_fits;
-use table::ranges::is_fair;
+use tags::stamp_fits;
 ghost use mathlib.Core.Path.{_≡_};
 ghost use Prim.Native.Nat.{_*_, _≤_};
 ghost use lib.ListN.{length};

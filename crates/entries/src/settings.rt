@@ -1,4 +1,5 @@
 // Whether the settings of all guests lie in their ranges.
+use ranges::is_settled;
 use table::columns::CREDIT;
 use table::columns::GUEST_WIDE;
 use table::columns::LIMIT;
@@ -6,7 +7,6 @@ use table::columns::LISTCREDIT;
 use table::columns::RESERVATION;
 use table::columns::SETTINGS_WIDE;
 use table::columns::SHARES;
-use table::ranges::is_settled;
 ghost use mathlib.Core.Path.{_≡_};
 ghost use Prim.Native.Nat.{_*_, _≤_};
 ghost use lib.ListN.{length};

@@ -1,4 +1,2 @@
 pub mod Judging
 pub mod Going
-pub mod Shift
-pub mod Cut

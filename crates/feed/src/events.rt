@@ -58,7 +58,7 @@ fn one(
     requires { ⌜ at + LINE ≤ length (now out) ⌝ }
     ensures { λ r. ⌜ Judged (eventOf version (drop from (now (bytes .entry)))) number gate (now (guests .entry)) (now (waiting .entry)) (now (flight .entry)) (r .gate) (now (guests .exit)) (now (waiting .exit)) (now (flight .exit)) at (now (out .entry)) (r .at) (now (out .exit)) ⌝ }
 {
-    let event = trace::events::read_event(version, &bytes[from..from + 14]);
+    let event = items::read_event(version, &bytes[from..from + 14]);
     let judged = judge(gate, guests, waiting, flight, event);
     let after = judged.gate;
     let answer = judged.answer;

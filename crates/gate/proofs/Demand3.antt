@@ -19,12 +19,12 @@ use Rattle.rules.specs.declared.Event.{Event}
 use Rattle.rules.specs.declared.Event.the-variants.{Arrival, Completion, Tick}
 use Rattle.rules.specs.Refusals.{tests, eventTests, accepted}
 use Rattle.rules.specs.Run.{step}
-use Rattle.rules.specs.Turn.{sorted, findsRoom, atFree, sentByReservation, InTurn}
-use Rattle.rules.specs.TurnAt.{TurnKept}
+use Rattle.turns.specs.Turn.{sorted, findsRoom, atFree, sentByReservation, InTurn}
+use Rattle.turns.specs.TurnAt.{TurnKept}
 use Rattle.rules.proofs.Judged.{passed}
 use Rattle.rules.proofs.Answered.{step-taken}
-use Rattle.rules.proofs.Demand3.{demand-3, demand-3-at}
-use Rattle.rules.proofs.TurnAt.{demand-3-places, no-place-no-send}
+use Rattle.turns.proofs.Demand3.{demand-3, demand-3-at}
+use Rattle.turns.proofs.TurnAt.{demand-3-places, no-place-no-send}
 use Rattle.rules.specs.declared.Answer.the-variants.{Nothing}
 use Rattle.table.specs.View.{requestForm, flightForm}
 use Rattle.gate.specs.Promise.{Lending}

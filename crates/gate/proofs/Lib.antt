@@ -6,11 +6,10 @@ pub mod Unread
 pub mod Refusing
 pub mod Written
 pub mod Runs
+pub mod InFlight
 pub mod Order
 pub mod Demand3
 pub mod Worth
 pub mod Opened
-pub mod Returns
-pub mod OpenReturns
 pub mod Example
 pub mod Wakes

@@ -5,11 +5,11 @@ use mathlib.Core.Bool.{true, true≢false}
 use mathlib.Core.List.{List}
 use Rattle.rules.specs.Answers.{taken}
 use Rattle.rules.specs.Refusals.{Verdict, accept, refuse}
-use Rattle.rules.specs.Woken.{Wakes}
+use Rattle.turns.specs.Woken.{Wakes}
 use Rattle.rules.specs.declared.Event.{Event}
 use Rattle.rules.specs.declared.Wake.the-variants.{Never}
 use Rattle.rules.proofs.Answered.{step-taken}
-use Rattle.rules.proofs.WakeFits.{fresh-never, accepted-wakes}
+use Rattle.turns.proofs.WakeFits.{fresh-never, accepted-wakes}
 use Rattle.gate.specs.Promise.{Lending, settingsIn, handedIn, openedByIn, openingIn, openedIn}
 use Rattle.gate.specs.Calls.{Host, holds, call, shows, firm}
 use Rattle.gate.proofs.Lending.{Lawful}

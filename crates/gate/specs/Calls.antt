@@ -11,7 +11,7 @@ pub use Rattle.rules.specs.Answers.{taken}
 use Rattle.rules.specs.declared.Event.{Event}
 use Rattle.rules.specs.declared.Event.the-variants.{Arrival, Completion, Tick}
 use Rattle.rules.specs.Order.{brings}
-use Rattle.rules.specs.Turn.{isDue, ahead}
+use Rattle.turns.specs.Turn.{isDue, ahead}
 use Rattle.rules.specs.declared.Gate.{Gate}
 use Rattle.rules.specs.declared.Answer.{Answer}
 use Rattle.rules.specs.declared.Wake.{Wake}

@@ -13,8 +13,8 @@ use Rattle.rules.specs.declared.Refusal.{Refusal}
 use Rattle.table.specs.Columns.{guestWide, waitingWide, flightWide, settingsWide, mostGuests, mostDepth, mostCapacity}
 use Rattle.table.specs.View.{gateAt, outcomeOf, Known}
 use Rattle.gate.specs.Promise.{numbers, unchanged, called, unopened, openingIn}
-use Rattle.gate.specs.declared.numbers.Judged.{Judged}
-use Rattle.gate.specs.declared.numbers.Judged.the-variants.{Good, Bad}
+use Rattle.gate.specs.declared.Judged.{Judged}
+use Rattle.gate.specs.declared.Judged.the-variants.{Good, Bad}
 
 -- what `judge` finds of lent tables is true: they are known to be sound, or every call on them is refused so
 abbrev pub Judges : Gate → (gs ws fs : List ℕ) → Judged → Type 0

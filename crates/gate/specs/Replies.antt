@@ -7,7 +7,7 @@ use Rattle.rules.specs.declared.Answer.{Answer}
 use Rattle.rules.specs.declared.Answer.the-variants.{Nothing, Sent, Refused}
 use Rattle.rules.specs.declared.Wake.{Wake}
 use Rattle.rules.specs.declared.Wake.the-variants.{At, Never}
-use Rattle.gate.specs.declared.replies.Reply.{Reply}
+use Rattle.gate.specs.declared.Reply.{Reply}
 
 -- the kind of a send: 1 by reservation, 2 by weight
 abbrev pub kindOf : Phase → ℕ

@@ -8,5 +8,5 @@ ghost use Rattle.judge.specs.Judging.{judgedOf};
 pub extern "C" fn sgq_judge(trace: &[u8], lines: &[u8]) -> Judged
     ensures { λ r. ⌜ r ≡ judgedOf (now (trace .entry)) (now (lines .entry)) ⌝ }
 {
-    judge::judge(trace, lines)
+    judges::judge(trace, lines)
 }

@@ -1,6 +1,6 @@
 -- What the definition hears at one event is what may stand there, in plain facts: it follows with a result exactly where the result may stand and the lines begin
 -- with its line. In a sound table. Assumes nothing.
-use Prim.Native.Nat.{ℕ, _+_, _≤_, _<_}
+use Prim.Native.Nat.{ℕ, _+_, _<_}
 use mathlib.Core.Path.{_≡_, refl, sym, ap, _∙_, subst}
 use mathlib.Core.Bool.{Bool, true, false, true≢false}
 use mathlib.Core.List.{List}
@@ -30,10 +30,10 @@ use Rattle.walks.specs.declared.Found.the-variants.{At, Nothing as NoPlace}
 use Rattle.lines.specs.Line.{lineOf}
 use Rattle.trace.specs.declared.Read.the-variants.{Good, Bad}
 use Rattle.judge.specs.Acceptable.{MayGo, MayChoose, full, reservation, weight, nothing, Asked, entire, cutOff, refusing, MayDecide, May}
-use Rattle.judge.specs.Judging.{begins, follows, wrong, told, okIn, tagIn, sentAt, ties, named, placeFrom, sentIn, heardIn, heardWeight, heardReservation, heardChoice, heardBy, heard}
+use Rattle.judge.specs.Judging.{begins, follows, wrong, told, okIn, tagIn, sentAt, ties, named, placeFrom, leads, sentIn, heardIn, heardWeight, heardReservation, heardChoice, heardBy, heard}
 use Rattle.judge.proofs.Bytes.{begins-is, line-once}
 use Rattle.judge.proofs.Places.{Says, place-says, place-found}
-use Rattle.judge.proofs.Tied.{ties-first, first-of}
+use Rattle.judge.proofs.Tied.{leads-first, first-leads, first-of}
 use Rattle.judge.proofs.Ties.{one-place}
 use Rattle.judge.proofs.Sent.{sent-sound}
 use Rattle.judge.proofs.Heard.{sent-answer}
@@ -89,26 +89,30 @@ module _ (n : ℕ) (ls : List ℕ) where
         sent : r ≡ sentAt p t place
         spoken : Spoken r
 
+      -- by whether it is the first of its guest
+      goes-at : (r : Result) (i : ℕ) → Says test 0 w (At i) → (b : Bool) → leads w i ≡ b → (if b then follows (sentAt p t i) else wrong) ≡ follows r → Goes r
+      goes-at r i a false z e = absurd (never e)
+      goes-at r i a true z e =
+          let q = at w (a .place) in
+          let here : a .place ≡ i = omega (arith, a .numbered) in
+          let c = both (ties p t m q) (begins (lineOf n (Sent p (q .guest) (q .id))) ls) (a .tells) in
+          let d = both (okIn p t q) (eqb (tagIn p q) m) (c .0) in
+          let same = eqb-true (tagIn p q) m (d .1) in
+          let is : r ≡ sentAt p t (a .place) = sym (same-result e) ∙ ap (sentAt p t) (sym here) in
+          record {
+            place = a .place;
+            may = record { inside = a .inside; good = d .0; smallest = λ j h o. omega (arith, f .smallest j h o); first = leads-first w (a .place) (ap (leads w) here ∙ z) };
+            sent = is;
+            spoken = ap (λ (x : Answer). begins (lineOf n x) ls) (ap Result.answer is ∙ sent-answer p t (a .place)) ∙ c .1;
+          }
+
       send-goes : (r : Result) → heardIn n ls p t m ≡ follows r → Goes r
       unfolding heardIn
       send-goes r e = go (placeFrom test 0 w) (place-says test 0 w) e
         where
           go : (x : Found) → Says test 0 w x → sentIn p t x ≡ follows r → Goes r
           go NoPlace a e = absurd (never e)
-          go (At i) a e =
-              let q = at w (a .place) in
-              let here : a .place ≡ i = omega (arith, a .numbered) in
-              let c = both (ties p t m q) (begins (lineOf n (Sent p (q .guest) (q .id))) ls) (a .tells) in
-              let d = both (okIn p t q) (eqb (tagIn p q) m) (c .0) in
-              let same = eqb-true (tagIn p q) m (d .1) in
-              let least-of : (j : ℕ) → j < length w → okIn p t (at w j) ≡ true → tagIn p q ≤ tagIn p (at w j) = λ j h o. omega (arith, f .smallest j h o) in
-              let is : r ≡ sentAt p t (a .place) = sym (same-result e) ∙ ap (sentAt p t) (sym here) in
-              record {
-                place = a .place;
-                may = record { inside = a .inside; good = d .0; smallest = least-of; first = ties-first t s (a .place) (a .inside) p (d .0) least-of };
-                sent = is;
-                spoken = ap (λ (x : Answer). begins (lineOf n x) ls) (ap Result.answer is ∙ sent-answer p t (a .place)) ∙ c .1;
-              }
+          go (At i) a e = goes-at r i a (leads w i) refl e
 
       send-heard : (i : ℕ) → MayGo (okIn p t) (tagIn p) w i → (r : Result) → r ≡ sentAt p t i → Spoken r → heardIn n ls p t m ≡ follows r
       unfolding heardIn
@@ -117,7 +121,8 @@ module _ (n : ℕ) (ls : List ℕ) where
           let its : begins (lineOf n (Sent p (q .guest) (q .id))) ls ≡ true = ap (λ (x : Answer). begins (lineOf n x) ls) (sym (ap Result.answer e ∙ sent-answer p t i)) ∙ h in
           let tag : tagIn p q ≡ m = omega (arith, g .smallest i₀ (f .inside) (f .good), f .smallest i (g .inside) (g .good)) in
           let y : test q ≡ true = join (join (g .good) (eq-eqb (tagIn p q) m tag)) its in
-          ap (sentIn p t) (place-found test 0 w i (g .inside) y (λ j l. other j l (test (at w j)) refl its)) ∙ ap follows (ap (sentAt p t) (let z : 0 + i ≡ i = omega arith in z) ∙ sym e)
+          ap (sentIn p t) (place-found test 0 w i (g .inside) y (λ j l. other j l (test (at w j)) refl its))
+          ∙ ap (λ (k : ℕ). sentIn p t (At k)) (let z : 0 + i ≡ i = omega arith in z) ∙ rw (first-leads w i (g .first)) (ap follows (sym e))
         where
           -- an earlier one with the same line would have the same name
           other : (j : ℕ) → j < i → (b : Bool) → test (at w j) ≡ b → begins (lineOf n (Sent p ((at w i) .guest) ((at w i) .id))) ls ≡ true → b ≡ false

@@ -21,7 +21,7 @@ use Rattle.judge.specs.Acceptable.{Asked, entire, cutOff, refusing, cutA
 use Rattle.judge.specs.Judging.{begins, Heard, follows, wrong, told, heard, wrongAt, accepted, ended, onward, judgedFrom}
 use Rattle.judge.specs.Hearing.{sizeIf, Followed, Hears}
 use Rattle.judge.specs.declared.Judged.{Judged}
-use Rattle.judge.specs.declared.hearing.Said.{Said}
+use Rattle.judge.specs.declared.Said.{Said}
 use Rattle.judge.proofs.Bytes.{part, part-rest, begins-is}
 use Rattle.judge.proofs.Ties.{size-zero, size-some}
 use Rattle.judge.proofs.Follows.{heard-may}

@@ -1,14 +1,13 @@
 -- What the functions over one event know at their ends: what the lines say is what the definition hears. Assumes nothing.
 use Prim.Native.Nat.{ℕ, _≤_, _<_}
 use mathlib.Core.Path.{_≡_, refl, sym, ap, _∙_, subst}
-use mathlib.Core.Bool.{true, _&&_}
+use mathlib.Core.Bool.{true, false, _&&_}
 use mathlib.Core.List.{List}
 use native.Mathlib.Omega.{arith}
-use lib.Dec.{eqb, leb}
+use lib.Dec.{leb}
 use lib.ListN.{length}
-use borrow.Author.Tests.{lt-ltb, le-ltb, eqb-true}
+use borrow.Author.Tests.{lt-ltb, le-ltb}
 use Rattle.lists.specs.Tab.{removeAt}
-use Rattle.lists.specs.WordsLaws.{both}
 use Rattle.lists.specs.RowsLaws.{length-rows}
 use Rattle.rules.specs.Tables.{Request, Table, settingsOf}
 use Rattle.rules.specs.Choice.{Result, Pick, nobody, picked, least, dueAt, due, open?, room, byWeight, byReservation, choice}
@@ -24,7 +23,7 @@ use Rattle.rules.specs.declared.Refusal.{Refusal}
 use Rattle.rules.specs.declared.Refusal.the-variants.{BadEvent}
 use Rattle.rules.specs.declared.Answer.{Answer}
 use Rattle.rules.specs.declared.Answer.the-variants.{Nothing, Sent, Refused}
-use Rattle.rules.proofs.Facts.{sound-is, is-sound}
+use Rattle.rules.proofs.Facts.{is-sound}
 use Rattle.rules.proofs.EnterSound.{enter-sound}
 use Rattle.rules.proofs.SameSettings.{enter-settings}
 use Rattle.table.specs.Columns.{GUEST, ID, waitingAt}
@@ -34,8 +33,8 @@ use Rattle.table.proofs.Lens.{written-shown, known-room}
 use Rattle.walks.specs.Walks.{Picks}
 use Rattle.walks.specs.declared.Found.{Found}
 use Rattle.walks.specs.declared.Found.the-variants.{At, Nothing as NoPlace}
-use Rattle.choose.specs.Firsts.{FirstOf}
-use Rattle.choose.proofs.Phases.{latest, due-picks, open-picks}
+use Rattle.sends.specs.Firsts.{FirstOf}
+use Rattle.sends.proofs.Phases.{latest, due-picks, open-picks}
 use Rattle.enter.specs.Enters.{EntersAt, Enters}
 use Rattle.enter.specs.declared.Entered.{Entered}
 use Rattle.enter.specs.declared.Entered.the-variants.{Refused as Barred, At as Moved}
@@ -44,12 +43,12 @@ use Rattle.trace.specs.Printed.{answered}
 use Rattle.trace.specs.declared.Read.{Read}
 use Rattle.trace.specs.declared.Read.the-variants.{Good, Bad}
 use Rattle.judge.specs.Acceptable.{entire, refusing}
-use Rattle.judge.specs.Judging.{begins, Heard, told, okIn, tagIn, sentAt, ties, named, sentIn, heardIn, heardWeight, heardReservation, heardChoice, heardBy, heard}
-use Rattle.judge.specs.Hearing.{sizeIf, saidOf, Tells, Sends, Hears}
-use Rattle.judge.specs.declared.hearing.Said.{Said}
-use Rattle.judge.proofs.Places.{First, Says, place-says}
-use Rattle.judge.proofs.Tied.{ties-first, first-of}
-use Rattle.judge.proofs.Ties.{stands-foremost, place-here, send-there}
+use Rattle.judge.specs.Judging.{begins, Heard, told, okIn, tagIn, sentAt, named, leads, sentIn, heardIn, heardWeight, heardReservation, heardChoice, heardBy, heard}
+use Rattle.judge.specs.Hearing.{sizeIf, saidOf, Tells, Finds, Sends, Hears}
+use Rattle.judge.specs.declared.Said.{Said}
+use Rattle.judge.proofs.Places.{found-inside}
+use Rattle.judge.proofs.Tied.{leads-first, first-of}
+use Rattle.judge.proofs.Ties.{place-here, send-there}
 use Rattle.judge.proofs.OneLine.{plain-hears}
 
 -- what was heard, said of another that is the same
@@ -63,8 +62,31 @@ sent-answer Weight t i = refl
 
 -- A SEND
 
+-- what was heard is one of those that wait
+pub tells-here : (g : Gate) (gs ws fs : List ℕ) (number : ℕ) (ls : List ℕ) (p : Phase) (place there long : ℕ) → Tells number ls p (tableOf g gs ws fs) place there long → 0 < long → there < g .waiting
+tells-here g gs ws fs number ls p place there long tells some =
+    let t = tableOf g gs ws fs in
+    omega (arith, found-inside (named number ls p t (tagIn p (at (t .waiting) place))) (t .waiting) there (tells .one some), length-rows requestForm ws (g .waiting))
+
+-- whether what was heard is the first of its guest
+module _ (number : ℕ) (ls : List ℕ) (p : Phase) (t : Table) (place there long : ℕ) (tells : Tells number ls p t place there long) where
+  -- nothing was
+  pub finds-none : long ≡ 0 → Finds number ls p t place there long
+  unfolding heardIn
+  finds-none z = record { none = λ _. ap (sentIn p t) (tells .none z); one = λ s. absurd (omega arith); first = λ s. absurd (omega arith); size = λ s. absurd (omega arith) }
+
+  -- it is
+  pub finds-first : 0 < long → leads (t .waiting) there ≡ true → Finds number ls p t place there long
+  finds-first some h = record { none = λ z. absurd (omega arith); one = tells .one; first = λ _. h; size = tells .size }
+
+  -- it is not
+  pub finds-later : 0 < long → leads (t .waiting) there ≡ false → Finds number ls p t place there 0
+  unfolding heardIn
+  finds-later some h =
+      record { none = λ _. ap (sentIn p t) (tells .one some) ∙ rw h; one = λ s. absurd (omega arith); first = λ s. absurd (omega arith); size = λ s. absurd (omega arith) }
+
 module _ (g : Gate) (gs ws fs : List ℕ) (k : Known g gs ws fs) (place : ℕ) (p : Phase) (picks : Picks (okIn p (tableOf g gs ws fs)) (tagIn p) (tableOf g gs ws fs .waiting) (At place))
-    (number : ℕ) (ls : List ℕ) (there long : ℕ) (tells : Tells number ls p (tableOf g gs ws fs) place there long) where
+    (number : ℕ) (ls : List ℕ) (there long : ℕ) (finds : Finds number ls p (tableOf g gs ws fs) place there long) where
   abbrev t : Table
   t = tableOf g gs ws fs
 
@@ -79,36 +101,18 @@ module _ (g : Gate) (gs ws fs : List ℕ) (k : Known g gs ws fs) (place : ℕ) (
 
   -- no line was heard
   pub send-wrong : (a : Answer) → a ≡ Sent p (waitingAt ws place GUEST) (waitingAt ws place ID) → long ≡ 0 → (hs vs es : List ℕ) → Hears (heardIn number ls p t m) ours number (saidOf g a long) hs vs es
-  unfolding heardIn
-  send-wrong a e z hs vs es = record { due = due-is a e; errs = λ _. ap (sentIn p t) (tells .none z); goes = λ s. absurd (omega arith) }
+  send-wrong a e z hs vs es = record { due = due-is a e; errs = λ _. finds .none z; goes = λ s. absurd (omega arith) }
 
   -- one was: its request is the first of its guest
   module _ (some : 0 < long) where
-    found : First (named number ls p t m) 0 (t .waiting) there
-    found = subst (Says (named number ls p t m) 0 (t .waiting)) (tells .one some) (place-says (named number ls p t m) 0 (t .waiting))
-
-    is-there : found .place ≡ there
-    is-there = omega (arith, found .numbered)
-
     inside : there < length (t .waiting)
-    inside = omega (arith, found .inside, is-there)
+    inside = found-inside (named number ls p t m) (t .waiting) there (finds .one some)
 
     pub there-here : there < g .waiting
     there-here = omega (arith, inside, length-rows requestForm ws (g .waiting))
 
-    tied : (okIn p t (at (t .waiting) there) ≡ true) × (tagIn p (at (t .waiting) there) ≡ m)
-    tied =
-        let q = at (t .waiting) there in
-        let y : named number ls p t m q ≡ true = subst (λ (i : ℕ). named number ls p t m (at (t .waiting) i) ≡ true) is-there (found .tells) in
-        let c = both (ties p t m q) (begins (lineOf number (Sent p (q .guest) (q .id))) ls) y in
-        let d = both (okIn p t q) (eqb (tagIn p q) m) (c .0) in
-        (d .0, eqb-true (tagIn p q) m (d .1))
-
     pub there-first : FirstOf (t .waiting) there
-    there-first =
-        let f = stands-foremost g gs ws fs k place p picks in
-        first-of (t .waiting) there inside
-        (ties-first t (sound-is t (k .isSound)) there inside p (tied .0) (λ j h o. omega (arith, f .smallest j h o, tied .1)))
+    there-first = first-of (t .waiting) there inside (leads-first (t .waiting) there (finds .first some))
 
     pub send-right : (a : Answer) → a ≡ Sent p (waitingAt ws place GUEST) (waitingAt ws place ID) → (h : Gate) (hs vs es : List ℕ) → Sends (sentAt p t there) h hs vs es
         → Hears (heardIn number ls p t m) ours number (saidOf h a long) hs vs es
@@ -117,7 +121,7 @@ module _ (g : Gate) (gs ws fs : List ℕ) (k : Known g gs ws fs) (place : ℕ) (
         record {
           due = due-is a e;
           errs = λ z. absurd (omega arith);
-          goes = λ z. record { result = sentAt p t there; says = ap (sentIn p t) (tells .one some); sends = s; size = tells .size some ∙ ap (λ (b : Answer). length (lineOf number b)) (sym (sent-answer p t there)) };
+          goes = λ z. record { result = sentAt p t there; says = ap (sentIn p t) (finds .one some) ∙ rw (finds .first some); sends = s; size = finds .size some ∙ ap (λ (b : Answer). length (lineOf number b)) (sym (sent-answer p t there)) };
         }
 
 -- THE CHOICE

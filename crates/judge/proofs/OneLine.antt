@@ -14,7 +14,7 @@ use Rattle.lines.specs.Put.{Put}
 use Rattle.lines.proofs.PutLaws.{put-front}
 use Rattle.judge.specs.Judging.{begins, follows, wrong, told}
 use Rattle.judge.specs.Hearing.{sizeIf, saidOf, Hears}
-use Rattle.judge.specs.declared.hearing.Said.{Said}
+use Rattle.judge.specs.declared.Said.{Said}
 use Rattle.judge.proofs.Bytes.{line-long}
 
 module _ {xs ys zs : List ℕ} {r : ℕ} (p : Put 0 xs ys r zs) (room : r ≤ length ys) (ls : List ℕ) where

@@ -29,7 +29,7 @@ use Rattle.trace.specs.declared.Read.the-variants.{Good, Bad}
 use Rattle.trace.proofs.Answers.{printed-lines}
 use Rattle.judge.specs.Acceptable.{MayGo, MayChoose, full as fullToo, reservation as reservationToo, weight as weightToo, nothing as nothingToo, Asked, entire, cutOff, MayDecide, May, ours, cutAsked, askedBy, headBy, Stands, linesOf, Acceptable}
 use Rattle.judge.specs.Judging.{okIn, tagIn, accepted, judgedOf}
-use Rattle.judge.proofs.Tied.{ties-first}
+use Rattle.judge.proofs.Tied.{foremost-first}
 use Rattle.judge.proofs.Follows.{may-sound}
 use Rattle.judge.proofs.Exactly.{opening-sound, acceptable-judged}
 
@@ -38,7 +38,7 @@ use Rattle.judge.proofs.Exactly.{opening-sound, acceptable-judged}
 module _ (t : Table) (s : Sound t) where
   -- what stands foremost may go
   foremost-may : (p : Phase) (i : ℕ) → Foremost (okIn p t) (tagIn p) (t .waiting) i → MayGo (okIn p t) (tagIn p) (t .waiting) i
-  foremost-may p i f = record { inside = f .inside; good = f .good; smallest = f .smallest; first = ties-first t s i (f .inside) p (f .good) (f .smallest) }
+  foremost-may p i f = record { inside = f .inside; good = f .good; smallest = f .smallest; first = foremost-first t s i (f .inside) p f }
 
   chosen-may : (r : Result) → Chosen t r → MayChoose t r
   chosen-may r (full x e) = fullToo x e

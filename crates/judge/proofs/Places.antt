@@ -1,6 +1,6 @@
 -- The first place of which a test tells. Assumes nothing.
 use Prim.Native.Nat.{ℕ, zero, suc, _+_, _<_}
-use mathlib.Core.Path.{_≡_, refl, ap, _∙_}
+use mathlib.Core.Path.{_≡_, refl, ap, _∙_, subst}
 use mathlib.Core.Bool.{Bool, true, false}
 use mathlib.Core.List.{List, [], _∷_}
 use native.Mathlib.Omega.{arith}
@@ -37,6 +37,10 @@ module _ (f : Request → Bool) where
       go true e x s = record { place = 0; numbered = omega arith; inside = omega arith; tells = e }
       go false e (At n) s = record { place = suc (s .place); numbered = omega (arith, s .numbered); inside = omega (arith, s .inside); tells = s .tells }
       go false e NoPlace s = none e s
+
+  -- what was found is there
+  pub found-inside : (w : List Request) (n : ℕ) → placeFrom f 0 w ≡ At n → n < length w
+  found-inside w n e = let a = subst (Says 0 w) e (place-says 0 w) in omega (arith, a .inside, a .numbered)
 
   -- the first place of which f tells is found
   pub place-found : (k : ℕ) (w : List Request) (i : ℕ) → i < length w → f (at w i) ≡ true → ((j : ℕ) → j < i → f (at w j) ≡ false) → placeFrom f k w ≡ At (k + i)

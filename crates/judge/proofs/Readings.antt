@@ -6,9 +6,9 @@ use mathlib.Core.List.{List, [], _∷_, _++_}
 use Rattle.lists.specs.Words.{lowest}
 use Rattle.rules.specs.Numbers.{down, up}
 use Rattle.rules.specs.Tables.{idle}
-use Rattle.rules.specs.Sound.{counted, settled, ranges, distinct, lawful, fair, kept, orderly, ruled, sound}
-use Rattle.rules.specs.Choice.{dueAt, openAt, passesAt, sending, earlier, sooner, dropped, byWeight, byReservation, room, choice}
-use Rattle.rules.specs.Events.{shifted, shiftedNext, adjusted, back, shareTag, stamped, following, placed, arriveAs, arrive, complete, wait, enter}
+use Rattle.rules.specs.Sound.{counted, settled, ranges, distinct, lawful, fair, spread, kept, orderly, ruled, sound}
+use Rattle.rules.specs.Choice.{dueAt, openAt, passesAt, sending, earlier, renewed, dropped, byWeight, byReservation, room, choice}
+use Rattle.rules.specs.Events.{shifted, shiftedNext, adjusted, back, shareTag, stamped, following, placed, raised, arriveAs, arrive, complete, wait, enter}
 use Rattle.rules.specs.Refusals.{eventTests}
 use Rattle.rules.specs.Run.{decided, step, fresh}
 use Rattle.rules.specs.declared.Refusal.the-variants.{HeaderCut}
@@ -16,7 +16,7 @@ use Rattle.lines.specs.Line.{decimalIn, lineOf, refusalLine, titleLine}
 use Rattle.trace.specs.Header.{same, body, ruleIn, creditAt, headerTestsFor}
 use Rattle.trace.specs.Event.{kindIn, upperIn, eventFrom, eventOf, eventsOf}
 use Rattle.trace.specs.Printed.{answered}
-use Rattle.judge.specs.Judging.{told, heardIn, heardChoice, heard, wrongAt, accepted, judgedFrom, judgedOf}
+use Rattle.judge.specs.Judging.{told, leads, heardIn, heardChoice, heard, wrongAt, accepted, judgedFrom, judgedOf}
 
 abbrev trace : List ℕ
 trace =
@@ -73,7 +73,7 @@ pub record Readings : Type 0 where
   pub no-trace-titled : judgedOf [] titleLine ≡ wrongAt 1 (3, 0, 0, 13)
 
 pub readings : Readings
-unfolding lowest down up idle counted settled ranges distinct lawful fair kept orderly sound ruled dueAt openAt passesAt sending earlier sooner dropped byWeight byReservation room choice shifted shiftedNext adjusted back shareTag stamped following placed arriveAs arrive complete wait enter eventTests decided step fresh same body ruleIn creditAt headerTestsFor kindIn upperIn eventFrom eventOf eventsOf decimalIn lineOf refusalLine answered told heardIn heardChoice heard judgedFrom judgedOf
+unfolding lowest down up idle counted settled ranges distinct lawful fair spread kept orderly sound ruled dueAt openAt passesAt sending earlier renewed dropped byWeight byReservation room choice shifted shiftedNext adjusted back shareTag stamped following placed raised arriveAs arrive complete wait enter eventTests decided step fresh same body ruleIn creditAt headerTestsFor kindIn upperIn eventFrom eventOf eventsOf decimalIn lineOf refusalLine answered told leads heardIn heardChoice heard judgedFrom judgedOf
 readings =
     record {
       ours = refl;

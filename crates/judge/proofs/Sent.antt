@@ -22,14 +22,14 @@ use Rattle.rules.proofs.Names.{names-mid, names-sent}
 use Rattle.rules.proofs.SameSettings.{SameSettings, same-count, sending-settings, dropped-settings}
 use Rattle.rules.proofs.Picks.{Between}
 use Rattle.rules.proofs.Drops.{dropped-names}
-use Rattle.rules.proofs.ChoiceSound.{sent-known, sending-sound, drop-fits, dropped-sound}
+use Rattle.rules.proofs.ChoiceSound.{sent-known, sending-sound, dropped-sound}
 use Rattle.table.specs.declared.gates.Decision.{Decision}
 use Rattle.table.specs.View.{requestForm, flightForm, tableOf, Known}
 use Rattle.table.specs.Does.{Leaves}
 use Rattle.table.proofs.Left.{left-shown, left-known}
 use Rattle.enter.proofs.Entering.{narrow}
-use Rattle.choose.specs.Firsts.{FirstOf}
-use Rattle.choose.proofs.Firsts.{first-goes}
+use Rattle.sends.specs.Firsts.{FirstOf}
+use Rattle.sends.proofs.Firsts.{first-goes}
 use Rattle.judge.specs.Judging.{sentAt}
 use Rattle.judge.specs.Hearing.{Sends}
 
@@ -51,11 +51,11 @@ module _ (t : Table) (i : ℕ) (inside : i < length (t .waiting)) (h : FirstOf (
 
   -- it stays sound
   pub sent-sound : Sound t → room t ≡ true → (p : Phase) → Sound (sentAt p t i .table)
-  sent-sound s r Reservation = sending-sound t s q v (first-goes t s i inside h) r
+  sent-sound s r Reservation = sending-sound t s q v (first-goes t i inside h) r
   sent-sound s r Weight =
-      let c = first-goes t s i inside h in
+      let c = first-goes t i inside h in
       let known : q .guest < length ((sending t q v) .guests) = rw (same-count (sending t q v) t (sending-settings t q v)) (sent-known t s q v c) in
-      dropped-sound (sending t q v) (sending-sound t s q v c r) q known (drop-fits t s q v c)
+      dropped-sound (sending t q v) (sending-sound t s q v c r) q known
 
   -- its settings stay
   pub sent-settings : (p : Phase) → SameSettings (sentAt p t i .table) t
@@ -67,8 +67,8 @@ module _ (t : Table) (i : ℕ) (inside : i < length (t .waiting)) (h : FirstOf (
 
   -- and so do its names
   sent-all : (f : Flight → Bool) → Sound t → all f (names t) ≡ true → (p : Phase) → all f (names (sentAt p t i .table)) ≡ true
-  sent-all f s e Reservation = sending-all f t q v (first-goes t s i inside h .split) e
-  sent-all f s e Weight = ap (all f) (dropped-names q (sending t q v)) ∙ sending-all f t q v (first-goes t s i inside h .split) e
+  sent-all f s e Reservation = sending-all f t q v (first-goes t i inside h .split) e
+  sent-all f s e Weight = ap (all f) (dropped-names q (sending t q v)) ∙ sending-all f t q v (first-goes t i inside h .split) e
 
 -- over lent numbers
 pub send-left : (g : Gate) (gs ws fs : List ℕ) (k : Known g gs ws fs) → g .flight < g .setup .depth → (i : ℕ) → i < g .waiting → FirstOf (tableOf g gs ws fs .waiting) i

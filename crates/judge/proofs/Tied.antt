@@ -1,35 +1,33 @@
--- In a sound table a request that may be chosen in a phase, with the smallest tag of all that may, is the first waiting of its guest: within a guest tags rise by
--- spacings that are not 0. Assumes nothing.
-use Prim.Native.Nat.{ℕ, zero, suc, _+_, _-_, _*_, _≤_, _<_}
+-- The first waiting of a guest. In a sound table what a phase of ours picks is such a one: within a guest no tag falls, and a tie goes to the earlier. Of another
+-- gate's send it is tested. Assumes nothing.
+use Prim.Native.Nat.{ℕ, zero, suc, _+_, _-_, _≤_, _<_}
 use mathlib.Core.Path.{_≡_, refl, sym, ap, _∙_}
-use mathlib.Core.Bool.{Bool, true, false, true≢false}
+use mathlib.Core.Bool.{Bool, true, false, not, true≢false}
 use mathlib.Core.List.{List, [], _∷_}
-use mathlib.Core.Logic.{⊎-elim}
 use native.Mathlib.Omega.{arith}
-use native.Mathlib.Nat.{div-lt-iff-lt-mul}
-use lib.Dec.{ltb, leb}
+use lib.Dec.{leb, eqb}
 use lib.ListN.{length, drop, length-drop}
 use lib.Seq.{getD-drop}
-use borrow.Author.Tests.{ltb-true, leb-true, eq-eqb, eqb-true}
-use Rattle.lists.specs.Words.{if_then_else_, all}
-use Rattle.lists.specs.Tab.{removeAt, lt-or-le}
-use Rattle.lists.specs.WordsLaws.{both, all-at, all-passing-at}
-use Rattle.rules.specs.Numbers.{second, down}
+use borrow.Author.Tests.{leb-true, eq-eqb, ne-eqb, eqb-true, not-true}
+use Rattle.lists.specs.Words.{if_then_else_, all, below}
+use Rattle.lists.specs.Tab.{removeAt}
+use Rattle.lists.specs.WordsLaws.{all-passing-at, below-at, at-below}
+use Rattle.lists.specs.Walks.{below-ext}
+use Rattle.lists.specs.RowsLaws.{row-at}
 use Rattle.rules.specs.Tables.{Request, Table, reserved, limited, rspacing, lspacing, sspacing, owner, settingsOf, of, mine}
-use Rattle.rules.specs.Sound.{counted, ranges, settled, fair, priced, kept}
+use Rattle.rules.specs.Sound.{kept, noGap}
 use Rattle.rules.specs.Choice.{due, open?}
-use Rattle.rules.specs.Chosen.{blank, at, Open, Due}
-use Rattle.rules.specs.Refused.{Good}
+use Rattle.rules.specs.Chosen.{blank, at, Open, Due, Foremost}
 use Rattle.rules.specs.declared.Guest.{Guest}
 use Rattle.rules.specs.declared.Phase.{Phase}
 use Rattle.rules.specs.declared.Phase.the-variants.{Reservation, Weight}
-use Rattle.rules.proofs.Spacings.{cost-some}
-use Rattle.rules.proofs.Conditions.{settled-good}
 use Rattle.rules.proofs.Chains.{kept-above}
 use Rattle.rules.proofs.Chosen.{open-means, due-means}
-use Rattle.rules.proofs.Facts.{Sound, Orderly, orderly-is, waiting-known, any-orderly}
-use Rattle.choose.specs.Firsts.{FirstOf}
-use Rattle.judge.specs.Judging.{okIn, tagIn}
+use Rattle.rules.proofs.Facts.{Sound, Orderly, orderly-is, any-orderly}
+use Rattle.table.specs.Columns.{GUEST, waitingAt}
+use Rattle.table.specs.View.{requestForm, waitingOf}
+use Rattle.sends.specs.Firsts.{FirstOf}
+use Rattle.judge.specs.Judging.{okIn, tagIn, leads}
 
 -- THE FIRST OF A GUEST
 
@@ -61,23 +59,16 @@ behind n w j o f h i l k a =
     let size : m < length v = omega (arith, o .early, length-drop (suc (o .place)) w) in
     ap f (sym e) ∙ all-passing-at f (of n) v blank h m size (ap (of n) e ∙ a)
 
--- so its tag of a kind that the guest has lies above the first one's by its gap
-above : (tag gap : Request → ℕ) (n : ℕ) (w : List Request) (next : ℕ) → kept true tag gap gap (mine n w) next ≡ true → (j : ℕ) (o : FirstOwn n w j)
-    → (i : ℕ) → j < i → i < length w → of n (at w i) ≡ true → tag (at w (o .place)) + gap (at w (o .place)) ≤ tag (at w i)
-above tag gap n w next k j o i l h a =
+-- so its tag of a kind that the guest has is not below the first one's
+above : (tag gap spacing : Request → ℕ) (n : ℕ) (w : List Request) (next : ℕ) → kept true tag gap spacing (mine n w) next ≡ true → (j : ℕ) (o : FirstOwn n w j)
+    → (i : ℕ) → j < i → i < length w → of n (at w i) ≡ true → tag (at w (o .place)) ≤ tag (at w i)
+above tag gap spacing n w next k j o i l h a =
     let q = at w (o .place) in
     let v = mine n (drop (suc (o .place)) w) in
-    let up = kept-above tag gap gap (tag q + gap q) q v next (omega arith) (omega arith) (rw (o .heads) at k) .0 in
-    leb-true (tag q + gap q) (tag (at w i)) (behind n w j o (λ p. leb (tag q + gap q) (tag p)) up i l h a)
+    let up = kept-above tag gap spacing (tag q) q v next (omega arith) (omega arith) (rw (o .heads) at k) .0 in
+    leb-true (tag q) (tag (at w i)) (behind n w j o (λ p. leb (tag q) (tag p)) up i l h a)
 
--- a spacing that a guest has is not 0
-gap-some : (c n : ℕ) → fair c ≡ true → 0 < n → n ≤ 1000000 → 0 < c * down n
-unfolding down
-gap-some c n f h k =
-    cost-some c (down n) f
-    (⊎-elim (λ l. l) (λ l. absurd (omega (arith, div-lt-iff-lt-mul {k = n} {x = second} {y = 1} h .0 (omega arith)))) (lt-or-le 0 (down n)))
-
--- THE SMALLEST TAG
+-- OUR PICK
 
 module _ (t : Table) (s : Sound t) (i : ℕ) (inside : i < length (t .waiting)) where
   abbrev w : List Request
@@ -89,14 +80,6 @@ module _ (t : Table) (s : Sound t) (i : ℕ) (inside : i < length (t .waiting)) 
   abbrev own : Guest
   own = owner (t .guests) n
 
-  good : Good (own .settings)
-  unfolding ranges
-  good =
-      let f : Guest → Bool = λ h. settled (h .settings) in
-      let c = both (counted (t .setup .depth) (length (t .guests)) (t .setup .capacity)) (all f (t .guests)) (s .in-range) in
-      let k = ltb-true n (length (t .guests)) (all-at (λ q. ltb (q .guest) (length (t .guests))) w blank (waiting-known t s) i inside) in
-      settled-good (own .settings) .0 (all-at f (t .guests) _ (c .1) n k)
-
   -- an earlier one of the guest: the first of them
   module _ (j : ℕ) (l : j < i) (same : (at w j) .guest ≡ n) where
     o : FirstOwn n w j
@@ -105,7 +88,7 @@ module _ (t : Table) (s : Sound t) (i : ℕ) (inside : i < length (t .waiting)) 
     abbrev q : Request
     q = at w (o .place)
 
-    here : o .place < length w
+    here : o .place < i
     here = omega (arith, o .early)
 
     mate : q .guest ≡ n
@@ -118,15 +101,10 @@ module _ (t : Table) (s : Sound t) (i : ℕ) (inside : i < length (t .waiting)) 
     alike : settingsOf (t .guests) q ≡ own .settings
     alike = ap (λ (m : ℕ). (owner (t .guests) m) .settings) mate
 
-    -- its cost is in range
-    fair-cost : fair (q .cost) ≡ true
-    fair-cost = all-at priced w blank (s .costs-fit) (o .place) here
-
     limits : limited (own .settings) ≡ true → q .ltag ≤ (at w i) .ltag
     limits e =
         let k : kept true Request.ltag (lspacing (own .settings)) (lspacing (own .settings)) (mine n w) (own .lnext) ≡ true = rw e at (orders .limits) in
-        let a = above Request.ltag (lspacing (own .settings)) n w (own .lnext) k j o i l inside (eq-eqb n n refl) in
-        omega arith
+        above Request.ltag (lspacing (own .settings)) (lspacing (own .settings)) n w (own .lnext) k j o i l inside (eq-eqb n n refl)
 
     -- it is open where the later one is
     opens : Open t (at w i) → Open t q
@@ -134,30 +112,52 @@ module _ (t : Table) (s : Sound t) (i : ℕ) (inside : i < length (t .waiting)) 
         let r : limited (own .settings) ≡ true = ap limited (sym alike) ∙ e in
         omega (arith, f r, limits r)
 
-    -- in the weight phase it would have a smaller tag
-    no-weight : open? t (at w i) ≡ true → (open? t q ≡ true → (at w i) .stag ≤ q .stag) → ⊥
-    no-weight g least =
+    -- the weight phase would not pick the later one
+    no-weight : open? t (at w i) ≡ true → (open? t q ≡ true → (at w i) .stag < q .stag) → ⊥
+    no-weight g later =
         let f = open-means t q .1 (opens (open-means t (at w i) .0 g)) in
-        let a = above Request.stag (sspacing (own .settings)) n w (own .snext) (orders .shares) j o i l inside (eq-eqb n n refl) in
-        let d = gap-some (q .cost) (own .settings .shares) fair-cost (good .share-count .0) (good .share-count .1) in
-        omega (arith, least f)
+        let a = above Request.stag (sspacing (own .settings)) (sspacing (own .settings)) n w (own .snext) (orders .shares) j o i l inside (eq-eqb n n refl) in
+        omega (arith, later f)
 
-    -- and in the reservation phase
-    no-reservation : due t (at w i) ≡ true → (due t q ≡ true → (at w i) .rtag ≤ q .rtag) → ⊥
-    no-reservation g least =
+    -- nor would the reservation phase
+    no-reservation : due t (at w i) ≡ true → (due t q ≡ true → (at w i) .rtag < q .rtag) → ⊥
+    no-reservation g later =
         let x = due-means t (at w i) .0 g in
         let r = x .has-tag in
-        let k : kept true Request.rtag (rspacing (own .settings)) (rspacing (own .settings)) (mine n w) (own .rnext) ≡ true = rw r at (orders .reservations) in
-        let a = above Request.rtag (rspacing (own .settings)) n w (own .rnext) k j o i l inside (eq-eqb n n refl) in
+        let k : kept true Request.rtag noGap (rspacing (own .settings)) (mine n w) (own .rnext) ≡ true = rw r at (orders .reservations) in
+        let a = above Request.rtag noGap (rspacing (own .settings)) n w (own .rnext) k j o i l inside (eq-eqb n n refl) in
         let y : Due t q = record { has-tag = ap reserved alike ∙ r; at-or-before = omega (arith, x .at-or-before); by-rule-2 = λ e. opens (x .by-rule-2 e) } in
-        let d = gap-some (q .cost) (own .settings .reservation) fair-cost (ltb-true 0 (own .settings .reservation) r) (good .reservations) in
-        omega (arith, least (due-means t q .1 y))
+        omega (arith, later (due-means t q .1 y))
 
-  -- no earlier request is of its guest
-  pub ties-first : (p : Phase) → okIn p t (at w i) ≡ true → ((j : ℕ) → j < length w → okIn p t (at w j) ≡ true → tagIn p (at w i) ≤ tagIn p (at w j))
-      → (j : ℕ) → j < i → (at w j) .guest ≡ (at w i) .guest → ⊥
-  ties-first Reservation g least j l e = no-reservation j l e g (least (o j l e .place) (here j l e))
-  ties-first Weight g least j l e = no-weight j l e g (least (o j l e .place) (here j l e))
+  -- so no earlier request is of the guest of what stands foremost
+  pub foremost-first : (p : Phase) → Foremost (okIn p t) (tagIn p) w i → (j : ℕ) → j < i → (at w j) .guest ≡ (at w i) .guest → ⊥
+  foremost-first Reservation f j l e = no-reservation j l e (f .good) (f .earliest (o j l e .place) (here j l e))
+  foremost-first Weight f j l e = no-weight j l e (f .good) (f .earliest (o j l e .place) (here j l e))
+
+-- ANOTHER GATE'S SEND
+
+-- what the test of the first says
+pub leads-first : (w : List Request) (i : ℕ) → leads w i ≡ true → (j : ℕ) → j < i → (at w j) .guest ≡ (at w i) .guest → ⊥
+unfolding leads
+leads-first w i h j l e =
+    let n = not-true (of ((at w i) .guest) (at w j)) (below-at i (λ j. not (of ((at w i) .guest) (at w j))) h j l) in
+    true≢false (sym (eq-eqb ((at w j) .guest) ((at w i) .guest) e) ∙ n)
+
+pub first-leads : (w : List Request) (i : ℕ) → ((j : ℕ) → j < i → (at w j) .guest ≡ (at w i) .guest → ⊥) → leads w i ≡ true
+unfolding leads
+first-leads w i f = at-below i (λ j. not (of ((at w i) .guest) (at w j))) (λ j l. ap not (ne-eqb ((at w j) .guest) ((at w i) .guest) (f j l)))
+
+-- the request at place j of the lent numbers is another guest's than the one at `place`
+abbrev pub otherAt : List ℕ → (place j : ℕ) → Bool
+otherAt ws place j = not (eqb (waitingAt ws j GUEST) (waitingAt ws place GUEST))
+
+-- so it is tested over them
+pub leads-numbers : (ws : List ℕ) (count place : ℕ) → place < count → leads (waitingOf ws count) place ≡ below place (otherAt ws place)
+unfolding leads
+leads-numbers ws count place h = below-ext place _ (otherAt ws place) (λ j l i. not (eqb (guest-at j (omega arith) i) (guest-at place h i)))
+  where
+    guest-at : (j : ℕ) → j < count → (at (waitingOf ws count) j) .guest ≡ waitingAt ws j GUEST
+    guest-at j k = ap Request.guest (row-at requestForm ws count j k)
 
 -- AS THE SEND ASKS IT
 

@@ -33,7 +33,7 @@ use Rattle.table.proofs.Facts.{facts, rows-ask, row-is, guest-is}
 use Rattle.walks.specs.LeastLaws.{open-by-tag}
 use Rattle.walks.specs.Walks.{Picks}
 use Rattle.walks.specs.declared.Found.the-variants.{At}
-use Rattle.choose.proofs.Phases.{limit-zero, passes-by-tag}
+use Rattle.sends.proofs.Phases.{limit-zero, passes-by-tag}
 use Rattle.lines.specs.Line.{lineOf}
 use Rattle.judge.specs.Judging.{begins, okIn, tagIn, ties, named, placeFrom}
 use Rattle.judge.specs.Hearing.{sizeIf, tagColumn, latestIn, Timely, Tells}

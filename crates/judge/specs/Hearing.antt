@@ -1,7 +1,7 @@
 -- What the functions within the crate tell each other.
 use Prim.Native.Nat.{ℕ, _≤_, _<_}
 use mathlib.Core.Path.{_≡_}
-use mathlib.Core.Bool.{Bool}
+use mathlib.Core.Bool.{Bool, true}
 use mathlib.Core.List.{List}
 use lib.Dec.{eqb}
 use lib.ListN.{length}
@@ -19,8 +19,8 @@ use Rattle.table.specs.Columns.{RTAG, STAG}
 use Rattle.table.specs.View.{tableOf, Known}
 use Rattle.walks.specs.declared.Found.the-variants.{At, Nothing as NoPlace}
 use Rattle.lines.specs.Line.{lineOf}
-use Rattle.judge.specs.Judging.{Heard, follows, wrong, tagIn, named, placeFrom}
-use Rattle.judge.specs.declared.hearing.Said.{Said}
+use Rattle.judge.specs.Judging.{Heard, follows, wrong, tagIn, named, placeFrom, leads, heardIn}
+use Rattle.judge.specs.declared.Said.{Said}
 
 -- A LINE
 
@@ -57,6 +57,13 @@ Lending g gs ws = (fs : List ℕ) × Known g gs ws fs
 pub record Tells (n : ℕ) (ls : List ℕ) (p : Phase) (t : Table) (place there long : ℕ) : Type 0 where
   pub none : long ≡ 0 → placeFrom (named n ls p t (tagIn p (at (t .waiting) place))) 0 (t .waiting) ≡ NoPlace
   pub one : 0 < long → placeFrom (named n ls p t (tagIn p (at (t .waiting) place))) 0 (t .waiting) ≡ At there
+  pub size : 0 < long → long ≡ length (lineOf n (Sent p ((at (t .waiting) there) .guest) ((at (t .waiting) there) .id)))
+
+-- the lines say that the one at `there` goes, which is the first waiting of its guest and whose line is so long; or they are wrong
+pub record Finds (n : ℕ) (ls : List ℕ) (p : Phase) (t : Table) (place there long : ℕ) : Type 0 where
+  pub none : long ≡ 0 → heardIn n ls p t (tagIn p (at (t .waiting) place)) ≡ wrong
+  pub one : 0 < long → placeFrom (named n ls p t (tagIn p (at (t .waiting) place))) 0 (t .waiting) ≡ At there
+  pub first : 0 < long → leads (t .waiting) there ≡ true
   pub size : 0 < long → long ≡ length (lineOf n (Sent p ((at (t .waiting) there) .guest) ((at (t .waiting) there) .id)))
 
 -- WHAT IS LEFT

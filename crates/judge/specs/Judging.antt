@@ -2,14 +2,14 @@
 -- with the printed line of something that may stand, or they are wrong. A printed line ends with byte 10 and has no other, so no other line begins with it.
 -- That this is what Acceptable.antt says in plain facts, proofs/Exactly.antt shows.
 use Prim.Native.Nat.{ℕ, _+_}
-use mathlib.Core.Bool.{Bool, _&&_}
+use mathlib.Core.Bool.{Bool, not, _&&_}
 use mathlib.Core.List.{List, [], _∷_}
 use lib.Dec.{eqb}
 use lib.ListN.{length, take, drop}
-use Rattle.lists.specs.Words.{if_then_else_}
-use Rattle.rules.specs.Tables.{Request, Table}
+use Rattle.lists.specs.Words.{if_then_else_, below}
+use Rattle.rules.specs.Tables.{Request, Table, of}
 use Rattle.rules.specs.Choice.{Result, Pick, nobody, picked, least, due, open?, room}
-use Rattle.rules.specs.Chosen.{unsent, sentByReservationAt, sentByWeightAt}
+use Rattle.rules.specs.Chosen.{at, unsent, sentByReservationAt, sentByWeightAt}
 use Rattle.rules.specs.Events.{enter}
 use Rattle.rules.specs.Refusals.{Verdict, accept, refuse, verdict}
 use Rattle.rules.specs.declared.Event.{Event}
@@ -72,9 +72,13 @@ abbrev pub placeFrom : (Request → Bool) → (i : ℕ) → List Request → Fou
 placeFrom f i [] = NoPlace
 placeFrom f i (q ∷ w) = if f q then At i else placeFrom f (i + 1) w
 
--- the request at the place that was found is sent
+-- no request before place i is of the guest of the one there: it is, by K10, "the first waiting of its guest"
+unfoldable pub leads : List Request → (i : ℕ) → Bool
+leads w i = below i (λ j. not (of ((at w i) .guest) (at w j)))
+
+-- the request at the place that was found is sent, where it is the first waiting of its guest: since K14 reservation tags of one guest may tie
 abbrev pub sentIn : Phase → Table → Found → Heard
-sentIn p t (At i) = follows (sentAt p t i)
+sentIn p t (At i) = if leads (t .waiting) i then follows (sentAt p t i) else wrong
 sentIn p t NoPlace = wrong
 
 -- a phase that picks a request with tag m: any other that ties with it may go as well

@@ -1,9 +1,9 @@
 // Answers to lines: the printed lines, written into a lent buffer. Each function that puts something writes it from place `at` on and
 // answers the place after it.
+use refusals::number;
 use rules::Answer;
 use rules::Phase;
 use rules::Refusal;
-use rules::number;
 ghost use mathlib.Core.Path.{_≡_};
 ghost use mathlib.Core.List.{[], _∷_};
 ghost use Prim.Native.Nat.{_+_, _≤_, _<_};

@@ -1,45 +1,9 @@
-// The moves of a trace from version 1 to version 2, with rule 1, credit 0 and cost 1, and back: from a lent trace into lent room.
-use crate::judging::judge;
-use crate::writing::write;
+// Document 02, K9: the moves of a trace from one version to the other. The crate has no code: it stands for what is in specs/ and proofs/; `movable` judges whether a
+// trace can be moved, and `movers` moves it.
 use rules::Refusal;
-ghost use mathlib.Core.Path.{_≡_};
-ghost use Prim.Native.Nat.{_<_};
-ghost use Rattle.moved.specs.Moves.{movedShown, moves};
-
-mod judging; // whether a trace can be moved
-mod writing; // the bytes of the result
 
 // The answer of a move: so many bytes are written, or why it is refused and the number of the event that refused it, 0 where none did.
 pub enum Moved {
     Written(usize),
     Refused { why: Refusal, event: u64 },
-}
-
-// Moves a trace from one version to another, where it is well-formed, can be said there and has room; else nothing is written.
-fn carry(trace: &[u8], from: u64, to: u64, room: &mut [u8]) -> Moved
-    requires { ⌜ to < 256 ⌝ }
-    ensures { λ r. ⌜ (movedShown r, now (room .exit)) ≡ moves from to (now (trace .entry)) (now (room .entry)) ⌝ }
-{
-    let verdict = judge(trace, from, to, room.len());
-    match verdict {
-        Moved::Written(long) => {
-            write(trace, from, to, room);
-            Moved::Written(long)
-        }
-        Moved::Refused { why, event } => Moved::Refused { why, event },
-    }
-}
-
-// Moves a trace of version 1 to version 2.
-pub fn up(trace: &[u8], room: &mut [u8]) -> Moved
-    ensures { λ r. ⌜ (movedShown r, now (room .exit)) ≡ moves 1 2 (now (trace .entry)) (now (room .entry)) ⌝ }
-{
-    carry(trace, 1, 2, room)
-}
-
-// Moves a trace of version 2 back to version 1.
-pub fn back(trace: &[u8], room: &mut [u8]) -> Moved
-    ensures { λ r. ⌜ (movedShown r, now (room .exit)) ≡ moves 2 1 (now (trace .entry)) (now (room .entry)) ⌝ }
-{
-    carry(trace, 2, 1, room)
 }

@@ -2,5 +2,3 @@ pub mod Moves
 pub mod MovesLaws
 pub mod DropLaws
 pub mod FollowLaws
-pub mod Lower
-pub mod Start

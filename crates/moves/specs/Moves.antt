@@ -1,5 +1,5 @@
 -- What the functions of src/rows.rt do to the lent numbers. MovesLaws, DropLaws and FollowLaws say which entries the numbers then show.
-use Prim.Native.Nat.{ℕ, _+_, _-_, _*_}
+use Prim.Native.Nat.{ℕ, zero, suc, _+_, _-_, _*_, _≤_, _<_}
 use mathlib.Core.Path.{_≡_}
 use mathlib.Core.List.{List, map}
 use lib.Dec.{eqb}
@@ -8,7 +8,7 @@ use Rattle.lists.specs.Stores.{stores}
 use Rattle.lists.specs.Parts.{shut}
 use Rattle.lists.specs.Lines.{whether}
 use Rattle.lists.specs.Rows.{rowsOf, overRows}
-use Rattle.rules.specs.Numbers.{down, up}
+use Rattle.rules.specs.Numbers.{ceiling, mostCost, down, up}
 use Rattle.rules.specs.Tables.{Request}
 use Rattle.rules.specs.Run.{newcomer}
 use Rattle.table.specs.Columns.{RESERVATION, LIMIT, SHARES, RNEXT, LNEXT, SNEXT, guestWide, GUEST, ID, COST, flightWide, RTAG, waitingWide, guestAt, waitingAt}
@@ -39,10 +39,6 @@ appended n q ws = stores (λ j. n * waitingWide + j) (λ j. getD (requestForm .l
 abbrev pub fallOf : (g c : ℕ) → List ℕ → ℕ
 fallOf g c gs = c * down (guestAt gs g RESERVATION)
 
--- the guests once the next reservation number of guest g has fallen so far
-abbrev pub nextDropped : (g c : ℕ) → List ℕ → List ℕ
-nextDropped g c gs = set gs (g * guestWide + RNEXT) (guestAt gs g RNEXT - fallOf g c gs)
-
 -- the reservation tag of request k once those of guest g have dropped by d
 abbrev pub tagDropped : (g d : ℕ) → List ℕ → ℕ → ℕ
 tagDropped g d ws k = whether (eqb (waitingAt ws k GUEST) g) (waitingAt ws k RTAG - d) (waitingAt ws k RTAG)
@@ -50,6 +46,25 @@ tagDropped g d ws k = whether (eqb (waitingAt ws k GUEST) g) (waitingAt ws k RTA
 -- the waiting table once, in its first n rows, the reservation tags of guest g have dropped by d
 abbrev pub tagsDropped : (g d : ℕ) → List ℕ → ℕ → List ℕ
 tagsDropped g d ws n = stores (λ k. k * waitingWide + RTAG) (tagDropped g d ws) n ws
+
+-- the number that follows the last request of guest g in the first n rows, once its tags have dropped by d: that tag plus its cost times the spacing s; or `next`
+-- where there is none
+abbrev pub lastPast : (g d s next : ℕ) → List ℕ → ℕ → ℕ
+lastPast g d s next ws zero = next
+lastPast g d s next ws (suc n) = whether (eqb (waitingAt ws n GUEST) g) (waitingAt ws n RTAG - d + waitingAt ws n COST * s) (lastPast g d s next ws n)
+
+-- the guests once guest g has that next reservation number, after a send at cost c, where n requests wait
+abbrev pub nextDropped : (g c n : ℕ) (ws gs : List ℕ) → List ℕ
+nextDropped g c n ws gs =
+    set gs (g * guestWide + RNEXT) (lastPast g (fallOf g c gs) (down (guestAt gs g RESERVATION)) (guestAt gs g RNEXT - fallOf g c gs) ws n)
+
+-- the reservation tags and the costs of the first n rows are such as wait in a sound table
+abbrev pub Lawful : (n : ℕ) → List ℕ → Type 0
+Lawful n ws = (k : ℕ) → k < n → (waitingAt ws k RTAG ≤ ceiling) × (waitingAt ws k COST ≤ mostCost)
+
+-- where guest g has no reservation, its next reservation number and its reservation tags in the first n rows are 0
+abbrev pub Unreserved : (g n : ℕ) (gs ws : List ℕ) → Type 0
+Unreserved g n gs ws = guestAt gs g RESERVATION ≡ 0 → (guestAt gs g RNEXT ≡ 0) × ((k : ℕ) → k < n → waitingAt ws k GUEST ≡ g → waitingAt ws k RTAG ≡ 0)
 
 -- the guests once the three next numbers of guest g are the tags r, l and s plus c times its spacings
 abbrev pub followed : (g r l s c : ℕ) → List ℕ → List ℕ

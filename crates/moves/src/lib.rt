@@ -1,2 +1,2 @@
-// The moves that write the lent tables. Functions for this repository's own crates.
-pub mod rows; // a request sent, taken out or placed; tags that drop, next numbers that follow, tables that start and clear
+// The moves within the lent tables, and the laws of all that writes them. Functions for this repository's own crates.
+pub mod rows; // a request sent or taken out, rows that close up, numbers that become zero

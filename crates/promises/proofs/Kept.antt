@@ -3,13 +3,15 @@ use mathlib.Core.Path.{sym, _∙_}
 use Rattle.rules.proofs.Arrived.{step-described, step-once}
 use Rattle.rules.proofs.Chosen.{due-means, open-means}
 use Rattle.rules.proofs.StepSound.{step-sound}
-use Rattle.rules.proofs.TurnAt.{demand-3-places, no-place-no-send}
+use Rattle.turns.proofs.TurnAt.{demand-3-places, no-place-no-send}
 use Rattle.rules.proofs.Readings.{readings}
 use Rattle.rules.proofs.Credit.{credit-0}
 use Rattle.rules.proofs.Bursts.{bursts}
 use Rattle.rules.proofs.Costs.{costs}
-use Rattle.rules.proofs.Plain.{cost-1}
-use Rattle.rules.proofs.WakeFits.{accepted-wakes, accepted-none, wakes-once}
+use Rattle.rules.proofs.Several.{several}
+use Rattle.past.proofs.Plain.{cost-1}
+use Rattle.past.proofs.Single.{one-and-one}
+use Rattle.turns.proofs.WakeFits.{accepted-wakes, accepted-none, wakes-once}
 use Rattle.worth.proofs.Worth.{limit-worth}
 use Rattle.worth.proofs.Counted.{none-missed}
 use Rattle.gate.specs.Promise.{Lending, numbers}
@@ -26,11 +28,11 @@ use Rattle.gate.proofs.Worth.{calls-worth}
 use Rattle.gate.proofs.Wakes.{calls-wake, opening-wakes}
 use Rattle.records.specs.Promise.{records}
 use Rattle.records.proofs.Lawful.{records-lawful}
-use Rattle.host.proofs.Once.{four-once, fifth-once, open-once}
-use Rattle.host.proofs.Runs.{through-exactly, through-open-exactly, through-opened, through-run, through-in-order, through-demand-3, through-worth}
-use Rattle.host.proofs.MovedOnce.{trace-once}
-use Rattle.host.proofs.SalvagedOnce.{salvage-once}
-use Rattle.host.proofs.Wakes.{through-wakes, through-refused-wakes, through-opening-wakes, through-refused-opening-wakes}
+use Rattle.hands.proofs.Once.{four-once, fifth-once, open-once}
+use Rattle.hands.proofs.Runs.{through-exactly, through-open-exactly, through-opened, through-run, through-in-order, through-demand-3, through-worth}
+use Rattle.hands.proofs.MovedOnce.{trace-once}
+use Rattle.hands.proofs.SalvagedOnce.{salvage-once}
+use Rattle.hands.proofs.Wakes.{through-wakes, through-refused-wakes, through-opening-wakes, through-refused-opening-wakes}
 use Rattle.trace.proofs.HeaderExactly.{header-exactly}
 use Rattle.trace.proofs.LineExactly.{line-exactly, line-numbers, table-sound}
 use Rattle.trace.proofs.NoCredit.{no-credit}
@@ -65,7 +67,17 @@ use Rattle.clock.proofs.Exactly.{read-exactly, refusal-keeps as reading-keeps, 
 use Rattle.clock.proofs.Once.{read-once}
 use Rattle.clock.proofs.Rising.{never-falls}
 use Rattle.clock.proofs.TrueTime.{true-time, first-past, unseen}
-use Rattle.promises.proofs.Promises.{OnTheRules, OverLent, OfABatch, ThroughC, OfATrace, OfTheMoves, OfTheSalvage, OfTheJudge, OfTheSheet, OfTheClock, Promises}
+use Rattle.houses.proofs.Exactly.{asked-exactly, begun-exactly}
+use Rattle.houses.proofs.Keeps.{asked-keeps, begun-keeps}
+use Rattle.arrays.proofs.Once.{seen-at-once}
+use Rattle.houses.proofs.Untouched.{asked-beyond, begun-beyond}
+use Rattle.houses.proofs.Unread.{begun-unread}
+use Rattle.houses.proofs.Begins.{all-begun}
+use Rattle.houses.proofs.Counted.{counted-exactly}
+use Rattle.houses.proofs.Demand3.{house-demand-3}
+use Rattle.houses.proofs.GoodHouse.{good-run}
+use Rattle.houses.proofs.Readings.{readings as house-readings}
+use Rattle.promises.proofs.Promises.{OnTheRules, OverLent, OfABatch, ThroughC, OfATrace, OfTheMoves, OfTheSalvage, OfTheJudge, OfTheSheet, OfTheClock, OfTheArrays, Promises}
 
 rules-kept : OnTheRules
 rules-kept =
@@ -84,9 +96,11 @@ rules-kept =
       none-missed = none-missed;
       credit-0 = credit-0;
       cost-1 = cost-1;
+      one-and-one = one-and-one;
       readings = readings;
       bursts = bursts;
       costs = costs;
+      several = several;
     }
 
 lent-kept : (v : Lending) (lawful : Lawful v) → OverLent v lawful
@@ -245,6 +259,24 @@ clock-kept =
       unseen = unseen;
     }
 
+arrays-kept : OfTheArrays
+arrays-kept =
+    record {
+      asked-exactly = asked-exactly;
+      begun-exactly = begun-exactly;
+      asked-keeps = asked-keeps;
+      begun-keeps = begun-keeps;
+      once = seen-at-once;
+      asked-untouched = asked-beyond;
+      begun-untouched = begun-beyond;
+      begun-unread = begun-unread;
+      begins = all-begun;
+      counted-exactly = counted-exactly;
+      demand-3 = house-demand-3;
+      stays-good = good-run;
+      house-readings = house-readings;
+    }
+
 -- What the product promises is kept.
 pub promises : Promises
 promises =
@@ -263,4 +295,5 @@ promises =
       of-the-judge = judge-kept;
       of-the-sheet = sheet-kept;
       of-the-clock = clock-kept;
+      of-the-arrays = arrays-kept;
     }

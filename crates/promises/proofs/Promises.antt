@@ -11,7 +11,8 @@ use Rattle.lists.specs.Words.{if_then_else_, all, filter}
 use Rattle.rules.specs.Numbers.{ceiling, tagAt}
 use Rattle.rules.specs.Tables.{Request, Table, owner, idle}
 use Rattle.rules.specs.Sound.{sound}
-use Rattle.rules.specs.Plain.{soundPlain, costsOne, bringsOne}
+use Rattle.past.specs.Single.{soundSingle, oneAndOne}
+use Rattle.past.specs.Plain.{soundPlain, costsOne, bringsOne}
 use Rattle.rules.specs.Answers.{shown, taken}
 use Rattle.rules.specs.Choice.{Result, due, open?}
 use Rattle.rules.specs.Events.{moment, shareTag, enter}
@@ -21,10 +22,10 @@ use Rattle.rules.specs.Refusals.{accept, judged, accepted}
 use Rattle.rules.specs.Refused.{RefusedExactly, NoneHolds, callCases, openCases}
 use Rattle.rules.specs.Order.{waits, left}
 use Rattle.rules.specs.Run.{fresh, step, after, answers}
-use Rattle.rules.specs.Turn.{findsRoom, atFree}
-use Rattle.rules.specs.TurnAt.{TurnKept}
+use Rattle.turns.specs.Turn.{findsRoom, atFree}
+use Rattle.turns.specs.TurnAt.{TurnKept}
 use Rattle.rules.specs.Waking.{told}
-use Rattle.rules.specs.Woken.{Wakes}
+use Rattle.turns.specs.Woken.{Wakes}
 use Rattle.rules.specs.declared.Settings.{Settings}
 use Rattle.rules.specs.declared.Guest.{Guest}
 use Rattle.rules.specs.declared.Event.{Event}
@@ -38,8 +39,10 @@ use Rattle.rules.specs.declared.Wake.{Wake}
 use Rattle.rules.specs.declared.Wake.the-variants.{Never}
 use Rattle.rules.proofs.Readings.{Readings}
 use Rattle.rules.proofs.Bursts.{Bursts}
+use Rattle.rules.proofs.Several.{Several}
+use Rattle.past.proofs.Single.{SameRunSingle}
 use Rattle.rules.proofs.Costs.{Costs}
-use Rattle.rules.proofs.Plain.{SameRun}
+use Rattle.past.proofs.Plain.{SameRun}
 use Rattle.rules.proofs.Trials.{X}
 use Rattle.worth.specs.Passages.{passages}
 use Rattle.worth.specs.Worth.{Worth}
@@ -54,13 +57,13 @@ use Rattle.records.specs.Promise.{records}
 use Rattle.records.proofs.Lawful.{records-lawful}
 use Rattle.gate.proofs.Lending.{numbers-lawful}
 use Rattle.gate.specs.Replies.{Four, fourOf, never, fifthOf}
-use Rattle.host.specs.Host.{gateIn, hosted}
-use Rattle.host.specs.Calls.{Lent, inside, shownBy, through, kept, heldBy, fours, Refuses, Takes, freeFours}
-use Rattle.host.specs.Traces.{threeOf, mendedOf}
-use Rattle.host.specs.declared.traces.Carried.{Carried}
-use Rattle.host.specs.declared.salvages.Mended.{Mended}
-use Rattle.host.proofs.Runs.{ThroughRuns}
-use Rattle.host.proofs.Once.{Timely, Back}
+use Rattle.hands.specs.Host.{gateIn, hosted}
+use Rattle.hands.specs.Calls.{Lent, inside, shownBy, through, kept, heldBy, fours, Refuses, Takes, freeFours}
+use Rattle.hands.specs.Traces.{threeOf, mendedOf}
+use Rattle.hands.specs.declared.Carried.{Carried}
+use Rattle.hands.specs.declared.Mended.{Mended}
+use Rattle.hands.proofs.Runs.{ThroughRuns}
+use Rattle.hands.proofs.Once.{Timely, Back}
 use Rattle.clock.specs.declared.Clock.{Clock}
 use Rattle.clock.specs.declared.Told.{Told}
 use Rattle.clock.specs.Reading.{wrap, tells, movedTo, doing}
@@ -91,7 +94,17 @@ use Rattle.batch.specs.Rows.{countOf, answerWide}
 use Rattle.batch.specs.Promise.{BatchIn, outcomes, batchTests, batchedIn, seenBatchIn}
 use Rattle.batch.specs.Batches.{Batch, batchCases, Refuses as RefusesAll, Takes as TakesAll, goods, good, allDone, heldBatches, freeAnswers}
 use Rattle.batch.proofs.OneByOne.{AsCalls}
-use Rattle.gate.specs.declared.numbers.Judged.the-variants.{Bad as Barred}
+use Rattle.gate.specs.declared.Judged.the-variants.{Bad as Barred}
+use Rattle.arrays.specs.declared.Site.{Site}
+use Rattle.arrays.specs.declared.Ask.{Ask}
+use Rattle.arrays.specs.Promise.{HandedAt, seenAt, keptAt, asked, begun}
+use Rattle.houses.specs.House.{House, Deed, arrayAt, heldAt, answersAt, narrowDeed, freeAt}
+use Rattle.houses.specs.History.{toldOver, Begun, CountedExactly}
+use Rattle.houses.specs.Cases.{askCases, openingCases}
+use Rattle.houses.specs.Needs.{BeyondAt, AlikeAt, SameAt}
+use Rattle.houses.specs.Opening.{Lent as LentAt, openedAll, acceptedAll}
+use Rattle.houses.proofs.GoodHouse.{GoodHouse}
+use Rattle.houses.proofs.Readings.{Readings as HouseReadings}
 use Rattle.book.specs.Book.{noted}
 use Rattle.book.specs.Figures.{figuresAt}
 use Rattle.book.specs.Page.{Page, named, waited, turnedBy, firstPage}
@@ -120,10 +133,12 @@ pub record OnTheRules : Type 0 where
   pub worth : (t : Table) (es : List Event) → sound t ≡ true → Worth t es (answers t es)
   pub none-missed : (g : ℕ) (t : Table) (es : List Event) → sound t ≡ true → idle t g ≡ true → length (filter (own g) (passages es (answers t es))) ≡ length (left g (answers t es))
   pub credit-0 : (now : ℕ) (h : Guest) → h .settings .credit ≡ 0 → (idle : Bool) → shareTag idle now h ≡ (if idle then now else tagAt now (h .snext))
-  pub cost-1 : (es : List Event) (t : Table) → soundPlain t ≡ true → all costsOne (t .waiting) ≡ true → all bringsOne es ≡ true → SameRun t es
+  pub cost-1 : (es : List Event) (t : Table) → soundPlain t ≡ true → all costsOne (t .waiting) ≡ true → all bringsOne es ≡ true → all oneAndOne es ≡ true → SameRun t es
+  pub one-and-one : (es : List Event) (t : Table) → soundSingle t ≡ true → all oneAndOne es ≡ true → SameRunSingle t es
   pub readings : Readings
   pub bursts : Bursts
   pub costs : Costs
+  pub several : Several
 
 -- OVER LENT TABLES, in a way of lending guests
 
@@ -326,6 +341,34 @@ pub record OfTheClock : Type 0 where
       → doing (clockAfter c (map shownAt (t ∷ us))) (shownAt u) ≡ (tells 5 0, clockAfter c (map shownAt (t ∷ us)))
   pub unseen : (c : Clock) (u : ℕ) → doing c (shownAt (u + wrap)) ≡ doing c (shownAt u)
 
+-- the calls at one of several arrays, document 02, K14
+pub record OfTheArrays : Type 0 where
+  -- each refusal exactly, the gate's own behind; a refusal hands back all as it was; any two outcomes that the promise admits are equal
+  pub asked-exactly : (s : Site) (g : Gate) (gs ws fs cs ps : List ℕ) (k : Ask)
+      → RefusedExactly (askCases s g gs ws fs cs ps k) (λ n. shown (asked s g gs ws fs cs ps k .0 .answer) ≡ X n) (taken (asked s g gs ws fs cs ps k .0 .answer) ≡ true)
+  pub begun-exactly : (s : Site) (d n c rule : ℕ) (ss gs ws fs cs ps : List ℕ)
+      → RefusedExactly (openingCases s d n c rule ss gs ws fs cs ps) (λ m. shown (begun s d n c rule ss gs ws fs cs ps .0 .answer) ≡ X m) (taken (begun s d n c rule ss gs ws fs cs ps .0 .answer) ≡ true)
+  pub asked-keeps : (s : Site) (g : Gate) (gs ws fs cs ps : List ℕ) (k : Ask) (r : Refusal)
+      → asked s g gs ws fs cs ps k .0 .answer ≡ Refused r → asked s g gs ws fs cs ps k ≡ keptAt g gs ws fs cs ps r
+  pub begun-keeps : (s : Site) (d n c rule : ℕ) (ss gs ws fs cs ps : List ℕ) (r : Refusal)
+      → begun s d n c rule ss gs ws fs cs ps .0 .answer ≡ Refused r → begun s d n c rule ss gs ws fs cs ps ≡ keptAt unopened gs ws fs cs ps r
+  pub once : (h k : HandedAt) → seenAt h ≡ seenAt k → h ≡ k
+  -- places beyond what the settings need are neither changed nor read
+  pub asked-untouched : (s : Site) (g : Gate) (gs ws fs cs ps : List ℕ) (k : Ask)
+      → BeyondAt (s .arrays) (g .guests) (g .setup .capacity) (g .setup .depth) gs ws fs cs ps (asked s g gs ws fs cs ps k)
+  pub begun-untouched : (s : Site) (d n c rule : ℕ) (ss gs ws fs cs ps : List ℕ) → BeyondAt (s .arrays) n c d gs ws fs cs ps (begun s d n c rule ss gs ws fs cs ps)
+  pub begun-unread : (s : Site) (d n c rule : ℕ) (ss ts gs ws fs cs ps hs vs es bs qs : List ℕ) → take (n * settingsWide) ss ≡ take (n * settingsWide) ts
+      → AlikeAt (s .arrays) n c d gs ws fs cs ps hs vs es bs qs → SameAt (s .arrays) n c d (begun s d n c rule ss gs ws fs cs ps) (begun s d n c rule ts hs vs es bs qs)
+  -- each count is exactly that of the history, from the openings of all arrays on
+  pub begins : (n : ℕ) (ss : List ℕ) (ls : List LentAt) (cs : List ℕ) → acceptedAll n ss ls cs ≡ true → Begun n (openedAll n ss ls cs)
+  pub counted-exactly : (n : ℕ) (h : House) → Begun n h → (ds : List Deed) → CountedExactly n (heldAt h ds) (toldOver [] ds (answersAt h ds))
+  -- demand 3 at each array, whatever is called at any of them
+  pub demand-3 : (h : House) (ds : List Deed) (a : ℕ) → a < length (h .arrays) → firm numbers (arrayAt h a .host) ≡ true → all narrowDeed ds ≡ true
+      → (i : ℕ) → TurnKept (shows numbers (arrayAt h a .host)) i (freeAt a h ds)
+  -- good counters and phases stay so
+  pub stays-good : (n : ℕ) (ds : List Deed) (h : House) → GoodHouse n h → GoodHouse n (heldAt h ds)
+  pub house-readings : HouseReadings
+
 -- ALL OF IT
 
 pub record Promises : Type 0 where
@@ -344,3 +387,4 @@ pub record Promises : Type 0 where
   pub of-the-judge : OfTheJudge
   pub of-the-sheet : OfTheSheet
   pub of-the-clock : OfTheClock
+  pub of-the-arrays : OfTheArrays

@@ -18,15 +18,15 @@ use Rattle.table.specs.View.{guestForm}
 use Rattle.table.specs.ViewLaws.{guest-exact}
 use Rattle.gate.specs.Promise.{numbers, HandedIn, calledIn}
 use Rattle.gate.specs.Calls.{Host, holds}
-use Rattle.gate.specs.declared.numbers.Judged.the-variants.{Good as Accepted}
+use Rattle.gate.specs.declared.Judged.the-variants.{Good as Accepted}
 use Rattle.gate.proofs.Lending.{numbers-lawful}
-use Rattle.batch.specs.declared.events.Read.{Read}
-use Rattle.batch.specs.declared.events.Read.the-variants.{Good, Bad}
-use Rattle.batch.specs.declared.numbers.Batched.{Batched}
+use Rattle.batch.specs.declared.Read.{Read}
+use Rattle.batch.specs.declared.Read.the-variants.{Good, Bad}
+use Rattle.batch.specs.declared.Batched.{Batched}
 use Rattle.batch.specs.Rows.{eventsIn, answersOver}
 use Rattle.batch.specs.Promise.{BatchIn, SeenBatchIn, seenBatchIn, hostOf, one, heldAfter, outcomes, batchTests, batchedBy, batchedIn}
 use Rattle.batch.proofs.Beyond.{SetTo, set-to, one-set, one-beyond}
-use Rattle.records.specs.Records.{inUse}
+use Rattle.packs.specs.Records.{inUse}
 use Rattle.records.specs.Promise.{records}
 use Rattle.records.specs.Batch.{batchInPart}
 use Rattle.records.proofs.Copies.{count, rows, part, left, brought, homed, count-room, length-part, length-brought, kept}

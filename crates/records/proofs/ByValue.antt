@@ -20,9 +20,9 @@ use Rattle.rules.proofs.Event as E
 use Rattle.rules.proofs.Event.Laws as E′
 use Rattle.rules.proofs.Outcome as O
 use Rattle.rules.proofs.Outcome.Laws as O′
-use Rattle.batch.specs.declared.numbers.Batched.{Batched}
-use Rattle.batch.proofs.numbers.Batched as B
-use Rattle.batch.proofs.numbers.Batched.Laws as B′
+use Rattle.batch.specs.declared.Batched.{Batched}
+use Rattle.batch.proofs.Batched as B
+use Rattle.batch.proofs.Batched.Laws as B′
 
 abbrev pub GateR : RattleType
 GateR = G.the-row

@@ -41,14 +41,14 @@ use denote.Triple.Statement.{Contract, Triple}
 use denote.Triple.Walked.{says}
 use Rattle.rules.specs.declared.Guest.{Guest}
 use Rattle.table.specs.Columns.{guestWide}
-use Rattle.records.proofs.Rows.{unpacked, packed}
-use Rattle.records.proofs.Rec.{Rec}
+use Rattle.packs.proofs.Rows.{unpacked, packed}
+use Rattle.packs.proofs.Rec.{Rec}
 use Rattle.lent.proofs.Again.{LentAgain, lends-again, comes-back}
 use Rattle.lent.proofs.Lent.{LentShared, shares, unshares}
-use Rattle.records.proofs.guests.unpack as unpack
-use Rattle.records.proofs.guests.unpack.Symbol.{name as #records·guests·unpack}
-use Rattle.records.proofs.guests.pack as pack
-use Rattle.records.proofs.guests.pack.Symbol.{name as #records·guests·pack}
+use Rattle.packs.proofs.unpack as unpack
+use Rattle.packs.proofs.unpack.Symbol.{name as #packs·unpack}
+use Rattle.packs.proofs.pack as pack
+use Rattle.packs.proofs.pack.Symbol.{name as #packs·pack}
 
 module _ {M : Type 1} (𝓤 : URA M) (H : Heap 𝓤) (A : Atoms 𝓤) (mem : Memory → SProp 𝓤) (run : Routine → Fun 𝓤) where
   abbrev pub Unpack : Contract 𝓤
@@ -97,8 +97,8 @@ module _ {M : Type 1} (𝓤 : URA M) (H : Heap 𝓤) (A : Atoms 𝓤) (W : Given
   Kept-unpack ν ν′ δ′ = ‵ (LentShared Rec κ (ν ∷ []) q γ b o gs) ⊛ ‵ (flent (ν′ ∷ []) (Held u64 (length rs) l 0 δ′))
 
   module _ {K : Type 0} {Γ : List (Item 𝓤)} {E : Env 𝓤 H} {C : Calls 𝓤 H} {Λ : Loops 𝓤 H} {qq : Post 𝓤 H} {d : Place} {rest : Body} {xs : List Operand} where
-    pub calls-unpack : K → FmC 𝓤 H (W .laws) C → Triple 𝓤 (C #records·guests·unpack) (Unpack 𝓤 H A mem run) → ((i j : Item 𝓤) → Opds K W (i ∷ j ∷ Γ) E xs (s ∷ vint w64 k ∷ s′ ∷ []))
-        → Step K W (‵ (Guests κ γ b o gs n) ∷ ‵ (flft κ q) ∷ ‵ (cells (memOf u64) out l 0) ∷ Γ) (lands C Λ E d vunit rest qq) (‵ (Guests κ γ b o gs n) ∷ ‵ (flft κ q) ∷ ‵ (cells (memOf u64) rs l 0) ∷ Γ) (runs C Λ E (seq (call #records·guests·unpack xs d) rest) qq)
+    pub calls-unpack : K → FmC 𝓤 H (W .laws) C → Triple 𝓤 (C #packs·unpack) (Unpack 𝓤 H A mem run) → ((i j : Item 𝓤) → Opds K W (i ∷ j ∷ Γ) E xs (s ∷ vint w64 k ∷ s′ ∷ []))
+        → Step K W (‵ (Guests κ γ b o gs n) ∷ ‵ (flft κ q) ∷ ‵ (cells (memOf u64) out l 0) ∷ Γ) (lands C Λ E d vunit rest qq) (‵ (Guests κ γ b o gs n) ∷ ‵ (flft κ q) ∷ ‵ (cells (memOf u64) rs l 0) ∷ Γ) (runs C Λ E (seq (call #packs·unpack xs d) rest) qq)
     calls-unpack t fm known os = step (λ z′.
         lft-new t tt (λ ν. lft-new t tt (λ ν′. move t (2 ∷ 3 ∷ []) $
         use2 W (later (some (λ (δ : GName). ‵ (ShrSlice (named 0) (ν ∷ []) Rec .own (guestsAt (b, o) δ gs) (s ∷ [])) ⊛ ‵ (LentShared Rec κ (ν ∷ []) q γ b o gs)))) (shares Rec κ (ν ∷ []) q γ b o gs 𝓤 H A W (named 0) (named 0)) $ await t tt $ pick t (λ δ. split t $
@@ -141,8 +141,8 @@ module _ {M : Type 1} (𝓤 : URA M) (H : Heap 𝓤) (A : Atoms 𝓤) (W : Given
   Kept-pack ν ν′ δ′ = ‵ (LentAgain Rec κ (ν′ ∷ []) q γ b o δ′ gs) ⊛ ‵ (flent (ν ∷ []) whole-rows)
 
   module _ {K : Type 0} {Γ : List (Item 𝓤)} {E : Env 𝓤 H} {C : Calls 𝓤 H} {Λ : Loops 𝓤 H} {qq : Post 𝓤 H} {d : Place} {rest : Body} {xs : List Operand} where
-    pub calls-pack : K → FmC 𝓤 H (W .laws) C → Triple 𝓤 (C #records·guests·pack) (Pack 𝓤 H A mem run) → ((i j : Item 𝓤) → Opds K W (i ∷ j ∷ Γ) E xs (s′ ∷ vint w64 k ∷ s ∷ []))
-        → Step K W (‵ (Guests κ γ b o back n) ∷ ‵ (flft κ q) ∷ ‵ (cells (memOf u64) rs l 0) ∷ Γ) (lands C Λ E d vunit rest qq) (‵ (Guests κ γ b o gs n) ∷ ‵ (flft κ q) ∷ ‵ (cells (memOf u64) rs l 0) ∷ Γ) (runs C Λ E (seq (call #records·guests·pack xs d) rest) qq)
+    pub calls-pack : K → FmC 𝓤 H (W .laws) C → Triple 𝓤 (C #packs·pack) (Pack 𝓤 H A mem run) → ((i j : Item 𝓤) → Opds K W (i ∷ j ∷ Γ) E xs (s′ ∷ vint w64 k ∷ s ∷ []))
+        → Step K W (‵ (Guests κ γ b o back n) ∷ ‵ (flft κ q) ∷ ‵ (cells (memOf u64) rs l 0) ∷ Γ) (lands C Λ E d vunit rest qq) (‵ (Guests κ γ b o gs n) ∷ ‵ (flft κ q) ∷ ‵ (cells (memOf u64) rs l 0) ∷ Γ) (runs C Λ E (seq (call #packs·pack xs d) rest) qq)
     calls-pack t fm known os = step (λ z′.
         lft-new t tt (λ ν. lft-new t tt (λ ν′. move t (2 ∷ 3 ∷ []) $
         use2 W (later (some (λ (δ′ : GName). ‵ (MutSlice (named 0) (ν′ ∷ []) Rec .own (guestsAt (b, o) δ′ gs) (s ∷ [])) ⊛ ‵ (LentAgain Rec κ (ν′ ∷ []) q γ b o δ′ gs)))) (lends-again Rec κ (ν′ ∷ []) q γ b o 𝓤 H A W (named 0) (named 0) gs) $ await t tt $ pick t (λ δ′. split t $

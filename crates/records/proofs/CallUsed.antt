@@ -12,10 +12,10 @@ use types.Kit.{Given, Item, Post, runs, lands, Step, step}
 use types.Run.{Opds}
 use denote.Builtin.{u64, usize}
 use denote.Triple.Statement.{Contract, Triple}
-use Rattle.records.specs.Records.{inUse}
+use Rattle.packs.specs.Records.{inUse}
 use Rattle.lent.proofs.ByValue.{word}
 use Rattle.lent.proofs.Calls.{Two, calls-two}
-use Rattle.records.proofs.guests.used.Symbol.{name as #records·guests·used}
+use Rattle.packs.proofs.used.Symbol.{name as #packs·used}
 
 module _ {M : Type 1} (𝓤 : URA M) (H : Heap 𝓤) (A : Atoms 𝓤) where
   abbrev pub Used : Contract 𝓤
@@ -23,6 +23,6 @@ module _ {M : Type 1} (𝓤 : URA M) (H : Heap 𝓤) (A : Atoms 𝓤) where
 
 module _ {M : Type 1} (𝓤 : URA M) (H : Heap 𝓤) (A : Atoms 𝓤) (W : Given 𝓤 H A) (wanted lent : ℕ) (w-ok : wanted < 2 ^ 64) (l-ok : lent < 2 ^ 64)
     {K : Type 0} {Γ : List (Item 𝓤)} {E : Env 𝓤 H} {C : Calls 𝓤 H} {Λ : Loops 𝓤 H} {qq : Post 𝓤 H} {d : Place} {rest : Body} {xs : List Operand} where
-  pub calls-used : K → FmC 𝓤 H (W .laws) C → Triple 𝓤 (C #records·guests·used) (Used 𝓤 H A) → ((i : Item 𝓤) → Opds K W (i ∷ Γ) E xs (vint w64 wanted ∷ vint w64 lent ∷ []))
-      → Step K W Γ (lands C Λ E d (vint w64 (inUse wanted lent)) rest qq) Γ (runs C Λ E (seq (call #records·guests·used xs d) rest) qq)
+  pub calls-used : K → FmC 𝓤 H (W .laws) C → Triple 𝓤 (C #packs·used) (Used 𝓤 H A) → ((i : Item 𝓤) → Opds K W (i ∷ Γ) E xs (vint w64 wanted ∷ vint w64 lent ∷ []))
+      → Step K W Γ (lands C Λ E d (vint w64 (inUse wanted lent)) rest qq) Γ (runs C Λ E (seq (call #packs·used xs d) rest) qq)
   calls-used t fm known os = step (λ k. calls-two u64 usize usize (word w64) (word w64) (word w64) inUse 𝓤 H A W wanted lent (refl, w-ok) (refl, l-ok) t fm known os (λ is. k))

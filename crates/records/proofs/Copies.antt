@@ -13,8 +13,8 @@ use Rattle.rules.specs.declared.Guest.{Guest}
 use Rattle.table.specs.Columns.{guestWide, guestsLong}
 use Rattle.table.specs.View.{guestForm, guestsOf}
 use Rattle.table.specs.ViewLaws.{guest-exact}
-use Rattle.records.specs.Records.{blank, inUse}
-use Rattle.records.proofs.Rows.{unpacked, length-unpacked}
+use Rattle.packs.specs.Records.{blank, inUse}
+use Rattle.packs.proofs.Rows.{unpacked, length-unpacked}
 use Rattle.gate.specs.Promise.{numbers, HandedIn}
 use Rattle.records.specs.Promise.{guestsIn, overRecords, records}
 

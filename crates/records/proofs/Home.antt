@@ -30,7 +30,7 @@ use Rattle.gate.specs.Promise.{numbers, tableIn, HandedIn, handedIn, SeenIn, se
 use Rattle.gate.specs.Promise.{settingsIn, unopened, openShortIn, openedByIn, openingIn, openedIn}
 use Rattle.gate.proofs.Lending.{numbers-lawful, uncounted-in, short-refused-in, unsound-refused-in, accepted-open, open-roomy}
 use Rattle.gate.proofs.Beyond.{chosen-sized, fresh-sized}
-use Rattle.records.specs.Records.{inPart}
+use Rattle.packs.specs.Records.{inPart}
 use Rattle.records.specs.Promise.{records}
 use Rattle.records.proofs.Lawful.{records-lawful}
 use Rattle.records.proofs.Copies.{count, rows, part, brought, homed, length-part, kept, same-guests, same-records}

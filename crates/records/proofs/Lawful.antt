@@ -10,7 +10,7 @@ use lib.Seq.{take-at, drop-at, getD-take}
 use Rattle.lists.specs.Tab.{tab-ext, length-tab, is-tab}
 use Rattle.rules.specs.declared.Guest.{Guest}
 use Rattle.gate.proofs.Lending.{Lawful}
-use Rattle.records.specs.Records.{blank}
+use Rattle.packs.specs.Records.{blank}
 use Rattle.records.specs.Promise.{guestsIn, overRecords, records}
 
 -- as many guests as are asked for

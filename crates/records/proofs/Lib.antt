@@ -6,7 +6,5 @@ pub mod Home
 pub mod BatchHome
 pub mod Lawful
 pub mod Parts
-pub mod Rec
-pub mod Rows
 pub mod Statements
 pub mod Words

@@ -36,13 +36,13 @@ use denote.Steps.{owned}
 use denote.Triple.Statement.{Triple}
 use Rattle.rules.specs.declared.Guest.{Guest}
 use Rattle.table.specs.Columns.{guestWide, guestsLong}
-use Rattle.records.proofs.Rows.{unpacked, packed}
-use Rattle.records.proofs.Rec.{Rec}
+use Rattle.packs.proofs.Rows.{unpacked, packed}
+use Rattle.packs.proofs.Rec.{Rec}
 use Rattle.lent.proofs.Statements.{sv, On, from-on, relends}
 use Rattle.lent.proofs.Lent.{array-made, array-gone, repeat-typed}
 use Rattle.records.proofs.CallCopies.{Unpack, Pack, Guests, calls-unpack, calls-pack}
-use Rattle.records.proofs.guests.unpack.Symbol.{name as #records·guests·unpack}
-use Rattle.records.proofs.guests.pack.Symbol.{name as #records·guests·pack}
+use Rattle.packs.proofs.unpack.Symbol.{name as #packs·unpack}
+use Rattle.packs.proofs.pack.Symbol.{name as #packs·pack}
 
 -- what the `&mut [Guest]` owns at the list l
 abbrev pub Records : Lft → RefT (List Guest) → List Guest → Fml
@@ -99,14 +99,14 @@ module _ {M : Type 1} (𝓤 : URA M) (H : Heap 𝓤) (A : Atoms 𝓤) (W : Given
   Slice m τ = sliceTy (tyRef erased m τ)
 
   module _ {K : Type 0} {Γ : List (Item 𝓤)} {E : Env 𝓤 H} {C : Calls 𝓤 H} {Λ : Loops 𝓤 H} {qq : Post 𝓤 H} {rest : Body} {iw ig ir i₁ i₂ i₃ i₄ iu lw lg l l₁ l₂ l₃ l₄ lu : ℕ} {ℓ : Lifetime} {m : Mutability} {τ τ′ τ″ τ₃ τr : Ty} where
-    pub unpacks : K → FmC 𝓤 H (W .laws) C → Triple 𝓤 (C #records·guests·unpack) (Unpack 𝓤 H A mem run)
+    pub unpacks : K → FmC 𝓤 H (W .laws) C → Triple 𝓤 (C #packs·unpack) (Unpack 𝓤 H A mem run)
         → On 𝓤 H E iw (tyInt w64) lw → On 𝓤 H E ig (sliceTy (tyRef ℓ m τ)) lg → On 𝓤 H E ir τr l → On 𝓤 H E i₁ (tyRef erased imm τ′) l₁ → On 𝓤 H E i₂ (Slice imm τ′) l₂ → On 𝓤 H E i₃ (tyRef erased mut τ₃) l₃ → On 𝓤 H E i₄ (Slice mut (tyInt w64)) l₄ → On 𝓤 H E iu tyUnit lu
         → Step K W (‵ (Guests κ γ b o gs (length gs)) ∷ ‵ (flft κ q) ∷ ‵ (cells (memOf u64) (unpacked gs zeros k) l 0) ∷ ‵ (fat fullShare (tyInt w64) lw 0 (vint w64 k)) ∷ ‵ (fat fullShare (sliceTy (tyRef ℓ m τ)) lg 0 s)
         ∷ ‵ (fat fullShare (tyRef erased imm τ′) l₁ 0 (vptr b o)) ∷ ‵ (fat fullShare (Slice imm τ′) l₂ 0 s) ∷ ‵ (fat fullShare (tyRef erased mut τ₃) l₃ 0 (vptr l 0)) ∷ ‵ (fat fullShare (Slice mut (tyInt w64)) l₄ 0 (sliceVal (l, 0) (length zeros))) ∷ ‵ (fat fullShare tyUnit lu 0 vunit) ∷ Γ) (runs C Λ E rest qq)
         (‵ (Guests κ γ b o gs (length gs)) ∷ ‵ (flft κ q) ∷ ‵ (cells (memOf u64) zeros l 0) ∷ ‵ (fat fullShare (tyInt w64) lw 0 (vint w64 k)) ∷ ‵ (fat fullShare (sliceTy (tyRef ℓ m τ)) lg 0 s)
         ∷ ‵ (froom (tyRef erased imm τ′) l₁ 0) ∷ ‵ (froom (Slice imm τ′) l₂ 0) ∷ ‵ (froom (tyRef erased mut τ₃) l₃ 0) ∷ ‵ (froom (Slice mut (tyInt w64)) l₄ 0) ∷ ‵ (froom tyUnit lu 0) ∷ Γ)
         (runs C Λ E (seq (assign (place i₁ []) (addrOf (place ig (field 0 ∷ deref τ″ ∷ [])))) (seq (assign (place i₂ []) (aggregate (copy (place i₁ []) ∷ copy (place ig (field 1 ∷ [])) ∷ [])))
-        (seq (assign (place i₃ []) (addrOf (place ir []))) (seq (assign (place i₄ []) (aggregate (copy (place i₃ []) ∷ int w64 guestsLong ∷ []))) (seq (call #records·guests·unpack (copy (place i₂ []) ∷ copy (place iw []) ∷ copy (place i₄ []) ∷ []) (place iu [])) rest))))) qq)
+        (seq (assign (place i₃ []) (addrOf (place ir []))) (seq (assign (place i₄ []) (aggregate (copy (place i₃ []) ∷ int w64 guestsLong ∷ []))) (seq (call #packs·unpack (copy (place i₂ []) ∷ copy (place iw []) ∷ copy (place i₄ []) ∷ []) (place iu [])) rest))))) qq)
     unpacks t fm known ew eg er e₁ e₂ e₃ e₄ eu = step (λ z.
         move t (4 ∷ 5 ∷ 6 ∷ []) $ relends t (room .0) eg e₁ e₂ $ move t (7 ∷ 8 ∷ []) $ lends-rows t er e₃ e₄ (length zeros) zeros-long $
         -- [p; s of the numbers; x; p; s of the records; the records; their token; the zeros; wanted; _]
@@ -115,14 +115,14 @@ module _ {M : Type 1} (𝓤 : URA M) (H : Heap 𝓤) (A : Atoms 𝓤) (W : Given
         (λ i j. and-then t (load t (from-on t e₂ (stop t)) (look t 6 refl)) (and-then t (load t (from-on t ew (stop t)) (look t 7 refl)) (and-then t (load t (from-on t e₄ (stop t)) (look t 3 refl)) (no-more t)))) $
         land t (from-on t eu (stop t)) (init t 9 refl (tt, tt)) $ move t (0 ∷ 1 ∷ 2 ∷ 8 ∷ 5 ∷ 6 ∷ 7 ∷ 3 ∷ 4 ∷ 9 ∷ []) $ z)
 
-    pub packs : K → FmC 𝓤 H (W .laws) C → Triple 𝓤 (C #records·guests·pack) (Pack 𝓤 H A mem run) → (rs : List ℕ) → length rs ≡ guestsLong
+    pub packs : K → FmC 𝓤 H (W .laws) C → Triple 𝓤 (C #packs·pack) (Pack 𝓤 H A mem run) → (rs : List ℕ) → length rs ≡ guestsLong
         → On 𝓤 H E iw (tyInt w64) lw → On 𝓤 H E ig (sliceTy (tyRef ℓ m τ)) lg → On 𝓤 H E ir τr l → On 𝓤 H E i₁ (tyRef erased imm τ₃) l₁ → On 𝓤 H E i₂ (Slice imm (tyInt w64)) l₂ → On 𝓤 H E i₃ (tyRef erased mut τ′) l₃ → On 𝓤 H E i₄ (Slice mut τ′) l₄ → On 𝓤 H E iu tyUnit lu
         → Step K W (‵ (Guests κ γ b o (packed rs gs k) (length gs)) ∷ ‵ (flft κ q) ∷ ‵ (cells (memOf u64) rs l 0) ∷ ‵ (fat fullShare (tyInt w64) lw 0 (vint w64 k)) ∷ ‵ (fat fullShare (sliceTy (tyRef ℓ m τ)) lg 0 s)
         ∷ ‵ (fat fullShare (tyRef erased imm τ₃) l₁ 0 (vptr l 0)) ∷ ‵ (fat fullShare (Slice imm (tyInt w64)) l₂ 0 (sliceVal (l, 0) (length rs))) ∷ ‵ (fat fullShare (tyRef erased mut τ′) l₃ 0 (vptr b o)) ∷ ‵ (fat fullShare (Slice mut τ′) l₄ 0 s) ∷ ‵ (fat fullShare tyUnit lu 0 vunit) ∷ Γ) (runs C Λ E rest qq)
         (‵ (Guests κ γ b o gs (length gs)) ∷ ‵ (flft κ q) ∷ ‵ (cells (memOf u64) rs l 0) ∷ ‵ (fat fullShare (tyInt w64) lw 0 (vint w64 k)) ∷ ‵ (fat fullShare (sliceTy (tyRef ℓ m τ)) lg 0 s)
         ∷ ‵ (froom (tyRef erased imm τ₃) l₁ 0) ∷ ‵ (froom (Slice imm (tyInt w64)) l₂ 0) ∷ ‵ (froom (tyRef erased mut τ′) l₃ 0) ∷ ‵ (froom (Slice mut τ′) l₄ 0) ∷ ‵ (fat fullShare tyUnit lu 0 vunit) ∷ Γ)
         (runs C Λ E (seq (assign (place i₁ []) (addrOf (place ir []))) (seq (assign (place i₂ []) (aggregate (copy (place i₁ []) ∷ int w64 guestsLong ∷ [])))
-        (seq (assign (place i₃ []) (addrOf (place ig (field 0 ∷ deref τ″ ∷ [])))) (seq (assign (place i₄ []) (aggregate (copy (place i₃ []) ∷ copy (place ig (field 1 ∷ [])) ∷ []))) (seq (call #records·guests·pack (copy (place i₂ []) ∷ copy (place iw []) ∷ copy (place i₄ []) ∷ []) (place iu [])) rest))))) qq)
+        (seq (assign (place i₃ []) (addrOf (place ig (field 0 ∷ deref τ″ ∷ [])))) (seq (assign (place i₄ []) (aggregate (copy (place i₃ []) ∷ copy (place ig (field 1 ∷ [])) ∷ []))) (seq (call #packs·pack (copy (place i₂ []) ∷ copy (place iw []) ∷ copy (place i₄ []) ∷ []) (place iu [])) rest))))) qq)
     packs t fm known rs e ew eg er e₁ e₂ e₃ e₄ eu = step (λ z.
         move t (5 ∷ 6 ∷ []) $ lends-rows t er e₁ e₂ (length rs) e $ move t (6 ∷ 7 ∷ 8 ∷ []) $ relends t (room .0) eg e₃ e₄ $
         -- [x; p; s of the records; p; s of the numbers; the records; their token; the numbers; wanted; _]

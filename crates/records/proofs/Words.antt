@@ -47,11 +47,11 @@ pub use Rattle.rules.specs.declared.Event.{Event}
 pub use Rattle.table.specs.Columns.{guestWide, guestsLong}
 pub use Rattle.table.specs.View.{Handed}
 pub use Rattle.gate.specs.Promise.{numbers, seen, called, opened}
-pub use Rattle.batch.specs.declared.numbers.Batched.{Batched}
+pub use Rattle.batch.specs.declared.Batched.{Batched}
 pub use Rattle.batch.specs.Promise.{BatchIn, seenBatch, batched}
-pub use Rattle.records.specs.Records.{inPart}
+pub use Rattle.packs.specs.Records.{inPart}
 pub use Rattle.records.specs.Batch.{batchInPart}
-pub use Rattle.records.proofs.Rec.{Rec}
+pub use Rattle.packs.proofs.Rec.{Rec}
 pub use Rattle.records.proofs.ByValue.{GateR, Gate-val, Gate-vals, Gate-tells, Gate-makes, Gate-typed, Gate-guests-ok, EventR, Event-val, Event-vals, Event-tells, Event-makes, Event-typed, OutcomeR, Outcome-typed, BatchedR, Batched-typed}
 pub use Rattle.lent.proofs.Steps.{alloc, apart, apart4, apart8, gives, gone, gone4, gone8}
 pub use Rattle.records.proofs.Copies.{count, rows, brought, count-lent, count-room, length-all, length-brought}

@@ -8,7 +8,7 @@ use Rattle.rules.specs.declared.Event.{Event}
 use Rattle.rules.specs.declared.Guest.{Guest}
 use Rattle.rules.specs.declared.Gate.{Gate}
 use Rattle.gate.specs.Promise.{Lending, HandedIn, SeenIn, seenIn, calledIn, openedIn}
-use Rattle.records.specs.Records.{blank}
+use Rattle.packs.specs.Records.{blank}
 
 -- the first n guests of the lent records; a place past the end shows a blank one, and is refused before it is looked at
 unfoldable pub guestsIn : List Guest → ℕ → List Guest

@@ -1,13 +1,12 @@
 // The public calls over a lent slice of guest records, of any length: the records in use become numbers in a local array, the call over numbers
 // is made on them, and they come back. Records past the settings' need are neither read nor changed. What each call promises is in
 // specs/Promise.antt and specs/Batch.antt.
-mod guests; // the thin functions: one record read and written, and the records in use to numbers and back
 mod part; // the calls over numbers on the rows in use
 
-use crate::guests::pack;
-use crate::guests::unpack;
-use crate::guests::used;
-use batch::numbers::Batched;
+use batch::Batched;
+use packs::pack;
+use packs::unpack;
+use packs::used;
 use rules::Event;
 use rules::Gate;
 use rules::Guest;

@@ -1,6 +1,5 @@
 // The calls over numbers on the rows in use: the first `count` rows of a lent list are lent on as a part, and the rest stays.
-use batch::numbers::Batched;
-use gate::numbers;
+use batch::Batched;
 use rules::Event;
 use rules::Gate;
 use rules::Outcome;
@@ -11,7 +10,7 @@ ghost use lib.ListN.{length};
 ghost use Rattle.table.specs.Columns.{guestWide};
 ghost use Rattle.gate.specs.Promise.{seen, called, opened};
 ghost use Rattle.batch.specs.Promise.{seenBatch, batched};
-ghost use Rattle.records.specs.Records.{inPart};
+ghost use Rattle.packs.specs.Records.{inPart};
 ghost use Rattle.records.specs.Batch.{batchInPart};
 
 // One event on the rows in use.
@@ -26,7 +25,7 @@ pub fn call(
     requires { ⌜ count * guestWide ≤ length (now rows) ⌝ }
     ensures { λ r. ⌜ seen (r, now (rows .exit), now (waiting .exit), now (flight .exit)) ≡ seen (inPart count (now (rows .entry)) (λ gs. called event gate gs (now (waiting .entry)) (now (flight .entry)))) ⌝ }
 {
-    numbers::call(
+    calling::numbers::call(
         gate,
         &mut rows[..count * GUEST_WIDE],
         waiting,
@@ -50,7 +49,7 @@ pub fn open(
     requires { ⌜ count * guestWide ≤ length (now rows) ⌝ }
     ensures { λ r. ⌜ seen (r, now (rows .exit), now (waiting .exit), now (flight .exit)) ≡ seen (inPart count (now (rows .entry)) (λ gs. opened depth known capacity rule (now (settings .entry)) gs (now (waiting .entry)) (now (flight .entry)))) ⌝ }
 {
-    numbers::open(
+    opens::open(
         depth,
         known,
         capacity,
@@ -76,5 +75,5 @@ pub fn batch(
     ensures { λ r. ⌜ seenBatch (r, now (rows .exit), now (waiting .exit), now (flight .exit), now (answers .exit)) ≡ seenBatch (batchInPart count (now (rows .entry)) (λ gs. batched (now (events .entry)) gate gs (now (waiting .entry)) (now (flight .entry)) (now (answers .entry)))) ⌝ }
 {
     let long = count * GUEST_WIDE;
-    batch::numbers::call(gate, &mut rows[..long], waiting, flight, events, answers)
+    bulk::call(gate, &mut rows[..long], waiting, flight, events, answers)
 }

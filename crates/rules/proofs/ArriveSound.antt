@@ -2,7 +2,7 @@
 use mathlib.Core.Path.{_≡_, refl, sym, ap, _∙_}
 use mathlib.Core.Bool.{Bool, true, false, _&&_, true≢false, false≢true}
 use mathlib.Core.List.{List, [], _∷_, _++_, map, append-nil}
-use Prim.Native.Nat.{ℕ, _≤_, _<_}
+use Prim.Native.Nat.{ℕ, _+_, _≤_, _<_}
 use native.Mathlib.Omega.{arith}
 use native.Mathlib.Nat.{zero-add}
 use lib.Dec.{ltb, leb, eqb}
@@ -12,11 +12,12 @@ use borrow.Author.Tests.{lt-ltb, eqb-true, eqb-false, eq-eqb, not-false}
 use Rattle.lists.specs.Words.{if_then_else_, all, empty}
 use Rattle.lists.specs.WordsLaws.{both, join, eqb-sym, all-append, all-parts, all-filter, lowest-all, all-of-map, map-same, filter-map, filter-append, getD-each}
 use Rattle.rules.specs.Numbers.{ceiling}
-use Rattle.rules.specs.Tables.{Guest, Request, Flight, Table, reserved, limited, rplain, lplain, rspacing, lspacing, sspacing, nobodys, owner, of, mine, idle, name, lacks, names}
-use Rattle.rules.specs.Sound.{ranges, ruled, distinct, lawful, priced, fair, orderly}
-use Rattle.rules.specs.Events.{Arriving, calledBy, smallest, shifted, shiftedNext, adjusted, shareTag, stamped, following, placed, stampedFor, arriveAs, arrive}
+use Rattle.rules.specs.Tables.{Guest, Request, Flight, Table, reserved, limited, rplain, lplain, splain, rspacing, lspacing, sspacing, nobodys, owner, of, mine, idle, name, lacks, names}
+use Rattle.rules.specs.Sound.{ranges, ruled, distinct, lawful, priced, fair, spread, noGap, orderly}
+use Rattle.rules.specs.Events.{Arriving, calledBy, smallest, shifted, shiftedNext, adjusted, shareTag, stamped, following, placed, raised, stampedFor, arriveAs, arrive}
 use Rattle.rules.specs.Refusals.{passing}
-use Rattle.rules.proofs.Spacings.{no-down, no-up, cost-none}
+use Rattle.rules.proofs.Spacings.{no-down, no-up, cost-none, cost-once}
+use Rattle.rules.proofs.Raises.{spread-some, raised-above}
 use Rattle.rules.proofs.Names.{distinct-mid, names-mid}
 use Rattle.rules.proofs.Chains.{kept-same, kept-shift, kept-snoc}
 use Rattle.rules.proofs.SameSettings.{same-ranges, same-rule, same-count, placed-settings, adjusted-settings}
@@ -43,7 +44,7 @@ shift-own now m h (q ∷ l) a e o =
     let k = orderly-is h (q ∷ l) o in
     is-orderly (shiftedNext now m h) (map f (q ∷ l))
     (record {
-      reservations = kept-same Request.rtag (rspacing s) (rspacing s) f (λ q. refl) (λ q. refl) (λ q. refl) (reserved s) (q ∷ l) (h .rnext) ∙ k .reservations;
+      reservations = kept-same Request.rtag noGap (rspacing s) f (λ q. refl) (λ q. refl) (λ q. refl) (reserved s) (q ∷ l) (h .rnext) ∙ k .reservations;
       limits = kept-same Request.ltag (lspacing s) (lspacing s) f (λ q. refl) (λ q. refl) (λ q. refl) (limited s) (q ∷ l) (h .lnext) ∙ k .limits;
       shares = kept-shift Request.stag (sspacing s) (sspacing s) f (λ q. refl) (λ q. refl) now m (λ q. refl) q l (h .snext) a (k .shares);
     })
@@ -139,39 +140,40 @@ module _ (t : Table) (now : ℕ) where
       }
 
 -- q may be the next request of the guest h, idle or not: each tag that h has is at least its next number, the share tag where h is not idle, and each
--- that it lacks is 0
+-- that it lacks is 0; the reservation tag falls short of the next number by a spacing at most
 record Next (idle : Bool) (h : Guest) (q : Request) : Type 0 where
-  reservation : reserved (h .settings) ≡ true → h .rnext ≤ q .rtag
+  reservation : reserved (h .settings) ≡ true → h .rnext ≤ q .rtag + rplain (h .settings)
   limit : limited (h .settings) ≡ true → h .lnext ≤ q .ltag
   share : idle ≡ false → h .snext ≤ q .stag
   no-reservation : reserved (h .settings) ≡ false → q .rtag ≡ 0
   no-limit : limited (h .settings) ≡ false → q .ltag ≡ 0
 
--- a stamped request may be the next
-stamped-next : (b : Bool) (now : ℕ) (a : Arriving) (h : Guest) → Next b h (stamped b now a h)
-unfolding stamped shareTag
-stamped-next b now a h =
+-- a request stamped by next numbers that were raised may be the next
+stamped-next : (b : Bool) (now : ℕ) (a : Arriving) (h : Guest) → 1 ≤ a .delta → Next b h (stamped b now a (raised a h))
+unfolding stamped shareTag raised
+stamped-next b now a h d =
+    let s = h .settings in
     record {
       reservation = λ e. rw e (omega arith);
-      limit = λ e. rw e (omega arith);
-      share = λ e. rw e (omega arith);
+      limit = λ e. rw e (omega (arith, raised-above (a .delta) (lplain s) (h .lnext) d));
+      share = λ e. rw e (omega (arith, raised-above (a .delta) (splain s) (h .snext) d));
       no-reservation = λ e. rw e;
       no-limit = λ e. rw e;
     }
 
 -- a guest with its next request placed has its numbers in order
-following-order : (h : Guest) (q : Request) (l : List Request) → Next (empty l) h q → orderly h l ≡ true → orderly (following q h) (l ++ (q ∷ [])) ≡ true
+following-order : (h : Guest) (q : Request) (l : List Request) → Next (empty l) h q → all priced l ≡ true → orderly h l ≡ true → orderly (following q h) (l ++ (q ∷ [])) ≡ true
 unfolding following
-following-order h q l n e =
+following-order h q l n c e =
     let s = h .settings in
     let o = orderly-is h l e in
     is-orderly (following q h) (l ++ (q ∷ []))
     (record {
-      reservations = kept-snoc Request.rtag (rspacing s) (rspacing s) (λ p. omega arith) (reserved s) l (h .rnext) q (λ z w. n .reservation z)
+      reservations = kept-snoc Request.rtag noGap (rspacing s) (rplain s) (λ p k. omega (arith, cost-once (p .cost) (rplain s) k)) (reserved s) l (h .rnext) q c (λ z w. n .reservation z)
           (λ z. (n .no-reservation z, cost-none (q .cost) (rplain s) (no-down (s .reservation) z))) (o .reservations);
-      limits = kept-snoc Request.ltag (lspacing s) (lspacing s) (λ p. omega arith) (limited s) l (h .lnext) q (λ z w. n .limit z)
+      limits = kept-snoc Request.ltag (lspacing s) (lspacing s) 0 (λ p k. omega arith) (limited s) l (h .lnext) q c (λ z w. omega (arith, n .limit z))
           (λ z. (n .no-limit z, cost-none (q .cost) (lplain s) (no-up (s .limit) z))) (o .limits);
-      shares = kept-snoc Request.stag (sspacing s) (sspacing s) (λ p. omega arith) true l (h .snext) q (λ z. n .share)
+      shares = kept-snoc Request.stag (sspacing s) (sspacing s) 0 (λ p k. omega arith) true l (h .snext) q c (λ z w. omega (arith, n .share w))
           (λ z. absurd (true≢false z)) (o .shares);
     })
 
@@ -188,7 +190,8 @@ module _ (u : Table) (c : Firm u) (now : ℕ) (q : Request) (known : q .guest < 
       go : (b : Bool) → eqb g (q .guest) ≡ b → orderly (owner (set (u .guests) (q .guest) next) g) (mine g (u .waiting) ++ (if of g q then q ∷ [] else [])) ≡ true
       go true e =
           rw (eqb-true g (q .guest) e, eq-eqb (q .guest) (q .guest) refl, getD-set-same (u .guests) (q .guest) next nobodys known)
-          (following-order (owner (u .guests) (q .guest)) q (mine (q .guest) (u .waiting)) n (c .guests-orderly (q .guest) known))
+          (following-order (owner (u .guests) (q .guest)) q (mine (q .guest) (u .waiting)) n (all-filter priced (of (q .guest)) (u .waiting) (c .costs-fit))
+          (c .guests-orderly (q .guest) known))
       go false e =
           rw (eqb-sym (q .guest) g ∙ e, getD-set-other (u .guests) (q .guest) g next nobodys (eqb-false g (q .guest) e), append-nil) (c .guests-orderly g h)
 
@@ -212,14 +215,14 @@ module _ (u : Table) (c : Firm u) (now : ℕ) (q : Request) (known : q .guest < 
       }
 
 module _ (t : Table) (s : Sound t) (now : ℕ) (a : Arriving) (known : a .guest < length (t .guests)) (new : lacks (calledBy a) (names t) ≡ true)
-    (cheap : fair (a .cost) ≡ true) where
+    (cheap : fair (a .cost) ≡ true) (many : spread (a .delta) (a .rho) ≡ true) where
   -- the steps of an arrival leave a table firm
   arriveAs-firm : (b : Bool) → idle t (a .guest) ≡ b → Firm (arriveAs b now a t)
   unfolding arriveAs stamped
   arriveAs-firm b e =
       placed-firm (adjusted b now t) (adjusted-firm t now s b) now (stampedFor b now a t)
       (rw (same-count (adjusted b now t) t (adjusted-settings b now t)) known)
-      (rw (adjusted-owner t now b (a .guest) e known, adjusted-idle t now b (a .guest) ∙ e) (stamped-next b now a (owner (t .guests) (a .guest))))
+      (rw (adjusted-owner t now b (a .guest) e known, adjusted-idle t now b (a .guest) ∙ e) (stamped-next b now a (owner (t .guests) (a .guest)) (spread-some (a .delta) (a .rho) many)))
       (rw (adjusted-names t now b) new) cheap
 
   -- and sound where its tests passed

@@ -13,9 +13,10 @@ use borrow.Author.Tests.{leb-true, leb-false, le-leb, eqb-true, eqb-false, not-t
 use Rattle.lists.specs.Words.{if_then_else_, all, empty, without}
 use Rattle.lists.specs.WordsLaws.{both, all-at, places-all, all-filter, none-left, getD-each, lowest-of, lowest-under}
 use Rattle.lists.specs.Tab.{removeAt, lt-or-le}
-use Rattle.rules.specs.Tables.{Guest, Request, Flight, Table, reserved, limited, rspacing, lspacing, sspacing, nobodys, owner, of, mine, idle, name, same}
+use Rattle.rules.specs.Numbers.{raisedBy}
+use Rattle.rules.specs.Tables.{Guest, Request, Flight, Table, reserved, limited, rplain, lplain, splain, rspacing, lspacing, sspacing, nobodys, owner, of, mine, idle, name, same}
 use Rattle.rules.specs.Sound.{kept, sound}
-use Rattle.rules.specs.Events.{Arriving, Event, Arrival, Completion, Tick, smallest, shifted, shiftedNext, adjusted, tagIf, back, shareTag, stamped, following, placed, stampedFor, arriveAs, arrive, complete, wait, enter}
+use Rattle.rules.specs.Events.{Arriving, Event, Arrival, Completion, Tick, smallest, shifted, shiftedNext, adjusted, tagIf, back, shareTag, stamped, following, placed, raised, stampedFor, arriveAs, arrive, complete, wait, enter}
 use Rattle.rules.specs.Refusals.{tests, eventTests, accepted}
 use Rattle.rules.specs.Choice.{Result, choice}
 use Rattle.rules.specs.Run.{step}
@@ -25,6 +26,7 @@ use Rattle.rules.proofs.Judged.{passed}
 use Rattle.rules.proofs.Conditions.{same-is}
 use Rattle.rules.proofs.Chains.{kept-above}
 use Rattle.rules.proofs.Credit.{back-is, back-once}
+use Rattle.rules.proofs.Raises.{raised-is, raised-once}
 use Rattle.rules.proofs.SameSettings.{same-count, same-owner, adjusted-settings, enter-settings}
 use Rattle.rules.proofs.Facts.{Sound, orderly-is, is-sound}
 use Rattle.rules.proofs.ArriveSound.{adjusted-length, adjusted-owner}
@@ -227,7 +229,7 @@ given-is false now next tag e = record { larger = λ z. absurd (false≢true z);
 
 -- An accepted arrival does what the description asks.
 pub arrived : (t : Table) (a : Arriving) (now : ℕ) → accepted t (Arrival a now) ≡ true → Arrived t a now (enter t (Arrival a now))
-unfolding enter arrive eventTests shifted shiftedNext shareTag stamped following
+unfolding enter arrive eventTests shifted shiftedNext shareTag stamped raised following
 arrived t a now h =
     let b = idle t (a .guest) in
     let s = accepted-finds t (Arrival a now) h in
@@ -241,10 +243,14 @@ arrived t a now h =
       share-nexts-move = nexts-move t now a s b refl;
       share-tags-stay = tags-stay t now a b refl;
       share-nexts-stay = nexts-stay t now a b refl;
-      reservation-tag = given-is (reserved (x .settings)) now (x .rnext) ((lastOf t (arriveAs b now a t)) .rtag) (ap Request.rtag last);
-      limit-tag = given-is (limited (x .settings)) now (x .lnext) ((lastOf t (arriveAs b now a t)) .ltag) (ap Request.ltag last);
-      share-tag = λ n z u. ap Request.stag last ∙ rw (is-busy t (a .guest) u, sym (back-once now (x .settings) n z));
-      share-tag-idle = λ n z d. ap Request.stag last ∙ rw (is-idle t (a .guest) d, sym (back-once now (x .settings) n z));
+      reservation-tag = λ n r. given-is (reserved (x .settings)) now n ((lastOf t (arriveAs b now a t)) .rtag)
+          (ap Request.rtag last ∙ ap (tagIf (reserved (x .settings)) now) (sym (raised-once (a .rho) (rplain (x .settings)) (x .rnext) n r)));
+      limit-tag = λ n r. given-is (limited (x .settings)) now n ((lastOf t (arriveAs b now a t)) .ltag)
+          (ap Request.ltag last ∙ ap (tagIf (limited (x .settings)) now) (sym (raised-once (a .delta) (lplain (x .settings)) (x .lnext) n r)));
+      share-tag = λ n m r z u. ap Request.stag last
+          ∙ rw (is-busy t (a .guest) u, sym (raised-once (a .delta) (splain (x .settings)) (x .snext) n r), sym (back-once now (x .settings) m z));
+      share-tag-idle = λ n m r z d. ap Request.stag last
+          ∙ rw (is-idle t (a .guest) d, sym (raised-once (a .delta) (splain (x .settings)) (x .snext) n r), sym (back-once now (x .settings) m z));
       reservation-next = ap Guest.rnext own ∙ ap (λ (q : Request). q .rtag + rspacing (x .settings) q) (sym last);
       limit-next = ap Guest.lnext own ∙ ap (λ (q : Request). q .ltag + lspacing (x .settings) q) (sym last);
       share-next = ap Guest.snext own ∙ ap (λ (q : Request). q .stag + sspacing (x .settings) q) (sym last);
@@ -291,18 +297,27 @@ module _ (t : Table) (a : Arriving) (now : ℕ) (u v : Table) (x : Arrived t a n
   same-share true e =
       let d = idle-is t (a .guest) e in
       let s = (arrivesAt t a) .settings in
-      x .share-tag-idle (back now s) (back-is now s) d ∙ sym (y .share-tag-idle (back now s) (back-is now s) d)
+      let n = raisedBy (a .delta) (splain s) ((arrivesAt t a) .snext) in
+      let r = raised-is (a .delta) (splain s) ((arrivesAt t a) .snext) in
+      x .share-tag-idle n (back now s) r (back-is now s) d ∙ sym (y .share-tag-idle n (back now s) r (back-is now s) d)
   same-share false e =
       let d = busy-is t (a .guest) e in
       let s = (arrivesAt t a) .settings in
-      x .share-tag (back now s) (back-is now s) d ∙ sym (y .share-tag (back now s) (back-is now s) d)
+      let n = raisedBy (a .delta) (splain s) ((arrivesAt t a) .snext) in
+      let r = raised-is (a .delta) (splain s) ((arrivesAt t a) .snext) in
+      x .share-tag n (back now s) r (back-is now s) d ∙ sym (y .share-tag n (back now s) r (back-is now s) d)
 
   -- and the same request at each place
   same-last : lastOf t u ≡ lastOf t v
   same-last =
+      let h = arrivesAt t a in
+      let n = raisedBy (a .rho) (rplain (h .settings)) (h .rnext) in
+      let m = raisedBy (a .delta) (lplain (h .settings)) (h .lnext) in
+      let r = raised-is (a .rho) (rplain (h .settings)) (h .rnext) in
+      let l = raised-is (a .delta) (lplain (h .settings)) (h .lnext) in
       request-same (lastOf t u) (lastOf t v) (x .placed-last ∙ sym (y .placed-last))
-      (given-once (reserved ((arrivesAt t a) .settings)) now ((arrivesAt t a) .rnext) ((lastOf t u) .rtag) ((lastOf t v) .rtag) (x .reservation-tag) (y .reservation-tag))
-      (given-once (limited ((arrivesAt t a) .settings)) now ((arrivesAt t a) .lnext) ((lastOf t u) .ltag) ((lastOf t v) .ltag) (x .limit-tag) (y .limit-tag))
+      (given-once (reserved (h .settings)) now n ((lastOf t u) .rtag) ((lastOf t v) .rtag) (x .reservation-tag n r) (y .reservation-tag n r))
+      (given-once (limited (h .settings)) now m ((lastOf t u) .ltag) ((lastOf t v) .ltag) (x .limit-tag m l) (y .limit-tag m l))
       (same-share (idle t (a .guest)) refl) (x .cost-kept ∙ sym (y .cost-kept))
 
   same-request : (i : ℕ) → i < length (u .waiting) → at (u .waiting) i ≡ at (v .waiting) i

@@ -38,8 +38,8 @@ burst n = comes 0 1 n ∷ comes 0 2 n ∷ comes 0 3 n ∷ []
 -- guest 0's id 1 at the last time there is; then two of guest 1, whose credit is 2, and guest 0 again
 abbrev lastBurst : List Event
 lastBurst =
-    Arrival (record { guest = 0; id = 1; cost = 1 }) ceiling ∷ Arrival (record { guest = 1; id = 1; cost = 1 }) ceiling
-    ∷ Arrival (record { guest = 1; id = 2; cost = 1 }) ceiling ∷ Arrival (record { guest = 0; id = 2; cost = 1 }) ceiling ∷ []
+    Arrival (record { guest = 0; id = 1; cost = 1; delta = 1; rho = 1 }) ceiling ∷ Arrival (record { guest = 1; id = 1; cost = 1; delta = 1; rho = 1 }) ceiling
+    ∷ Arrival (record { guest = 1; id = 2; cost = 1; delta = 1; rho = 1 }) ceiling ∷ Arrival (record { guest = 0; id = 2; cost = 1; delta = 1; rho = 1 }) ceiling ∷ []
 
 -- the readings
 pub record Bursts : Type 0 where

@@ -8,10 +8,10 @@ use native.Mathlib.Omega.{arith}
 use lib.Dec.{leb, eqb}
 use borrow.Author.Tests.{leb-true, le-leb, eqb-true, eq-eqb}
 use Rattle.lists.specs.Words.{all, empty}
-use Rattle.lists.specs.WordsLaws.{both, join, all-append, all-map, all-same}
+use Rattle.lists.specs.WordsLaws.{both, join, all-append, all-same}
 use Rattle.rules.specs.Numbers.{idleBound}
 use Rattle.rules.specs.Tables.{Request}
-use Rattle.rules.specs.Sound.{apart, follows, kept}
+use Rattle.rules.specs.Sound.{priced, apart, follows, kept}
 
 -- no later tag is smaller than an earlier one
 abbrev pub rising : (tag : Request → ℕ) → List Request → Bool
@@ -20,12 +20,12 @@ rising tag (q ∷ l) = all (λ y. leb (tag q) (tag y)) l && rising tag l
 
 module _ (tag gap spacing : Request → ℕ) where
   -- without its first a list is still apart
-  apart-tail : (q : Request) (l : List Request) → apart tag gap (q ∷ l) ≡ true → apart tag gap l ≡ true
+  pub apart-tail : (q : Request) (l : List Request) → apart tag gap (q ∷ l) ≡ true → apart tag gap l ≡ true
   apart-tail q [] a = refl
   apart-tail q (p ∷ l) a = both (leb (tag q + gap q) (tag p)) (apart tag gap (p ∷ l)) a .1
 
   -- the later tags are at least what the first one and its gap are
-  apart-above : (m : ℕ) (q : Request) (l : List Request) → m ≤ tag q + gap q → apart tag gap (q ∷ l) ≡ true → all (λ p. leb m (tag p)) l ≡ true
+  pub apart-above : (m : ℕ) (q : Request) (l : List Request) → m ≤ tag q + gap q → apart tag gap (q ∷ l) ≡ true → all (λ p. leb m (tag p)) l ≡ true
   apart-above m q [] h a = refl
   apart-above m q (p ∷ l) h a =
       let c = both (leb (tag q + gap q) (tag p)) (apart tag gap (p ∷ l)) a in
@@ -72,15 +72,15 @@ module _ (tag gap spacing : Request → ℕ) where
   kept-rising true l n h e = apart-rising l (both (apart tag gap l) (follows tag spacing l n) h .0)
   kept-rising false l n h e = absurd (false≢true e)
 
-  -- a last request may stand where its tag is at least the next number, or nothing stands before it
-  apart-snoc : ((p : Request) → gap p ≤ spacing p) → (l : List Request) (n : ℕ) (q : Request) → (empty l ≡ false → n ≤ tag q) → apart tag gap l ≡ true → follows tag spacing l n ≡ true
-      → apart tag gap (l ++ (q ∷ [])) ≡ true
-  apart-snoc w [] n q h a f = refl
-  apart-snoc w (p ∷ []) n q h a f =
-      join (le-leb (tag p + gap p) (tag q) (omega (arith, w p, h refl, eqb-true n (tag p + spacing p) f))) refl
-  apart-snoc w (p ∷ r ∷ l) n q h a f =
-      let c = both (leb (tag p + gap p) (tag r)) (apart tag gap (r ∷ l)) a in
-      join (c .0) (apart-snoc w (r ∷ l) n q (λ e. h refl) (c .1) f)
+  -- a last request may stand where its tag falls short of the next number by no more than each spacing is wider than the gap, or nothing stands before it
+  pub apart-snoc : (short : ℕ) → ((p : Request) → priced p ≡ true → gap p + short ≤ spacing p) → (l : List Request) (n : ℕ) (q : Request) → all priced l ≡ true
+      → (empty l ≡ false → n ≤ tag q + short) → apart tag gap l ≡ true → follows tag spacing l n ≡ true → apart tag gap (l ++ (q ∷ [])) ≡ true
+  apart-snoc short w [] n q c h a f = refl
+  apart-snoc short w (p ∷ []) n q c h a f =
+      join (le-leb (tag p + gap p) (tag q) (omega (arith, w p (both (priced p) true c .0), h refl, eqb-true n (tag p + spacing p) f))) refl
+  apart-snoc short w (p ∷ r ∷ l) n q c h a f =
+      let k = both (leb (tag p + gap p) (tag r)) (apart tag gap (r ∷ l)) a in
+      join (k .0) (apart-snoc short w (r ∷ l) n q (both (priced p) (all priced (r ∷ l)) c .1) (λ e. h refl) (k .1) f)
 
   -- the next number after a last request
   follows-snoc : (l : List Request) (q : Request) → follows tag spacing (l ++ (q ∷ [])) (tag q + spacing q) ≡ true
@@ -88,15 +88,15 @@ module _ (tag gap spacing : Request → ℕ) where
   follows-snoc (p ∷ []) q = eq-eqb (tag q + spacing q) (tag q + spacing q) refl
   follows-snoc (p ∷ r ∷ l) q = follows-snoc (r ∷ l) q
 
-  -- one kind where a request has been added whose tag is at least the next number, if something waits; of a kind that the guest lacks it has none
-  pub kept-snoc : ((p : Request) → gap p ≤ spacing p) → (has : Bool) (l : List Request) (n : ℕ) (q : Request) → (has ≡ true → empty l ≡ false → n ≤ tag q)
-      → (has ≡ false → (tag q ≡ 0) × (spacing q ≡ 0)) → kept has tag gap spacing l n ≡ true
+  -- one kind where a request has been added whose tag falls short of the next number by no more, if something waits; of a kind that the guest lacks it has none
+  pub kept-snoc : (short : ℕ) → ((p : Request) → priced p ≡ true → gap p + short ≤ spacing p) → (has : Bool) (l : List Request) (n : ℕ) (q : Request) → all priced l ≡ true
+      → (has ≡ true → empty l ≡ false → n ≤ tag q + short) → (has ≡ false → (tag q ≡ 0) × (spacing q ≡ 0)) → kept has tag gap spacing l n ≡ true
       → kept has tag gap spacing (l ++ (q ∷ [])) (tag q + spacing q) ≡ true
   unfolding kept
-  kept-snoc w true l n q h z k =
+  kept-snoc short w true l n q p h z k =
       let c = both (apart tag gap l) (follows tag spacing l n) k in
-      join (apart-snoc w l n q (h refl) (c .0) (c .1)) (follows-snoc l q)
-  kept-snoc w false l n q h z k =
+      join (apart-snoc short w l n q p (h refl) (c .0) (c .1)) (follows-snoc l q)
+  kept-snoc short w false l n q p h z k =
       let e = z refl in
       let c = both (eqb n 0) (all (λ p. eqb (tag p) 0) l) k in
       join (eq-eqb (tag q + spacing q) 0 (omega arith)) (all-append (λ p. eqb (tag p) 0) l (q ∷ []) (c .1) (join (eq-eqb (tag q) 0 (e .0)) refl))
@@ -110,7 +110,7 @@ module _ (tag gap spacing : Request → ℕ) where
 -- a change of requests that leaves the gap and the spacing of each
 module _ (tag gap spacing : Request → ℕ) (f : Request → Request) (gaps : (q : Request) → gap (f q) ≡ gap q) (spacings : (q : Request) → spacing (f q) ≡ spacing q) where
   -- tags that did not change stand as far apart
-  apart-same : ((q : Request) → tag (f q) ≡ tag q) → (l : List Request) → apart tag gap (map f l) ≡ apart tag gap l
+  pub apart-same : ((q : Request) → tag (f q) ≡ tag q) → (l : List Request) → apart tag gap (map f l) ≡ apart tag gap l
   apart-same e [] = refl
   apart-same e (q ∷ []) = refl
   apart-same e (q ∷ p ∷ l) =
@@ -130,7 +130,7 @@ module _ (tag gap spacing : Request → ℕ) (f : Request → Request) (gaps : (
   kept-same e false l n = ap (eqb n 0 &&_) (all-same (λ q. eqb (tag q) 0) f (λ q. ap (λ x. eqb x 0) (e q)) l)
 
   -- tags dropped by d, none of which is below d, stand as far apart
-  apart-drop : (d : ℕ) → ((q : Request) → tag (f q) ≡ tag q - d) → (l : List Request) → all (λ p. leb d (tag p)) l ≡ true → apart tag gap l ≡ true
+  pub apart-drop : (d : ℕ) → ((q : Request) → tag (f q) ≡ tag q - d) → (l : List Request) → all (λ p. leb d (tag p)) l ≡ true → apart tag gap l ≡ true
       → apart tag gap (map f l) ≡ true
   apart-drop d e [] b a = refl
   apart-drop d e (q ∷ []) b a = refl
@@ -140,27 +140,6 @@ module _ (tag gap spacing : Request → ℕ) (f : Request → Request) (gaps : (
       let m = both (leb d (tag q)) (all (λ p. leb d (tag p)) (p ∷ l)) b in
       let z = leb-true d (tag q) (m .0) in
       join (le-leb (tag (f q) + gap (f q)) (tag (f p)) (omega (arith, e q, e p, gaps q))) (apart-drop d e (p ∷ l) (m .1) (c .1))
-
-  -- and the next number, dropped by d, follows them
-  follows-drop : (d : ℕ) → ((q : Request) → tag (f q) ≡ tag q - d) → (l : List Request) (n : ℕ) → all (λ p. leb d (tag p)) l ≡ true
-      → follows tag spacing l n ≡ true → follows tag spacing (map f l) (n - d) ≡ true
-  follows-drop d e [] n b h = le-leb (n - d) idleBound (omega (arith, leb-true n idleBound h))
-  follows-drop d e (q ∷ []) n b h =
-      let z = leb-true d (tag q) (both (leb d (tag q)) true b .0) in
-      eq-eqb (n - d) (tag (f q) + spacing (f q)) (omega (arith, e q, spacings q, eqb-true n (tag q + spacing q) h))
-  follows-drop d e (q ∷ p ∷ l) n b h = follows-drop d e (p ∷ l) n (both (leb d (tag q)) (all (λ p. leb d (tag p)) (p ∷ l)) b .1) h
-
-  -- one kind dropped by d, where no tag of a kind that the guest has is below d
-  pub kept-drop : (d : ℕ) → ((q : Request) → tag (f q) ≡ tag q - d) → (has : Bool) (l : List Request) (n : ℕ) → (has ≡ true → all (λ p. leb d (tag p)) l ≡ true)
-      → kept has tag gap spacing l n ≡ true → kept has tag gap spacing (map f l) (n - d) ≡ true
-  unfolding kept
-  kept-drop d e true l n b h =
-      let c = both (apart tag gap l) (follows tag spacing l n) h in
-      join (apart-drop d e l (b refl) (c .0)) (follows-drop d e l n (b refl) (c .1))
-  kept-drop d e false l n b h =
-      let c = both (eqb n 0) (all (λ q. eqb (tag q) 0) l) h in
-      join (eq-eqb (n - d) 0 (omega (arith, eqb-true n 0 (c .0))))
-      (all-map (λ q. eqb (tag q) 0) (λ q. eqb (tag q) 0) f (λ q z. eq-eqb (tag (f q)) 0 (omega (arith, e q, eqb-true (tag q) 0 z))) l (c .1))
 
   -- tags moved by now - m, none of which is below m, stand as far apart
   apart-shift : (now m : ℕ) → ((q : Request) → tag (f q) ≡ tag q + now - m) → (l : List Request) → all (λ p. leb m (tag p)) l ≡ true → apart tag gap l ≡ true

@@ -2,19 +2,20 @@
 use mathlib.Core.Path.{_≡_, refl, _∙_}
 use mathlib.Core.Bool.{Bool, true, false}
 use mathlib.Core.List.{List, [], _∷_, _++_, map}
-use Prim.Native.Nat.{ℕ, suc, _≤_, _<_}
+use Prim.Native.Nat.{ℕ, suc, _+_, _-_, _<_}
 use native.Mathlib.Omega.{arith}
 use lib.Dec.{ltb, leb, eqb}
 use lib.ListN.{length, length-append}
-use borrow.Author.Tests.{ltb-true, le-leb, eqb-true, eq-eqb}
+use borrow.Author.Tests.{ltb-true, leb-true, le-leb, eqb-true, eq-eqb}
 use Rattle.lists.specs.Words.{if_then_else_, all}
-use Rattle.lists.specs.WordsLaws.{join, all-append, all-mid}
+use Rattle.lists.specs.WordsLaws.{both, join, all-append, all-map, all-mid}
+use Rattle.rules.specs.Numbers.{idleBound}
 use Rattle.rules.specs.Tables.{Settings, Guest, Request, Flight, Table, reserved, limited, rplain, lplain, splain, rspacing, lspacing, sspacing, owner, of, mine, name, names}
-use Rattle.rules.specs.Sound.{lawful, fair, priced, kept, orderly}
-use Rattle.rules.specs.Choice.{sending, earlier, sooner, dropOf, dropped, room, choice}
+use Rattle.rules.specs.Sound.{lawful, fair, priced, apart, follows, kept, noGap, orderly}
+use Rattle.rules.specs.Choice.{sending, earlier, resumed, renewed, dropOf, dropped, room, choice}
 use Rattle.rules.proofs.Spacings.{down-le, up-le, no-down, fair-is, cost-le, cost-none}
 use Rattle.rules.proofs.Names.{distinct-last, names-mid, names-sent}
-use Rattle.rules.proofs.Chains.{kept-tail, kept-above, kept-same, kept-drop}
+use Rattle.rules.proofs.Chains.{kept-tail, kept-same}
 use Rattle.rules.proofs.SameSettings.{same-ranges, same-rule, same-count, sending-settings, dropped-settings}
 use Rattle.rules.proofs.Facts.{Sound, orderly-is, is-orderly, Lawful, lawful-is, waiting-known, any-orderly}
 use Rattle.rules.proofs.Picks.{Goes, due-goes, open-goes}
@@ -31,7 +32,7 @@ orderly-tail h p l b c e =
     let most = fair-is (p .cost) c .1 in
     is-orderly h l
     (record {
-      reservations = kept-tail Request.rtag (rspacing s) (rspacing s) (reserved s) p l (h .rnext) (omega (arith, cost-le (p .cost) (rplain s) most (down-le (s .reservation)))) (o .reservations);
+      reservations = kept-tail Request.rtag noGap (rspacing s) (reserved s) p l (h .rnext) (omega (arith, cost-le (p .cost) (rplain s) most (down-le (s .reservation)))) (o .reservations);
       limits = kept-tail Request.ltag (lspacing s) (lspacing s) (limited s) p l (h .lnext) (omega (arith, cost-le (p .cost) (lplain s) most (up-le (s .limit)))) (o .limits);
       shares = kept-tail Request.stag (sspacing s) (sspacing s) true p l (h .snext) (omega (arith, cost-le (p .cost) (splain s) most (down-le (s .shares)))) (o .shares);
     })
@@ -86,51 +87,62 @@ module _ (t : Table) (s : Sound t) (p : Request) (v : List Request) (c : Goes t 
 
 -- ITS GUEST'S TAGS DROP
 
--- the drop after p was sent takes no number below zero
-pub record DropFits (u : Table) (p : Request) : Type 0 where
-  pub next : dropOf u p ≤ (owner (u .guests) (p .guest)) .rnext
-  pub tags : all (λ q. leb (dropOf u p) (q .rtag)) (mine (p .guest) (u .waiting)) ≡ true
+-- reservation tags that do not fall, dropped, do not fall
+falls-drop : (d : ℕ) (l : List Request) → apart Request.rtag noGap l ≡ true → apart Request.rtag noGap (map (earlier d) l) ≡ true
+unfolding earlier
+falls-drop d [] a = refl
+falls-drop d (q ∷ []) a = refl
+falls-drop d (q ∷ p ∷ l) a =
+    let c = both (leb (q .rtag + 0) (p .rtag)) (apart Request.rtag noGap (p ∷ l)) a in
+    let k = leb-true (q .rtag + 0) (p .rtag) (c .0) in
+    join (le-leb (q .rtag - d + 0) (p .rtag - d) (omega arith)) (falls-drop d (p ∷ l) (c .1))
 
--- no tag is below 0
-all-from-zero : (l : List Request) → all (λ q. leb 0 (q .rtag)) l ≡ true
-all-from-zero [] = refl
-all-from-zero (q ∷ l) = join (le-leb 0 (q .rtag) (omega arith)) (all-from-zero l)
+module _ (s : Settings) (d : ℕ) where
+  -- the next number that is set follows the dropped tags
+  resumed-follows : (l : List Request) (n : ℕ) → follows Request.rtag (rspacing s) l n ≡ true → follows Request.rtag (rspacing s) (map (earlier d) l) (resumed s d l n) ≡ true
+  unfolding earlier
+  resumed-follows [] n f = le-leb (n - d) idleBound (omega (arith, leb-true n idleBound f))
+  resumed-follows (q ∷ []) n f = eq-eqb (q .rtag - d + rspacing s q) (q .rtag - d + rspacing s q) refl
+  resumed-follows (q ∷ p ∷ l) n f = resumed-follows (p ∷ l) n f
 
--- of a guest with a reservation, or of one without
-low : (s : Settings) (p : Request) (l : List Request) (n : ℕ) (b : Bool) → reserved s ≡ b → kept b Request.rtag (rspacing s) (rspacing s) (p ∷ l) n ≡ true
-    → (all (λ q. leb (rspacing s p) (q .rtag)) l ≡ true) × (rspacing s p ≤ n)
-low s p l n true e k = kept-above Request.rtag (rspacing s) (rspacing s) (rspacing s p) p l n (omega arith) (omega arith) k
-low s p l n false e k = rw (cost-none (p .cost) (rplain s) (no-down (s .reservation) e)) (all-from-zero l, omega arith)
+  -- of a guest without a reservation it is 0
+  pub resumed-none : rplain s ≡ 0 → (l : List Request) (n : ℕ) → n ≡ 0 → all (λ q. eqb (q .rtag) 0) l ≡ true → resumed s d l n ≡ 0
+  resumed-none z [] n e a = omega arith
+  resumed-none z (q ∷ []) n e a = omega (arith, cost-none (q .cost) (rplain s) z, eqb-true (q .rtag) 0 (both (eqb (q .rtag) 0) true a .0))
+  resumed-none z (q ∷ p ∷ l) n e a = resumed-none z (p ∷ l) n e (both (eqb (q .rtag) 0) (all (λ q. eqb (q .rtag) 0) (p ∷ l)) a .1)
+
+  -- so the reservation tags and the next number are in order after a drop
+  kept-drop : (has : Bool) → reserved s ≡ has → (l : List Request) (n : ℕ) → kept has Request.rtag noGap (rspacing s) l n ≡ true
+      → kept has Request.rtag noGap (rspacing s) (map (earlier d) l) (resumed s d l n) ≡ true
+  unfolding kept earlier
+  kept-drop true e l n h =
+      let c = both (apart Request.rtag noGap l) (follows Request.rtag (rspacing s) l n) h in
+      join (falls-drop d l (c .0)) (resumed-follows l n (c .1))
+  kept-drop false e l n h =
+      let c = both (eqb n 0) (all (λ q. eqb (q .rtag) 0) l) h in
+      join (eq-eqb (resumed s d l n) 0 (resumed-none (no-down (s .reservation) e) l n (eqb-true n 0 (c .0)) (c .1)))
+      (all-map (λ q. eqb (q .rtag) 0) (λ q. eqb (q .rtag) 0) (earlier d) (λ q z. eq-eqb (q .rtag - d) 0 (omega (arith, eqb-true (q .rtag) 0 z))) l (c .1))
+
+-- a guest's numbers after a drop are in order
+drop-own : (h : Guest) (d : ℕ) (l : List Request) → orderly h l ≡ true → orderly (renewed (resumed (h .settings) d l (h .rnext)) h) (map (earlier d) l) ≡ true
+unfolding renewed earlier
+drop-own h d l e =
+    let s = h .settings in
+    let f = earlier d in
+    let o = orderly-is h l e in
+    is-orderly (renewed (resumed s d l (h .rnext)) h) (map f l)
+    (record {
+      reservations = kept-drop s d (reserved s) refl l (h .rnext) (o .reservations);
+      limits = kept-same Request.ltag (lspacing s) (lspacing s) f (λ q. refl) (λ q. refl) (λ q. refl) (limited s) l (h .lnext) ∙ o .limits;
+      shares = kept-same Request.stag (sspacing s) (sspacing s) f (λ q. refl) (λ q. refl) (λ q. refl) true l (h .snext) ∙ o .shares;
+    })
 
 module _ (t : Table) (s : Sound t) (p : Request) (v : List Request) (c : Goes t p v) where
   -- p is the first that waits of its guest
   pub sent-first : mine (p .guest) (t .waiting) ≡ p ∷ mine (p .guest) v
   sent-first = c .first (p .guest) ∙ rw (eq-eqb (p .guest) (p .guest) refl)
 
-  -- nothing falls below zero where p has gone
-  pub drop-fits : DropFits (sending t p v) p
-  unfolding sending
-  drop-fits =
-      let h = owner (t .guests) (p .guest) in
-      let o = orderly-is h (mine (p .guest) (t .waiting)) (any-orderly t s (p .guest)) in
-      let l = low (h .settings) p (mine (p .guest) v) (h .rnext) (reserved (h .settings)) refl (rw sent-first at (o .reservations)) in
-      record { next = l .1; tags = l .0 }
-
--- a guest's numbers after a drop are in order
-drop-own : (h : Guest) (d : ℕ) (l : List Request) → all (λ q. leb d (q .rtag)) l ≡ true → orderly h l ≡ true → orderly (sooner d h) (map (earlier d) l) ≡ true
-unfolding sooner earlier
-drop-own h d l b e =
-    let s = h .settings in
-    let f = earlier d in
-    let o = orderly-is h l e in
-    is-orderly (sooner d h) (map f l)
-    (record {
-      reservations = kept-drop Request.rtag (rspacing s) (rspacing s) f (λ q. refl) (λ q. refl) d (λ q. refl) (reserved s) l (h .rnext) (λ r. b) (o .reservations);
-      limits = kept-same Request.ltag (lspacing s) (lspacing s) f (λ q. refl) (λ q. refl) (λ q. refl) (limited s) l (h .lnext) ∙ o .limits;
-      shares = kept-same Request.stag (sspacing s) (sspacing s) f (λ q. refl) (λ q. refl) (λ q. refl) true l (h .snext) ∙ o .shares;
-    })
-
-module _ (u : Table) (s : Sound u) (p : Request) (known : p .guest < length (u .guests)) (fits : DropFits u p) where
+module _ (u : Table) (s : Sound u) (p : Request) (known : p .guest < length (u .guests)) where
   -- the numbers of each guest are in order after the drop
   dropped-order : (g : ℕ) → orderly (owner ((dropped p u) .guests) g) (mine g ((dropped p u) .waiting)) ≡ true
   dropped-order g = go (eqb g (p .guest)) refl
@@ -138,10 +150,10 @@ module _ (u : Table) (s : Sound u) (p : Request) (known : p .guest < length (u .
       go : (b : Bool) → eqb g (p .guest) ≡ b → orderly (owner ((dropped p u) .guests) g) (mine g ((dropped p u) .waiting)) ≡ true
       go true e =
           rw (eqb-true g (p .guest) e, dropped-owner p u known, dropped-own p u)
-          (drop-own (owner (u .guests) (p .guest)) (dropOf u p) (mine (p .guest) (u .waiting)) (fits .tags) (any-orderly u s (p .guest)))
+          (drop-own (owner (u .guests) (p .guest)) (dropOf u p) (mine (p .guest) (u .waiting)) (any-orderly u s (p .guest)))
       go false e = rw (dropped-other p u g e, dropped-others p u g e) (any-orderly u s g)
 
-  -- a drop that fits leaves the table sound
+  -- a drop leaves the table sound
   pub dropped-sound : Sound (dropped p u)
   dropped-sound =
       let k = dropped-settings p u in
@@ -168,4 +180,4 @@ choice-sound t s =
     (λ p v f n e.
     let c = open-goes t s p v e in
     let known : p .guest < length ((sending t p v) .guests) = rw (same-count (sending t p v) t (sending-settings t p v)) (sent-known t s p v c) in
-    dropped-sound (sending t p v) (sending-sound t s p v c f) p known (drop-fits t s p v c))
+    dropped-sound (sending t p v) (sending-sound t s p v c f) p known)

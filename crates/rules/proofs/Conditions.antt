@@ -8,12 +8,12 @@ use lib.Dec.{ltb, leb, eqb}
 use borrow.Author.Tests.{ltb-true, ltb-false, lt-ltb, le-ltb, leb-true, leb-false, le-leb, lt-leb, eqb-true, eqb-false, eq-eqb, ne-eqb, not-true, not-false}
 use Rattle.lists.specs.Words.{all}
 use Rattle.lists.specs.WordsLaws.{both, join, either-fails, left-fails, right-fails, all-of-map, all-each, each-all, all-but, but-all}
-use Rattle.rules.specs.Numbers.{ceiling, mostCredit, mostCost, within}
+use Rattle.rules.specs.Numbers.{ceiling, mostCredit, mostCost, mostDelta, within}
 use Rattle.rules.specs.Tables.{Settings, Request, Flight, Table, limited, same, lacks}
-use Rattle.rules.specs.Sound.{counted, settled, ruled, lawful, fair}
+use Rattle.rules.specs.Sound.{counted, settled, ruled, lawful, fair, spread}
 use Rattle.rules.specs.Events.{Arriving, smallest, shifted, adjusted, stampedFor}
 use Rattle.rules.specs.Refusals.{passing}
-use Rattle.rules.specs.Refused.{Above, Passing, given, moved, Countable, Ruled, Good, Fair}
+use Rattle.rules.specs.Refused.{Above, Passing, given, moved, Countable, Ruled, Good, Fair, Spread}
 
 -- what it says that a condition holds, and that it does not
 pub record Means (b : Bool) (Holds Fails : Type 0) : Type 0 where
@@ -153,6 +153,14 @@ ruled-means r = means (to (eqb r 1) refl, back)
 pub fair-means : (c : ℕ) → Means (fair c) (Fair c) (Fair c → ⊥)
 unfolding fair
 fair-means c = means (within-means 1 mostCost c)
+
+-- a delta and a rho that there are
+pub spread-means : (d r : ℕ) → Means (spread d r) (Spread d r) (Spread d r → ⊥)
+unfolding spread
+spread-means d r = means (to, λ k. join (within-means 1 mostDelta d .1 (k .0, k .1)) (le-leb r d (k .2)))
+  where
+    to : within 1 mostDelta d && leb r d ≡ true → Spread d r
+    to h = let p = both (within 1 mostDelta d) (leb r d) h in let w = within-means 1 mostDelta d .0 (p .0) in (w .0, w .1, leb-true r d (p .1))
 
 -- one guest's settings in their ranges
 pub settled-good : (s : Settings) → (settled s ≡ true) ↔ Good s

@@ -12,7 +12,7 @@ use Rattle.lists.specs.Words.{if_then_else_, all}
 use Rattle.lists.specs.WordsLaws.{all-map, all-same, map-same, map-on, map-id, filter-map, filter-passes}
 use Rattle.rules.specs.Tables.{Request, Flight, Table, nobodys, owner, of, mine, name, names}
 use Rattle.rules.specs.Sound.{lawful}
-use Rattle.rules.specs.Choice.{earlier, sooner, dropOf, dropped}
+use Rattle.rules.specs.Choice.{earlier, renewed, dropOf, nextOf, dropped}
 use Rattle.rules.proofs.Facts.{lawful-is, is-lawful}
 
 module _ (p : Request) (u : Table) where
@@ -94,9 +94,9 @@ module _ (p : Request) (u : Table) where
       ∙ map-on (of (p .guest)) lower (earlier (dropOf u p)) (λ q e. rw e) (mine (p .guest) (u .waiting)) (filter-passes (of (p .guest)) (u .waiting))
 
   -- and its next numbers
-  pub dropped-owner : p .guest < length (u .guests) → owner ((dropped p u) .guests) (p .guest) ≡ sooner (dropOf u p) (owner (u .guests) (p .guest))
+  pub dropped-owner : p .guest < length (u .guests) → owner ((dropped p u) .guests) (p .guest) ≡ renewed (nextOf u p) (owner (u .guests) (p .guest))
   unfolding dropped
-  dropped-owner h = getD-set-same (u .guests) (p .guest) (sooner (dropOf u p) (owner (u .guests) (p .guest))) nobodys h
+  dropped-owner h = getD-set-same (u .guests) (p .guest) (renewed (nextOf u p) (owner (u .guests) (p .guest))) nobodys h
 
   -- those of another guest
   pub dropped-others : (g : ℕ) → eqb g (p .guest) ≡ false → mine g ((dropped p u) .waiting) ≡ mine g (u .waiting)
@@ -110,4 +110,4 @@ module _ (p : Request) (u : Table) where
   pub dropped-other : (g : ℕ) → eqb g (p .guest) ≡ false → owner ((dropped p u) .guests) g ≡ owner (u .guests) g
   unfolding dropped
   dropped-other g e =
-      getD-set-other (u .guests) (p .guest) g (sooner (dropOf u p) (owner (u .guests) (p .guest))) nobodys (eqb-false g (p .guest) e)
+      getD-set-other (u .guests) (p .guest) g (renewed (nextOf u p) (owner (u .guests) (p .guest))) nobodys (eqb-false g (p .guest) e)

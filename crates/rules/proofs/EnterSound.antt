@@ -11,7 +11,7 @@ use Rattle.lists.specs.Words.{without}
 use Rattle.lists.specs.WordsLaws.{all-append, all-parts, all-without, length-without}
 use Rattle.rules.specs.Numbers.{ceiling}
 use Rattle.rules.specs.Tables.{Flight, Table, name, same, lacks, names}
-use Rattle.rules.specs.Sound.{fair, ranges, sound}
+use Rattle.rules.specs.Sound.{fair, spread, ranges, sound}
 use Rattle.rules.specs.Events.{Event, Arrival, Completion, Tick, moment, calledBy, placed, arriveAs, arrive, complete, wait, enter}
 use Rattle.rules.specs.Refusals.{tests, eventTests, accepted}
 use Rattle.rules.proofs.Judged.{condition, passed}
@@ -92,6 +92,6 @@ enter-sound t (Arrival a now) h =
     let s = accepted-finds t (Arrival a now) h in
     let full : length (t .waiting) ≡ t .setup .capacity → ⊥ = eqb-false (length (t .waiting)) (t .setup .capacity) (no 8) in
     arrive-sound t s now a (leb-false (length (t .guests)) (a .guest) (no 4)) (not-false (lacks (calledBy a) (names t)) (no 7))
-    (not-false (fair (a .cost)) (no 18)) (accepted-fits t (Arrival a now) h) (omega (arith, s .waiting-fits)) (no 9)
+    (not-false (fair (a .cost)) (no 18)) (not-false (spread (a .delta) (a .rho)) (no 20)) (accepted-fits t (Arrival a now) h) (omega (arith, s .waiting-fits)) (no 9)
 enter-sound t (Completion f now) h = complete-sound now f t (accepted-finds t (Completion f now) h) (accepted-fits t (Completion f now) h)
 enter-sound t (Tick now) h = wait-sound now t (accepted-finds t (Tick now) h) (accepted-fits t (Tick now) h)

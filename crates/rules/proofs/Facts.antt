@@ -11,7 +11,7 @@ use Rattle.lists.specs.Words.{all}
 use Rattle.lists.specs.WordsLaws.{both, join, below-at, at-below, all-parts, all-of-map}
 use Rattle.rules.specs.Numbers.{ceiling}
 use Rattle.rules.specs.Tables.{Guest, Request, Table, reserved, limited, rspacing, lspacing, sspacing, nobodys, owner, mine, name, names}
-use Rattle.rules.specs.Sound.{ranges, ruled, roomy, timely, known, distinct, lawful, priced, kept, orderly, ordered, sound}
+use Rattle.rules.specs.Sound.{ranges, ruled, roomy, timely, known, distinct, lawful, priced, kept, noGap, orderly, ordered, sound}
 
 -- "A table is sound when"
 pub record Sound (t : Table) : Type 0 where
@@ -62,7 +62,7 @@ is-sound t s =
 
 -- the three kinds of tags of a guest of which w waits
 pub record Orderly (h : Guest) (w : List Request) : Type 0 where
-  pub reservations : kept (reserved (h .settings)) Request.rtag (rspacing (h .settings)) (rspacing (h .settings)) w (h .rnext) ≡ true
+  pub reservations : kept (reserved (h .settings)) Request.rtag noGap (rspacing (h .settings)) w (h .rnext) ≡ true
   pub limits : kept (limited (h .settings)) Request.ltag (lspacing (h .settings)) (lspacing (h .settings)) w (h .lnext) ≡ true
   pub shares : kept true Request.stag (sspacing (h .settings)) (sspacing (h .settings)) w (h .snext) ≡ true
 
@@ -101,7 +101,7 @@ is-lawful q l =
     join (join (le-leb (q .rtag) ceiling (l .reservation)) (le-leb (q .ltag) ceiling (l .limit))) (le-leb (q .stag) ceiling (l .share))
 
 -- nothing waits of a guest that does not exist
-mine-none : (n g : ℕ) (w : List Request) → n ≤ g → all (λ q. ltb (q .guest) n) w ≡ true → mine g w ≡ []
+pub mine-none : (n g : ℕ) (w : List Request) → n ≤ g → all (λ q. ltb (q .guest) n) w ≡ true → mine g w ≡ []
 mine-none n g [] h a = refl
 mine-none n g (q ∷ w) h a =
     let c = both (ltb (q .guest) n) (all (λ q. ltb (q .guest) n) w) a in

@@ -9,6 +9,7 @@ use borrow.Author.Tests.{leb-true, leb-false, le-leb, eqb-true}
 use Rattle.lists.specs.Words.{if_then_else_, all}
 use Rattle.lists.specs.WordsLaws.{both, join, filter-passes}
 use Rattle.rules.specs.Tables.{Request, Table, reserved, limited, rspacing, lspacing, sspacing, owner, settingsOf, of, mine}
+use Rattle.rules.specs.Sound.{noGap}
 use Rattle.rules.specs.Choice.{Pick, nobody, picked, behind, against, least, dueAt, openAt, passesAt, passes, due, open?}
 use Rattle.rules.proofs.Chains.{rising, kept-rising}
 use Rattle.rules.proofs.Facts.{Sound, Orderly, orderly-is, any-orderly}
@@ -181,7 +182,7 @@ module _ (t : Table) (s : Sound t) (g : ℕ) where
       let own = mine g (t .waiting) in
       firsts (due t) Request.rtag g (t .waiting)
       (ordered-due t g own (filter-passes (of g) (t .waiting))
-      (kept-rising Request.rtag (rspacing h) (rspacing h) (reserved h) own ((owner (t .guests) g) .rnext) (orderly-own .reservations))
+      (kept-rising Request.rtag noGap (rspacing h) (reserved h) own ((owner (t .guests) g) .rnext) (orderly-own .reservations))
       (kept-rising Request.ltag (lspacing h) (lspacing h) (limited h) own ((owner (t .guests) g) .lnext) (orderly-own .limits)))
 
   -- what the weight phase picks is the first of its guest

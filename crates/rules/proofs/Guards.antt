@@ -25,7 +25,7 @@ owed = settings 1 0 1
 
 -- an arrival at a time in nanoseconds
 abbrev comesAt : (g i : ℕ) → ℕ → Event
-comesAt g i n = Arrival (record { guest = g; id = i; cost = 1 }) n
+comesAt g i n = Arrival (record { guest = g; id = i; cost = 1; delta = 1; rho = 1 }) n
 
 -- a completion at a time in nanoseconds
 abbrev endsAt : (g i : ℕ) → ℕ → Event

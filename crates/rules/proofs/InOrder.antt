@@ -8,7 +8,7 @@ use Rattle.lists.specs.Words.{if_then_else_}
 use Rattle.lists.specs.WordsLaws.{map-append, map-same, filter-map, filter-append}
 use Rattle.rules.specs.Tables.{Guest, Request, Table, owner, of, mine, idle}
 use Rattle.rules.specs.Choice.{Result, sending, choice}
-use Rattle.rules.specs.Events.{Arriving, Event, Arrival, Completion, Tick, smallest, shifted, adjusted, stamped, placed, arriveAs, arrive, complete, wait, enter}
+use Rattle.rules.specs.Events.{Arriving, Event, Arrival, Completion, Tick, smallest, shifted, adjusted, stamped, raised, placed, arriveAs, arrive, complete, wait, enter}
 use Rattle.rules.specs.Refusals.{Verdict, accept, refuse, isAccept, verdict, accepted}
 use Rattle.rules.specs.Run.{decided, step, after, answers}
 use Rattle.rules.specs.Order.{waits, brings, sends, came, left}
@@ -69,7 +69,7 @@ enter-waits : (g : ℕ) (t : Table) (e : Event) → waits g (enter t e) ≡ wait
 unfolding enter arrive arriveAs complete wait
 enter-waits g t (Arrival a now) =
     let b = idle t (a .guest) in
-    placed-waits g now b a (owner (t .guests) (a .guest)) (adjusted b now t) ∙ ap (_++ brings g (Arrival a now)) (adjusted-waits g now b t)
+    placed-waits g now b a (raised a (owner (t .guests) (a .guest))) (adjusted b now t) ∙ ap (_++ brings g (Arrival a now)) (adjusted-waits g now b t)
 enter-waits g t (Completion f now) = sym (append-nil (waits g t))
 enter-waits g t (Tick now) = sym (append-nil (waits g t))
 

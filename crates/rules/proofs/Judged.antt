@@ -12,7 +12,7 @@ use Rattle.rules.specs.Answers.{numberOf}
 use Rattle.rules.specs.Refused.{Case, FirstOf, NoneHolds}
 use Rattle.rules.specs.Refusals.{Test, Verdict, accept, refuse, judged, isAccept}
 use Rattle.rules.specs.declared.Refusal.{Refusal}
-use Rattle.rules.specs.declared.Refusal.the-variants.{BadSetting, ShortTable, Unsound, UnknownGuest, TimeAboveCeiling, TimeBeforeLast, IdInUse, NoRoom, TagAboveCeiling, NotInFlight, BadMark, BadVersion, HeaderCut, BadEvent, EventCut, AnswersShort, TooManyEvents, BadCost, NoWayBack, RoomShort}
+use Rattle.rules.specs.declared.Refusal.the-variants.{BadSetting, ShortTable, Unsound, UnknownGuest, TimeAboveCeiling, TimeBeforeLast, IdInUse, NoRoom, TagAboveCeiling, NotInFlight, BadMark, BadVersion, HeaderCut, BadEvent, EventCut, AnswersShort, TooManyEvents, BadCost, NoWayBack, BadDelta, RoomShort, NoArray}
 
 -- NUMBERS
 
@@ -20,7 +20,7 @@ use Rattle.rules.specs.declared.Refusal.the-variants.{BadSetting, ShortT
 abbrev every : List Refusal
 every =
     BadSetting ∷ ShortTable ∷ Unsound ∷ UnknownGuest ∷ TimeAboveCeiling ∷ TimeBeforeLast ∷ IdInUse ∷ NoRoom ∷ TagAboveCeiling ∷ NotInFlight
-    ∷ BadMark ∷ BadVersion ∷ HeaderCut ∷ BadEvent ∷ EventCut ∷ AnswersShort ∷ TooManyEvents ∷ BadCost ∷ NoWayBack ∷ RoomShort ∷ []
+    ∷ BadMark ∷ BadVersion ∷ HeaderCut ∷ BadEvent ∷ EventCut ∷ AnswersShort ∷ TooManyEvents ∷ BadCost ∷ NoWayBack ∷ BadDelta ∷ RoomShort ∷ NoArray ∷ []
 
 -- the first of some refusals that has number n
 abbrev withNumber : ℕ → List Refusal → Refusal
@@ -47,7 +47,9 @@ found AnswersShort = refl
 found TooManyEvents = refl
 found BadCost = refl
 found NoWayBack = refl
+found BadDelta = refl
 found RoomShort = refl
+found NoArray = refl
 
 -- two refusals with one number are the same
 pub numberOf-once : (r s : Refusal) → numberOf r ≡ numberOf s → r ≡ s

@@ -9,7 +9,7 @@ use borrow.Author.Tests.{not-false}
 use Rattle.lists.specs.Words.{all}
 use Rattle.lists.specs.WordsLaws.{join, all-of-map}
 use Rattle.rules.specs.Tables.{Settings, Request, reserved, limited, rspacing, lspacing, sspacing, nobodys}
-use Rattle.rules.specs.Sound.{counted, settled, ranges, ruled, distinct, orderly, sound}
+use Rattle.rules.specs.Sound.{counted, settled, ranges, ruled, distinct, noGap, orderly, sound}
 use Rattle.rules.specs.Refusals.{accept, judged, isAccept, openTests}
 use Rattle.rules.specs.Run.{newcomer, fresh}
 use Rattle.rules.proofs.Judged.{passed, passed-behind}
@@ -21,7 +21,7 @@ newcomer-orderly : (s : Settings) → orderly (newcomer s) [] ≡ true
 newcomer-orderly s =
     is-orderly (newcomer s) []
     (record {
-      reservations = kept-fresh Request.rtag (rspacing s) (rspacing s) (reserved s);
+      reservations = kept-fresh Request.rtag noGap (rspacing s) (reserved s);
       limits = kept-fresh Request.ltag (lspacing s) (lspacing s) (limited s);
       shares = kept-fresh Request.stag (sspacing s) (sspacing s) true;
     })

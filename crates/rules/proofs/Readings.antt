@@ -20,7 +20,7 @@ tagsOf q = q .rtag ∷ q .ltag ∷ q .stag ∷ []
 
 -- those that the guest's next request gets at a time, where it is idle or not
 abbrev given : (idle : Bool) (now : ℕ) → List ℕ
-given idle now = tagsOf (stamped idle now (record { guest = 0; id = 1; cost = 1 }) tens)
+given idle now = tagsOf (stamped idle now (record { guest = 0; id = 1; cost = 1; delta = 1; rho = 1 }) tens)
 
 -- "depth 4, one guest (reservation 100, limit 250, shares 1), capacity 8"
 abbrev pub oneBy : (rule : ℕ) → Table

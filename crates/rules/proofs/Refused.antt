@@ -14,7 +14,7 @@ use Rattle.rules.specs.Refusals.{Test, Verdict, accept, judged, timeTest
 use Rattle.rules.specs.Refused.{Case, RefusedExactly, timeCases, guestCases, eventCases, callCases, openCases}
 use Rattle.rules.proofs.Judged.{Gives, numbers, Tested, end, unless, _and_, judged-first, judged-none}
 use Rattle.rules.proofs.Facts.{sound-is}
-use Rattle.rules.proofs.Conditions.{at-most, less, equal, negated, lacking, passing-means, counted-means, ruled-means, settled-means, fair-means}
+use Rattle.rules.proofs.Conditions.{at-most, less, equal, negated, lacking, passing-means, counted-means, ruled-means, settled-means, fair-means, spread-means}
 
 -- `gives` and `accepts` tell a verdict
 pub record Tells (v : Verdict) (gives : ℕ → Type 0) (accepts : Type 0) : Type 0 where
@@ -43,6 +43,7 @@ unfolding eventTests eventCases
 event-tested t (Arrival a now) s =
     guest-tested (a .guest) now t
     (negated (fair-means (a .cost)) .holds
+    and negated (spread-means (a .delta) (a .rho)) .holds
     and negated (lacking (calledBy a) (names t)) .holds
     and equal (length (t .waiting)) (t .setup .capacity) .holds
     and passing-means (idle t (a .guest)) now a t (sound-is t s .tags-fit) .holds
@@ -67,7 +68,7 @@ open-tested short d n c r ss =
 
 -- the numbers of each call's list, in the order in which they are judged
 module _ (short unsound : Bool) (t : Table) (now : ℕ) where
-  pub arrival-numbers : (a : Arriving) → numbers (tests short unsound t (Arrival a now)) ≡ 2 ∷ 3 ∷ 4 ∷ 5 ∷ 6 ∷ 18 ∷ 7 ∷ 8 ∷ 9 ∷ []
+  pub arrival-numbers : (a : Arriving) → numbers (tests short unsound t (Arrival a now)) ≡ 2 ∷ 3 ∷ 4 ∷ 5 ∷ 6 ∷ 18 ∷ 20 ∷ 7 ∷ 8 ∷ 9 ∷ []
   unfolding eventTests
   arrival-numbers a = refl
 

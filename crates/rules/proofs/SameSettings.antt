@@ -9,7 +9,7 @@ use Rattle.lists.specs.Words.{if_then_else_, all}
 use Rattle.lists.specs.WordsLaws.{all-of-map, map-each}
 use Rattle.rules.specs.Tables.{Settings, Guest, Request, Setup, Table, nobodys, owner, idle}
 use Rattle.rules.specs.Sound.{settled, ranges, ruled}
-use Rattle.rules.specs.Choice.{sending, sooner, dropOf, dropped, choice}
+use Rattle.rules.specs.Choice.{sending, nextOf, renewed, dropped, choice}
 use Rattle.rules.specs.Events.{Event, Arrival, Completion, Tick, smallest, shiftedNext, adjusted, following, placed, stampedFor, arriveAs, arrive, complete, wait, enter}
 use Rattle.rules.specs.Refusals.{Verdict, accept, refuse, verdict}
 use Rattle.rules.specs.Run.{decided, step, after}
@@ -62,9 +62,9 @@ sending-settings t q w = record { setup = refl; settings = refl }
 
 -- a drop
 pub dropped-settings : (q : Request) (t : Table) → SameSettings (dropped q t) t
-unfolding dropped sooner
+unfolding dropped renewed
 dropped-settings q t =
-    record { setup = refl; settings = map-set-same Guest.settings (t .guests) (q .guest) (sooner (dropOf t q) (owner (t .guests) (q .guest))) nobodys refl }
+    record { setup = refl; settings = map-set-same Guest.settings (t .guests) (q .guest) (renewed (nextOf t q) (owner (t .guests) (q .guest))) nobodys refl }
 
 -- the placing of a request
 pub placed-settings : (now : ℕ) (q : Request) (t : Table) → SameSettings (placed now q t) t

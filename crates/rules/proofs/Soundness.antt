@@ -12,16 +12,16 @@ use Rattle.lists.specs.Words.{all}
 use Rattle.lists.specs.WordsLaws.{both, join, all-of-map, all-each, each-all, all-at, places-all}
 use Rattle.rules.specs.Numbers.{ceiling, second, mostCost, idleBound}
 use Rattle.rules.specs.Tables.{Settings, Guest, Request, Flight, Table, reserved, limited, rspacing, lspacing, sspacing, owner, mine, lacks, names}
-use Rattle.rules.specs.Sound.{counted, settled, ranges, distinct, lawful, priced, apart, follows, kept, sound}
+use Rattle.rules.specs.Sound.{counted, settled, ranges, distinct, lawful, priced, apart, follows, kept, noGap, sound}
 use Rattle.rules.specs.Refused.{Countable, Ruled, Good, Fair}
 use Rattle.rules.specs.Chosen.{blank, at}
 use Rattle.rules.proofs.Facts.{Sound, sound-is, is-sound, Orderly, orderly-is, is-orderly, lawful-is, is-lawful}
 use Rattle.rules.proofs.Conditions.{counted-means, ruled-means, settled-means, fair-means, lacking}
 
 -- one kind of tag of what waits of a guest, l, and its next number: the guest has this kind, or lacks it
-pub record Kept (has : Bool) (tag spacing : Request → ℕ) (l : List Request) (next : ℕ) : Type 0 where
-  -- "each later waiting request's tag of each kind it has is at least the earlier one's plus the spacing"
-  pub spaced : has ≡ true → (i j : ℕ) → i < j → j < length l → tag (at l i) + spacing (at l i) ≤ tag (at l j)
+pub record Kept (has : Bool) (tag gap spacing : Request → ℕ) (l : List Request) (next : ℕ) : Type 0 where
+  -- "each later waiting request's tag of each kind it has is at least the earlier one's plus the spacing", or what gap there must be
+  pub spaced : has ≡ true → (i j : ℕ) → i < j → j < length l → tag (at l i) + gap (at l i) ≤ tag (at l j)
   -- "for a guest with something waiting, each next number it has is its last waiting tag plus the spacing"
   pub next-follows : has ≡ true → (a : List Request) (q : Request) → l ≡ a ++ (q ∷ []) → next ≡ tag q + spacing q
   -- document 02, K8: "an idle guest's next number is at most the ceiling plus 64,000,000,000"
@@ -53,41 +53,41 @@ pub record SoundTable (t : Table) : Type 0 where
   pub tags-fit : (q : Request) → List·Memᴰ q (t .waiting) → (q .rtag ≤ ceiling) × (q .ltag ≤ ceiling) × (q .stag ≤ ceiling)
   -- document 02, K8: "a cost outside 1 to 64 is 18 .. one kept in a table is 3"
   pub costs-fit : (q : Request) → List·Memᴰ q (t .waiting) → Fair (q .cost)
-  -- "within a guest", each kind it has, and those it lacks
+  -- "within a guest", each kind it has, and those it lacks. Document 02, K14: "Soundness then asks only that a guest's reservation tags do not fall"
   pub reservations : (g : ℕ) → g < length (t .guests)
-      → Kept (reserved ((owner (t .guests) g) .settings)) Request.rtag (rspacing ((owner (t .guests) g) .settings)) (mine g (t .waiting)) ((owner (t .guests) g) .rnext)
+      → Kept (reserved ((owner (t .guests) g) .settings)) Request.rtag noGap (rspacing ((owner (t .guests) g) .settings)) (mine g (t .waiting)) ((owner (t .guests) g) .rnext)
   pub limits : (g : ℕ) → g < length (t .guests)
-      → Kept (limited ((owner (t .guests) g) .settings)) Request.ltag (lspacing ((owner (t .guests) g) .settings)) (mine g (t .waiting)) ((owner (t .guests) g) .lnext)
+      → Kept (limited ((owner (t .guests) g) .settings)) Request.ltag (lspacing ((owner (t .guests) g) .settings)) (lspacing ((owner (t .guests) g) .settings)) (mine g (t .waiting)) ((owner (t .guests) g) .lnext)
   pub shares : (g : ℕ) → g < length (t .guests)
-      → Kept true Request.stag (sspacing ((owner (t .guests) g) .settings)) (mine g (t .waiting)) ((owner (t .guests) g) .snext)
+      → Kept true Request.stag (sspacing ((owner (t .guests) g) .settings)) (sspacing ((owner (t .guests) g) .settings)) (mine g (t .waiting)) ((owner (t .guests) g) .snext)
 
 -- ONE KIND
 
-module _ (tag spacing : Request → ℕ) where
-  -- the later tags lie a spacing past the first
-  later : (q : Request) (l : List Request) → apart tag spacing (q ∷ l) ≡ true → (j : ℕ) → j < length l → tag q + spacing q ≤ tag (at l j)
+module _ (tag gap spacing : Request → ℕ) where
+  -- the later tags lie a gap past the first
+  later : (q : Request) (l : List Request) → apart tag gap (q ∷ l) ≡ true → (j : ℕ) → j < length l → tag q + gap q ≤ tag (at l j)
   later q [] a j h = omega arith
-  later q (p ∷ l) a zero h = leb-true (tag q + spacing q) (tag p) (both (leb (tag q + spacing q) (tag p)) (apart tag spacing (p ∷ l)) a .0)
+  later q (p ∷ l) a zero h = leb-true (tag q + gap q) (tag p) (both (leb (tag q + gap q) (tag p)) (apart tag gap (p ∷ l)) a .0)
   later q (p ∷ l) a (suc j) h =
-      let c = both (leb (tag q + spacing q) (tag p)) (apart tag spacing (p ∷ l)) a in
-      omega (arith, leb-true (tag q + spacing q) (tag p) (c .0), later p l (c .1) j (omega arith))
+      let c = both (leb (tag q + gap q) (tag p)) (apart tag gap (p ∷ l)) a in
+      omega (arith, leb-true (tag q + gap q) (tag p) (c .0), later p l (c .1) j (omega arith))
 
   -- without its first a list is still apart
-  rest : (q : Request) (l : List Request) → apart tag spacing (q ∷ l) ≡ true → apart tag spacing l ≡ true
+  rest : (q : Request) (l : List Request) → apart tag gap (q ∷ l) ≡ true → apart tag gap l ≡ true
   rest q [] a = refl
-  rest q (p ∷ l) a = both (leb (tag q + spacing q) (tag p)) (apart tag spacing (p ∷ l)) a .1
+  rest q (p ∷ l) a = both (leb (tag q + gap q) (tag p)) (apart tag gap (p ∷ l)) a .1
 
-  apart-is : (l : List Request) → apart tag spacing l ≡ true → (i j : ℕ) → i < j → j < length l → tag (at l i) + spacing (at l i) ≤ tag (at l j)
+  apart-is : (l : List Request) → apart tag gap l ≡ true → (i j : ℕ) → i < j → j < length l → tag (at l i) + gap (at l i) ≤ tag (at l j)
   apart-is [] a i j h k = omega arith
   apart-is (q ∷ l) a i zero h k = omega arith
   apart-is (q ∷ l) a zero (suc j) h k = later q l a j (omega arith)
   apart-is (q ∷ l) a (suc i) (suc j) h k = apart-is l (rest q l a) i j (omega arith) (omega arith)
 
-  is-apart : (l : List Request) → ((i j : ℕ) → i < j → j < length l → tag (at l i) + spacing (at l i) ≤ tag (at l j)) → apart tag spacing l ≡ true
+  is-apart : (l : List Request) → ((i j : ℕ) → i < j → j < length l → tag (at l i) + gap (at l i) ≤ tag (at l j)) → apart tag gap l ≡ true
   is-apart [] s = refl
   is-apart (q ∷ []) s = refl
   is-apart (q ∷ p ∷ l) s =
-      join (le-leb (tag q + spacing q) (tag p) (s 0 1 (omega arith) (omega arith)))
+      join (le-leb (tag q + gap q) (tag p) (s 0 1 (omega arith) (omega arith)))
       (is-apart (p ∷ l) (λ i j h k. s (suc i) (suc j) (omega arith) (omega arith)))
 
   last-is : (n : ℕ) (a : List Request) (q : Request) → follows tag spacing (a ++ (q ∷ [])) n ≡ true → n ≡ tag q + spacing q
@@ -102,13 +102,13 @@ module _ (tag spacing : Request → ℕ) where
   is-follows n (q ∷ p ∷ l) i z =
       is-follows n (p ∷ l) (λ e. let no : _≡_ {A = ℕ} 0 1 = cc in omega arith) (λ a x e. z (q ∷ a) x (ap (q ∷_) e))
 
-  kept-means : (has : Bool) (l : List Request) (n : ℕ) → (kept has tag spacing spacing l n ≡ true) ↔ Kept has tag spacing l n
+  kept-means : (has : Bool) (l : List Request) (n : ℕ) → (kept has tag gap spacing l n ≡ true) ↔ Kept has tag gap spacing l n
   unfolding kept
   kept-means true l n = (to, λ k. join (is-apart l (k .spaced refl)) (is-follows n l (k .idle-fits refl) (k .next-follows refl)))
     where
-      to : apart tag spacing l && follows tag spacing l n ≡ true → Kept true tag spacing l n
+      to : apart tag gap l && follows tag spacing l n ≡ true → Kept true tag gap spacing l n
       to h =
-          let c = both (apart tag spacing l) (follows tag spacing l n) h in
+          let c = both (apart tag gap l) (follows tag spacing l n) h in
           record {
             spaced = λ e. apart-is l (c .0);
             next-follows = λ e a q m. last-is n a q (rw m at (c .1));
@@ -119,7 +119,7 @@ module _ (tag spacing : Request → ℕ) where
   kept-means false l n =
       (to, λ k. join (eq-eqb n 0 (k .no-next refl)) (places-all (λ q. eqb (tag q) 0) l blank (λ j h. eq-eqb (tag (at l j)) 0 (k .no-tags refl j h))))
     where
-      to : eqb n 0 && all (λ q. eqb (tag q) 0) l ≡ true → Kept false tag spacing l n
+      to : eqb n 0 && all (λ q. eqb (tag q) 0) l ≡ true → Kept false tag gap spacing l n
       to h =
           let c = both (eqb n 0) (all (λ q. eqb (tag q) 0) l) h in
           record {
@@ -168,9 +168,9 @@ module _ (t : Table) where
         ids-once = once-means (names t) .0 (s .names-once);
         tags-fit = λ q m. let l = lawful-is q (all-each lawful (t .waiting) (s .tags-fit) q m) in (l .reservation, l .limit, l .share);
         costs-fit = λ q m. fair-means (q .cost) .holds .0 (all-each priced (t .waiting) (s .costs-fit) q m);
-        reservations = λ g h. kept-means _ _ _ _ _ .0 (o g h .reservations);
-        limits = λ g h. kept-means _ _ _ _ _ .0 (o g h .limits);
-        shares = λ g h. kept-means _ _ _ _ _ .0 (o g h .shares);
+        reservations = λ g h. kept-means _ _ _ _ _ _ .0 (o g h .reservations);
+        limits = λ g h. kept-means _ _ _ _ _ _ .0 (o g h .limits);
+        shares = λ g h. kept-means _ _ _ _ _ _ .0 (o g h .shares);
       }
 
   back : SoundTable t → Sound t
@@ -192,9 +192,9 @@ module _ (t : Table) where
         costs-fit = each-all priced (t .waiting) (λ q m. fair-means (q .cost) .holds .1 (s .costs-fit q m));
         guests-orderly = λ g h. is-orderly (owner (t .guests) g) (mine g (t .waiting))
             (record {
-              reservations = kept-means _ _ _ _ _ .1 (s .reservations g h);
-              limits = kept-means _ _ _ _ _ .1 (s .limits g h);
-              shares = kept-means _ _ _ _ _ .1 (s .shares g h);
+              reservations = kept-means _ _ _ _ _ _ .1 (s .reservations g h);
+              limits = kept-means _ _ _ _ _ _ .1 (s .limits g h);
+              shares = kept-means _ _ _ _ _ _ .1 (s .shares g h);
             });
       }
 

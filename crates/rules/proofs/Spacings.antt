@@ -51,3 +51,7 @@ cost-none c d e = rw e (mul-zero c)
 -- but not where the guest has it
 pub cost-some : (c d : ℕ) → fair c ≡ true → 0 < d → 0 < c * d
 cost-some c d h k = omega (arith, mul-le-mul {n₁ = 1} {m₁ = 1} {n₂ = c} {m₂ = d} (fair-is c h .0) k)
+
+-- nor less than the spacing
+pub cost-once : (c d : ℕ) → fair c ≡ true → d ≤ c * d
+cost-once c d h = omega (arith, mul-le-mul {n₁ = 1} {m₁ = d} {n₂ = c} {m₂ = d} (fair-is c h .0) (omega arith))

@@ -5,9 +5,9 @@ use Rattle.lists.specs.Words.{lowest}
 use Rattle.rules.specs.Numbers.{down, up}
 use Rattle.rules.specs.Tables.{Settings, Guest, Request, Flight, Table, idle}
 use Rattle.rules.specs.Answers.{Printed, shown}
-use Rattle.rules.specs.Sound.{counted, settled, ranges, ruled, distinct, lawful, fair, kept, orderly, sound}
-use Rattle.rules.specs.Choice.{Result, dueAt, openAt, passesAt, sending, earlier, sooner, dropped, byWeight, byReservation, room, choice}
-use Rattle.rules.specs.Events.{Event, Arrival, Completion, shifted, shiftedNext, adjusted, back, shareTag, stamped, following, placed, arriveAs, arrive, complete, wait, enter}
+use Rattle.rules.specs.Sound.{counted, settled, ranges, ruled, distinct, lawful, fair, spread, kept, orderly, sound}
+use Rattle.rules.specs.Choice.{Result, dueAt, openAt, passesAt, sending, earlier, renewed, dropped, byWeight, byReservation, room, choice}
+use Rattle.rules.specs.Events.{Event, Arrival, Completion, shifted, shiftedNext, adjusted, back, shareTag, stamped, following, placed, raised, arriveAs, arrive, complete, wait, enter}
 use Rattle.rules.specs.Refusals.{eventTests}
 use Rattle.rules.specs.Run.{decided, step, after, answers, fresh}
 
@@ -19,9 +19,13 @@ ms n = n * 1000000
 abbrev pub settings : (reservation limit shares : ℕ) → Settings
 settings r l s = record { reservation = r; limit = l; shares = s; credit = 0 }
 
--- an arrival of guest g's id i at cost c, n ms after 0
+-- an arrival of guest g's id i at cost c, with this delta and rho, n ms after 0
+abbrev pub comesWith : (cost delta rho g i : ℕ) → ℕ → Event
+comesWith c d r g i n = Arrival (record { guest = g; id = i; cost = c; delta = d; rho = r }) (ms n)
+
+-- with one and one
 abbrev pub comesFor : (cost g i : ℕ) → ℕ → Event
-comesFor c g i n = Arrival (record { guest = g; id = i; cost = c }) (ms n)
+comesFor c g i n = comesWith c 1 1 g i n
 
 -- at cost 1
 abbrev pub comes : (g i : ℕ) → ℕ → Event
@@ -53,7 +57,7 @@ X n = record { letter = 88; values = n ∷ [] }
 
 -- a step; to unfold it is to unfold all that a step computes with
 unfoldable pub worked : Table → Event → Result
-unfolding down up lowest idle counted settled ranges ruled distinct lawful fair kept orderly sound dueAt openAt passesAt sending earlier sooner dropped byWeight byReservation room choice shifted shiftedNext adjusted back shareTag stamped following placed arriveAs arrive complete wait enter eventTests decided step fresh
+unfolding down up lowest idle counted settled ranges ruled distinct lawful fair spread kept orderly sound dueAt openAt passesAt sending earlier renewed dropped byWeight byReservation room choice shifted shiftedNext adjusted back shareTag stamped following placed raised arriveAs arrive complete wait enter eventTests decided step fresh
 worked t e = step t e
 
 -- what is printed of a run; to unfold it is to unfold all that a run computes with

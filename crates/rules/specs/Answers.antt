@@ -5,7 +5,7 @@ use Prim.Native.Nat.{ℕ}
 use Rattle.rules.specs.declared.Phase.{Phase}
 use Rattle.rules.specs.declared.Phase.the-variants.{Reservation, Weight}
 use Rattle.rules.specs.declared.Refusal.{Refusal}
-use Rattle.rules.specs.declared.Refusal.the-variants.{BadSetting, ShortTable, Unsound, UnknownGuest, TimeAboveCeiling, TimeBeforeLast, IdInUse, NoRoom, TagAboveCeiling, NotInFlight, BadMark, BadVersion, HeaderCut, BadEvent, EventCut, AnswersShort, TooManyEvents, BadCost, NoWayBack, RoomShort}
+use Rattle.rules.specs.declared.Refusal.the-variants.{BadSetting, ShortTable, Unsound, UnknownGuest, TimeAboveCeiling, TimeBeforeLast, IdInUse, NoRoom, TagAboveCeiling, NotInFlight, BadMark, BadVersion, HeaderCut, BadEvent, EventCut, AnswersShort, TooManyEvents, BadCost, NoWayBack, BadDelta, RoomShort, NoArray}
 use Rattle.rules.specs.declared.Answer.{Answer}
 use Rattle.rules.specs.declared.Answer.the-variants.{Nothing, Sent, Refused}
 use Rattle.rules.specs.declared.Wake.{Wake}
@@ -36,6 +36,10 @@ numberOf BadCost = 18
 -- document 02, K9: "19, a version 2 trace that has another rule, credit or cost cannot go back; 21, room too short, last"
 numberOf NoWayBack = 19
 numberOf RoomShort = 21
+-- document 02, K14: "delta outside 1 to 65,535 or rho above delta is 20"
+numberOf BadDelta = 20
+-- K14: "on the host side 1 to 8 arrays, else 22", and "an array not there 22"
+numberOf NoArray = 22
 
 -- "`R` or `W` (phase)": the letter of a phase, as its byte
 abbrev pub letterOf : Phase → ℕ

@@ -3,11 +3,11 @@
 use mathlib.Core.Path.{_≡_}
 use mathlib.Core.Bool.{Bool, true, false}
 use mathlib.Core.Logic.{_⊎_}
-use Prim.Native.Nat.{ℕ, _+_, _*_, _≤_, _<_, max, min}
+use Prim.Native.Nat.{ℕ, _+_, _-_, _*_, _≤_, _<_, max, min}
 use lib.ListN.{length, getD}
 use Rattle.lists.specs.Tab.{removeAt}
 use Rattle.rules.specs.Numbers.{down}
-use Rattle.rules.specs.Tables.{Settings, Guest, Request, Flight, Table, reserved, limited, rspacing, lspacing, sspacing, owner, name}
+use Rattle.rules.specs.Tables.{Settings, Guest, Request, Flight, Table, reserved, limited, rplain, lplain, splain, rspacing, lspacing, sspacing, owner, name}
 use Rattle.rules.specs.Events.{Arriving, Event, Arrival, Completion, Tick, calledBy}
 use Rattle.rules.specs.Chosen.{at}
 
@@ -46,7 +46,13 @@ pub record Back (s : Settings) (now b : ℕ) : Type 0 where
   pub behind : reach s ≤ now → b + reach s ≡ now
   pub cut-off : now ≤ reach s → b ≡ 0
 
--- the guest that a request arrives at, with the next numbers that its tags are given by
+-- document 02, K14: a next number is "raised by (delta − 1) spacings", or "by (rho − 1) spacings, so for rho 0 it falls by one, never below 0"
+pub record Raised (count spacing before after : ℕ) : Type 0 where
+  pub up-by : 1 ≤ count → after ≡ before + (count - 1) * spacing
+  pub falls : count ≡ 0 → spacing ≤ before → after + spacing ≡ before
+  pub cut-off : count ≡ 0 → before ≤ spacing → after ≡ 0
+
+-- the guest that a request arrives at, with the next numbers that its tags are given by, once they are raised
 abbrev pub arrivesAt : Table → Arriving → Guest
 arrivesAt t a = owner (t .guests) (a .guest)
 
@@ -68,10 +74,15 @@ pub record Arrived (t : Table) (a : Arriving) (now : ℕ) (u : Table) : Type 0 w
       → (owner (u .guests) g) .snext ≡ (owner (t .guests) g) .snext
   -- 2. "Each tag it has is the larger of the next number and t", but the share tag by document 02, K6: "A busy guest's share tag is the larger of its next
   -- number and b; at an idle guest it is that number too, but not later than t."
-  pub reservation-tag : Given (reserved ((arrivesAt t a) .settings)) now ((arrivesAt t a) .rnext) ((lastOf t u) .rtag)
-  pub limit-tag : Given (limited ((arrivesAt t a) .settings)) now ((arrivesAt t a) .lnext) ((lastOf t u) .ltag)
-  pub share-tag : (b : ℕ) → Back ((arrivesAt t a) .settings) now b → Busy t (a .guest) → (lastOf t u) .stag ≡ max ((arrivesAt t a) .snext) b
-  pub share-tag-idle : (b : ℕ) → Back ((arrivesAt t a) .settings) now b → Idle t (a .guest) → (lastOf t u) .stag ≡ min now (max ((arrivesAt t a) .snext) b)
+  -- The next number n is by K14 "first raised"
+  pub reservation-tag : (n : ℕ) → Raised (a .rho) (rplain ((arrivesAt t a) .settings)) ((arrivesAt t a) .rnext) n
+      → Given (reserved ((arrivesAt t a) .settings)) now n ((lastOf t u) .rtag)
+  pub limit-tag : (n : ℕ) → Raised (a .delta) (lplain ((arrivesAt t a) .settings)) ((arrivesAt t a) .lnext) n
+      → Given (limited ((arrivesAt t a) .settings)) now n ((lastOf t u) .ltag)
+  pub share-tag : (n b : ℕ) → Raised (a .delta) (splain ((arrivesAt t a) .settings)) ((arrivesAt t a) .snext) n → Back ((arrivesAt t a) .settings) now b
+      → Busy t (a .guest) → (lastOf t u) .stag ≡ max n b
+  pub share-tag-idle : (n b : ℕ) → Raised (a .delta) (splain ((arrivesAt t a) .settings)) ((arrivesAt t a) .snext) n → Back ((arrivesAt t a) .settings) now b
+      → Idle t (a .guest) → (lastOf t u) .stag ≡ min now (max n b)
   -- 3. "Each next number becomes that tag plus the spacing", by document 02, K8: "tag plus cost times spacing"
   pub reservation-next : (owner (u .guests) (a .guest)) .rnext ≡ (lastOf t u) .rtag + rspacing ((arrivesAt t a) .settings) (lastOf t u)
   pub limit-next : (owner (u .guests) (a .guest)) .lnext ≡ (lastOf t u) .ltag + lspacing ((arrivesAt t a) .settings) (lastOf t u)

@@ -1,11 +1,11 @@
 -- Document 01, "The choice": "If in flight equals depth, nothing is sent. Otherwise at most one", by reservation, else by weight, else nothing.
 use mathlib.Core.Bool.{Bool, true, not, _&&_, _||_}
 use mathlib.Core.List.{List, [], _∷_, _++_, map}
-use Prim.Native.Nat.{ℕ, _-_}
+use Prim.Native.Nat.{ℕ, _+_, _-_}
 use lib.Dec.{ltb, leb, eqb}
 use lib.ListN.{length, set}
 use Rattle.lists.specs.Words.{if_then_else_}
-use Rattle.rules.specs.Tables.{Settings, Guest, Request, Table, reserved, limited, rspacing, owner, settingsOf, of, name}
+use Rattle.rules.specs.Tables.{Settings, Guest, Request, Table, reserved, limited, rspacing, owner, settingsOf, of, mine, name}
 use Rattle.rules.specs.declared.Phase.the-variants.{Reservation, Weight}
 use Rattle.rules.specs.declared.Answer.{Answer}
 use Rattle.rules.specs.declared.Answer.the-variants.{Nothing, Sent}
@@ -64,25 +64,36 @@ open? t q = openAt (settingsOf (t .guests) q) (t .time) q
 unfoldable pub sending : Table → Request → List Request → Table
 sending t q w = record { setup = t .setup; time = t .time; guests = t .guests; waiting = w; flight = t .flight ++ (name q ∷ []) }
 
--- the request q with its reservation tag dropped by d
+-- the request q with its reservation tag dropped by d, document 02, K14: "but never below 0", as a difference of these numbers is 0 where it would be
 unfoldable pub earlier : ℕ → Request → Request
 earlier d q = record { guest = q .guest; id = q .id; rtag = q .rtag - d; ltag = q .ltag; stag = q .stag; cost = q .cost }
 
--- the guest h with its next reservation number dropped by d
-unfoldable pub sooner : ℕ → Guest → Guest
-sooner d h = record { settings = h .settings; rnext = h .rnext - d; lnext = h .lnext; snext = h .snext }
+-- where a guest with these settings drops by d, of which the requests l wait, not dropped yet, its next reservation number n, by document 02, K14, "is set to the
+-- last waiting tag plus its cost times the spacing, or, with none waiting, drops alike": the tag as dropped
+abbrev pub resumed : Settings → (d : ℕ) → List Request → (n : ℕ) → ℕ
+resumed s d [] n = n - d
+resumed s d (q ∷ []) n = q .rtag - d + rspacing s q
+resumed s d (q ∷ p ∷ l) n = resumed s d (p ∷ l) n
+
+-- the guest h with the next reservation number n
+unfoldable pub renewed : ℕ → Guest → Guest
+renewed n h = record { settings = h .settings; rnext = n; lnext = h .lnext; snext = h .snext }
 
 -- how far that guest's tags drop after q was sent by weight, document 02, K8: "by the sent request's cost times the spacing"; 0 where it has no reservation
 abbrev pub dropOf : Table → Request → ℕ
 dropOf t q = rspacing (settingsOf (t .guests) q) q
 
--- "every reservation tag still waiting of that guest, and its next reservation number, drops", where q was sent
+-- the next reservation number of the guest of q, where q was sent by weight
+abbrev pub nextOf : Table → Request → ℕ
+nextOf t q = resumed (settingsOf (t .guests) q) (dropOf t q) (mine (q .guest) (t .waiting)) ((owner (t .guests) (q .guest)) .rnext)
+
+-- "every reservation tag still waiting of that guest, and its next reservation number, drops", where q was sent, by K14's rule for the number
 unfoldable pub dropped : Request → Table → Table
 dropped q t =
     record {
       setup = t .setup;
       time = t .time;
-      guests = set (t .guests) (q .guest) (sooner (dropOf t q) (owner (t .guests) (q .guest)));
+      guests = set (t .guests) (q .guest) (renewed (nextOf t q) (owner (t .guests) (q .guest)));
       waiting = map (λ p. if of (q .guest) p then earlier (dropOf t q) p else p) (t .waiting);
       flight = t .flight;
     }

@@ -4,9 +4,10 @@ use mathlib.Core.List.{[], _∷_, _++_, map}
 use Prim.Native.Nat.{ℕ, _+_, _-_, _*_, min}
 use lib.ListN.{set}
 use Rattle.lists.specs.Words.{if_then_else_, each, lowest, without}
-use Rattle.rules.specs.Numbers.{down, tagAt}
-use Rattle.rules.specs.Tables.{Settings, Guest, Request, Flight, Table, reserved, limited, rspacing, lspacing, sspacing, owner, idle, same}
--- the request that an arrival brings: its guest, its id, and by document 02, K8, its cost: "An arrival now carries a cost from 1 to 64"
+use Rattle.rules.specs.Numbers.{down, tagAt, raisedBy}
+use Rattle.rules.specs.Tables.{Settings, Guest, Request, Flight, Table, reserved, limited, rplain, lplain, splain, rspacing, lspacing, sspacing, owner, idle, same}
+-- the request that an arrival brings: its guest, its id, by document 02, K8, its cost: "An arrival now carries a cost from 1 to 64", and by K14 delta and rho:
+-- "The gate's arrival takes both"
 pub use Rattle.rules.specs.declared.Arriving.{Arriving}
 -- "Events: an arrival (guest, 32-bit id, time), a completion (guest, id, time), a tick (time)."
 pub use Rattle.rules.specs.declared.Event.{Event}
@@ -98,10 +99,21 @@ placed now q t =
       flight = t .flight;
     }
 
--- the request that arrives, with the tags that its guest's next numbers in the table t give. "The arriving guest's own next number is not
+-- document 02, K14: "limit and share next numbers are first raised by (delta − 1) spacings; the reservation's by (rho − 1) spacings", plain ones, whatever the
+-- cost; of a kind that the guest h lacks this is 0
+unfoldable pub raised : Arriving → Guest → Guest
+raised a h =
+    record {
+      settings = h .settings;
+      rnext = raisedBy (a .rho) (rplain (h .settings)) (h .rnext);
+      lnext = raisedBy (a .delta) (lplain (h .settings)) (h .lnext);
+      snext = raisedBy (a .delta) (splain (h .settings)) (h .snext);
+    }
+
+-- the request that arrives, with the tags that its guest's next numbers in the table t give, raised. "The arriving guest's own next number is not
 -- moved": t is the table before the shares are adjusted
 abbrev pub stampedFor : (idle : Bool) (now : ℕ) → Arriving → Table → Request
-stampedFor idle now a t = stamped idle now a (owner (t .guests) (a .guest))
+stampedFor idle now a t = stamped idle now a (raised a (owner (t .guests) (a .guest)))
 
 -- an arrival at a guest that is idle or not: steps 1 to 4, but for the choice
 unfoldable pub arriveAs : (idle : Bool) (now : ℕ) → Arriving → Table → Table

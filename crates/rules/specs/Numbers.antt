@@ -20,6 +20,10 @@ mostCredit = 256
 abbrev pub mostCost : ℕ
 mostCost = 64
 
+-- document 02, K14: "both stop at 65,535"
+abbrev pub mostDelta : ℕ
+mostDelta = 65535
+
 -- n lies from a to b, both included
 abbrev pub within : ℕ → ℕ → ℕ → Bool
 within a b n = leb a n && leb n b
@@ -35,6 +39,11 @@ up n = (second + n - 1) / n
 -- "Each tag it has is the larger of the next number and t."
 abbrev pub tagAt : ℕ → ℕ → ℕ
 tagAt now next = max next now
+
+-- document 02, K14: a next number "raised by (delta − 1) spacings", or "by (rho − 1) spacings, so for rho 0 it falls by one, never below 0": a difference of these
+-- numbers is 0 where it would be below 0
+abbrev pub raisedBy : (count spacing next : ℕ) → ℕ
+raisedBy count spacing next = next + count * spacing - spacing
 
 -- document 02, K8: "an idle guest's next number is at most the ceiling plus 64,000,000,000"
 abbrev pub idleBound : ℕ

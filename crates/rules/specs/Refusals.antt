@@ -6,11 +6,11 @@ use lib.Dec.{ltb, leb, eqb}
 use lib.ListN.{length}
 use Rattle.lists.specs.Words.{if_then_else_, all}
 use Rattle.rules.specs.Numbers.{ceiling}
-use Rattle.rules.specs.Tables.{Settings, Table, idle, lacks, names}
-use Rattle.rules.specs.Sound.{counted, settled, ruled, lawful, fair, sound}
+use Rattle.rules.specs.Tables.{Settings, Request, Table, idle, lacks, names}
+use Rattle.rules.specs.Sound.{counted, settled, ruled, lawful, fair, spread, sound}
 use Rattle.rules.specs.Events.{Arriving, Event, Arrival, Completion, Tick, calledBy, adjusted, stampedFor}
 use Rattle.rules.specs.declared.Refusal.{Refusal}
-use Rattle.rules.specs.declared.Refusal.the-variants.{BadSetting, ShortTable, Unsound, UnknownGuest, TimeAboveCeiling, TimeBeforeLast, IdInUse, NoRoom, TagAboveCeiling, NotInFlight, BadCost}
+use Rattle.rules.specs.declared.Refusal.the-variants.{BadSetting, ShortTable, Unsound, UnknownGuest, TimeAboveCeiling, TimeBeforeLast, IdInUse, NoRoom, TagAboveCeiling, NotInFlight, BadCost, BadDelta}
 
 -- a refusal, and whether its condition holds
 pub record Test : Type 0 where
@@ -38,16 +38,21 @@ timeTests now t cs =
 abbrev pub guestTests : (g now : ℕ) → Table → List Test → List Test
 guestTests g now t cs = record { refusal = UnknownGuest; holds = leb (length (t .guests)) g } ∷ timeTests now t cs
 
--- 9: "a tag given, or a share tag moved, would pass the ceiling"
+-- 9: "a tag given, or a share tag moved, would pass the ceiling", where q is the request with the tags given
+abbrev pub passingWith : (idle : Bool) (now : ℕ) → Request → Table → Bool
+passingWith idle now q t = not (all lawful ((adjusted idle now t) .waiting) && lawful q)
+
+-- 9 for the request that arrives
 abbrev pub passing : (idle : Bool) (now : ℕ) → Arriving → Table → Bool
-passing idle now a t = not (all lawful ((adjusted idle now t) .waiting) && lawful (stampedFor idle now a t))
+passing idle now a t = passingWith idle now (stampedFor idle now a t) t
 
 -- an event's own tests: "Arrival: .. 4, 5, 6, 7, 8, 9. Completion: .. 4, 5, 6, 10. Tick: .. 5, 6." Document 02, K8: "a cost outside 1 to 64 is 18, after 6 and
--- before 7"
+-- before 7"; K14: "delta outside 1 to 65,535 or rho above delta is 20, after 18"
 unfoldable pub eventTests : Table → Event → List Test
 eventTests t (Arrival a now) =
     guestTests (a .guest) now t
     (record { refusal = BadCost; holds = not (fair (a .cost)) }
+    ∷ record { refusal = BadDelta; holds = not (spread (a .delta) (a .rho)) }
     ∷ record { refusal = IdInUse; holds = not (lacks (calledBy a) (names t)) }
     ∷ record { refusal = NoRoom; holds = eqb (length (t .waiting)) (t .setup .capacity) }
     ∷ record { refusal = TagAboveCeiling; holds = passing (idle t (a .guest)) now a t }

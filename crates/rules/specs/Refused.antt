@@ -7,7 +7,7 @@ use mathlib.Core.List.{List, [], _∷_, List·Memᴰ}
 use mathlib.Core.Logic.{_↔_, _⊎_}
 use Prim.Native.Nat.{ℕ, _+_, _-_, _≤_, _<_}
 use lib.ListN.{length}
-use Rattle.rules.specs.Numbers.{ceiling, mostCredit, mostCost}
+use Rattle.rules.specs.Numbers.{ceiling, mostCredit, mostCost, mostDelta}
 use Rattle.rules.specs.Tables.{Settings, Request, Table, idle, names}
 use Rattle.rules.specs.Events.{Arriving, Event, Arrival, Completion, Tick, calledBy, smallest, stampedFor}
 
@@ -68,6 +68,10 @@ pub record Good (s : Settings) : Type 0 where
 abbrev pub Fair : (cost : ℕ) → Type 0
 Fair c = (1 ≤ c) × (c ≤ mostCost)
 
+-- what `spread` tests, document 02, K14: a delta that is not "outside 1 to 65,535", and a rho that is not "above delta"
+abbrev pub Spread : (delta rho : ℕ) → Type 0
+Spread delta rho = (1 ≤ delta) × (delta ≤ mostDelta) × (rho ≤ delta)
+
 -- THE CASES OF EACH CALL
 
 -- 5, "time above the ceiling", and 6, "time before the last accepted time"; then the cases cs
@@ -82,11 +86,13 @@ abbrev pub guestCases : (g now : ℕ) → Table → List Case → List Case
 guestCases g now t cs = record { number = 4; condition = length (t .guests) ≤ g } ∷ timeCases now t cs
 
 -- an event's own cases. 7, "arrival: guest has this id waiting or in flight"; 8, "arrival: waiting count equals capacity"; 9, "arrival: a tag
--- given, or a share tag moved, would pass the ceiling"; 10, "completion: guest has no such id in flight". Document 02, K8: "a cost outside 1 to 64 is 18, after 6 and before 7"
+-- given, or a share tag moved, would pass the ceiling"; 10, "completion: guest has no such id in flight". Document 02, K8: "a cost outside 1 to 64 is 18, after 6 and before 7";
+-- K14: "delta outside 1 to 65,535 or rho above delta is 20, after 18"
 unfoldable pub eventCases : Table → Event → List Case
 eventCases t (Arrival a now) =
     guestCases (a .guest) now t
     (record { number = 18; condition = Fair (a .cost) → ⊥ }
+    ∷ record { number = 20; condition = Spread (a .delta) (a .rho) → ⊥ }
     ∷ record { number = 7; condition = List·Memᴰ (calledBy a) (names t) }
     ∷ record { number = 8; condition = length (t .waiting) ≡ t .setup .capacity }
     ∷ record { number = 9; condition = Passing (idle t (a .guest)) now a t }

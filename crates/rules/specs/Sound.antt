@@ -5,7 +5,7 @@ use Prim.Native.Nat.{ℕ, _+_}
 use lib.Dec.{ltb, leb, eqb}
 use lib.ListN.{length}
 use Rattle.lists.specs.Words.{all, below}
-use Rattle.rules.specs.Numbers.{ceiling, mostCredit, mostCost, within, idleBound}
+use Rattle.rules.specs.Numbers.{ceiling, mostCredit, mostCost, mostDelta, within, idleBound}
 use Rattle.rules.specs.Tables.{Settings, Guest, Request, Flight, Table, reserved, limited, rspacing, lspacing, sspacing, owner, mine, lacks, names}
 
 -- "Depth .. 1 to 64", "1 to 64 guests", "Capacity .. 1 to 1,024"
@@ -52,6 +52,10 @@ lawful q = leb (q .rtag) ceiling && leb (q .ltag) ceiling && leb (q .stag) ceili
 unfoldable pub fair : (cost : ℕ) → Bool
 fair c = within 1 mostCost c
 
+-- document 02, K14: a delta that is not "outside 1 to 65,535", and a rho that is not "above delta"
+unfoldable pub spread : (delta rho : ℕ) → Bool
+spread delta rho = within 1 mostDelta delta && leb rho delta
+
 -- K8: "a cost outside 1 to 64 is 18 .. one kept in a table is 3"
 abbrev pub priced : Request → Bool
 priced q = fair (q .cost)
@@ -70,15 +74,19 @@ follows tag spacing (q ∷ []) n = eqb n (tag q + spacing q)
 follows tag spacing (q ∷ p ∷ l) n = follows tag spacing (p ∷ l) n
 
 -- one kind of tag of a guest, of which the requests l wait, and its next number n of that kind: in order where the guest has the kind; where it
--- does not, "meaningless numbers .. are zero". The gap is asked between neighbours, the spacing leads to the next number: `orderly` has one for both
+-- does not, "meaningless numbers .. are zero". The gap is asked between neighbours, the spacing leads to the next number: they differ for reservations only
 unfoldable pub kept : (has : Bool) (tag gap spacing : Request → ℕ) → List Request → (next : ℕ) → Bool
 kept true tag gap spacing l n = apart tag gap l && follows tag spacing l n
 kept false tag gap spacing l n = eqb n 0 && all (λ q. eqb (tag q) 0) l
 
+-- document 02, K14: "Soundness then asks only that a guest's reservation tags do not fall": no gap between them
+abbrev pub noGap : Request → ℕ
+noGap q = 0
+
 -- all three kinds of the guest h, of which the requests l wait; every guest has share tags
 unfoldable pub orderly : Guest → List Request → Bool
 orderly h l =
-    kept (reserved (h .settings)) Request.rtag (rspacing (h .settings)) (rspacing (h .settings)) l (h .rnext)
+    kept (reserved (h .settings)) Request.rtag noGap (rspacing (h .settings)) l (h .rnext)
     && kept (limited (h .settings)) Request.ltag (lspacing (h .settings)) (lspacing (h .settings)) l (h .lnext)
     && kept true Request.stag (sspacing (h .settings)) (sspacing (h .settings)) l (h .snext)
 

@@ -1,6 +1,4 @@
 // The types that the code and the definitions of document 01 share. What each case means to the paper is in specs/Answers.antt.
-ghost use mathlib.Core.Path.{_≡_};
-ghost use Rattle.rules.specs.Answers.{numberOf};
 
 // What is set of a guest: its reservation, 0 for none, its limit, 0 for unlimited, its shares, and its credit, the spacings that its share tags may
 // lie back.
@@ -41,11 +39,14 @@ pub struct Gate {
     pub flight: u64,
 }
 
-// The request that an arrival brings: whose, its id, and its cost, of any size until it is judged.
+// The request that an arrival brings: whose, its id, its cost, and what its guest completed since the last one, all told (delta) and by reservation
+// (rho); the last three of any size until they are judged.
 pub struct Arriving {
     pub guest: u64,
     pub id: u32,
     pub cost: u64,
+    pub delta: u64,
+    pub rho: u64,
 }
 
 // An event and its time: a request arrives, one completes, or only time passes.
@@ -82,7 +83,9 @@ pub enum Refusal {
     TooManyEvents,
     BadCost,
     NoWayBack,
+    BadDelta,
     RoomShort,
+    NoArray,
 }
 
 // What a call answers: nothing is sent, a request is sent, or the call is refused.
@@ -103,32 +106,4 @@ pub struct Outcome {
     pub gate: Gate,
     pub answer: Answer,
     pub wake: Wake,
-}
-
-// The paper's number of a refusal.
-pub fn number(refusal: Refusal) -> u64
-    ensures { λ r. ⌜ r ≡ numberOf refusal ⌝ }
-{
-    match refusal {
-        Refusal::BadSetting => 1,
-        Refusal::ShortTable => 2,
-        Refusal::Unsound => 3,
-        Refusal::UnknownGuest => 4,
-        Refusal::TimeAboveCeiling => 5,
-        Refusal::TimeBeforeLast => 6,
-        Refusal::IdInUse => 7,
-        Refusal::NoRoom => 8,
-        Refusal::TagAboveCeiling => 9,
-        Refusal::NotInFlight => 10,
-        Refusal::BadMark => 11,
-        Refusal::BadVersion => 12,
-        Refusal::HeaderCut => 13,
-        Refusal::BadEvent => 14,
-        Refusal::EventCut => 15,
-        Refusal::AnswersShort => 16,
-        Refusal::TooManyEvents => 17,
-        Refusal::BadCost => 18,
-        Refusal::NoWayBack => 19,
-        Refusal::RoomShort => 21,
-    }
 }

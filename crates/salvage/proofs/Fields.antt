@@ -38,7 +38,7 @@ moment-from k u g i t = go (eqb k 0) (eqb k 1 && eqb u 0) (eqb k 2 && eqb u 0 &&
   where
     go : (a b c : Bool)
         → momentOr t
-        (if a then Good (Arrival (record { guest = g; id = i; cost = u + 1 }) t)
+        (if a then Good (Arrival (record { guest = g; id = i; cost = u + 1; delta = 1; rho = 1 }) t)
         else if b then Good (Completion (record { guest = g; id = i }) t)
         else if c then Good (Tick t)
         else Bad)

@@ -16,7 +16,7 @@ use Rattle.rules.specs.Tables.{Request, reserved, limited, splain, rspacing, ls
 use Rattle.rules.specs.declared.Settings.{Settings}
 use Rattle.rules.specs.declared.Guest.{Guest}
 use Rattle.rules.proofs.Spacings.{down-le, fair-is, cost-le}
-use Rattle.rules.specs.Sound.{lawful, priced, apart, follows, kept, orderly}
+use Rattle.rules.specs.Sound.{lawful, priced, apart, follows, kept, noGap, orderly}
 use Rattle.table.specs.Columns.{SNEXT, STAG, waitingWide, guestAt, waitingAt}
 use Rattle.table.specs.View.{guestForm, requestForm, guestsOf, waitingOf}
 use Rattle.walks.specs.Survey.{idleIn}
@@ -54,7 +54,7 @@ kept-shares : (h : Guest) (l : List Request) → orderly h l ≡ true → kept t
 unfolding orderly
 kept-shares h l e =
     both
-    (kept (reserved (h .settings)) Request.rtag (rspacing (h .settings)) (rspacing (h .settings)) l (h .rnext)
+    (kept (reserved (h .settings)) Request.rtag noGap (rspacing (h .settings)) l (h .rnext)
     && kept (limited (h .settings)) Request.ltag (lspacing (h .settings)) (lspacing (h .settings)) l (h .lnext))
     (kept true Request.stag (sspacing (h .settings)) (sspacing (h .settings)) l (h .snext)) e .1
 

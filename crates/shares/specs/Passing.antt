@@ -11,7 +11,7 @@ use Rattle.lists.specs.WordsLaws.{both}
 use Rattle.rules.specs.Numbers.{ceiling}
 use Rattle.rules.specs.Tables.{Request, Table, reserved, limited, owner}
 use Rattle.rules.specs.Sound.{lawful}
-use Rattle.rules.specs.Events.{smallest, shifted, adjusted, tagIf, shareTag, stamped}
+use Rattle.rules.specs.Events.{smallest, shifted, adjusted, tagIf, shareTag, stamped, raised}
 use Rattle.rules.specs.declared.Arriving.{Arriving}
 use Rattle.rules.specs.Refusals.{passing}
 use Rattle.walks.specs.Survey.{highest}
@@ -61,13 +61,13 @@ module _ (now : ℕ) (t : Table) (timely : now ≤ ceiling) (fit : all lawful (t
 
   -- refusal 9, of the ends of the share tags that wait, and the tags that the arriving request gets
   pub passing-is : (idle : Bool) (a : Arriving) →
-      let h = owner (t .guests) (a .guest) in
+      let h = raised a (owner (t .guests) (a .guest)) in
       passing idle now a t
       ≡ not
       (movesFit idle now (smallest t) (highest (map Request.stag (t .waiting)))
       && lawfulTags (tagIf (reserved (h .settings)) now (h .rnext)) (tagIf (limited (h .settings)) now (h .lnext)) (shareTag idle now h))
   unfolding stamped lawful
-  passing-is idle a = ap (λ (b : Bool). not (b && lawful (stamped idle now a (owner (t .guests) (a .guest))))) (settled-lawful idle)
+  passing-is idle a = ap (λ (b : Bool). not (b && lawful (stamped idle now a (raised a (owner (t .guests) (a .guest)))))) (settled-lawful idle)
 
 -- THE ENDS of lawful requests: the sums above stay within 64 bits
 

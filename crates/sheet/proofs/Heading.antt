@@ -22,9 +22,9 @@ use Rattle.trace.proofs.FirstRead.{longest, longest-fits, settings-same, header
 use Rattle.stream.specs.Outcome.{May, Last, First}
 use Rattle.stream.proofs.Firsts.{full-or-all}
 use Rattle.book.specs.Page.{firstPage}
-use Rattle.sheet.specs.Sheet.{Stand, closing, begunSheet, sheetBy, sheetOf}
-use Rattle.sheet.specs.Standing.{more, Standing}
-use Rattle.sheet.proofs.Fairness.{fair-first}
+use Rattle.pages.specs.Sheet.{Stand, closing, begunSheet, sheetBy, sheetOf}
+use Rattle.pages.specs.Standing.{more, Standing}
+use Rattle.pages.proofs.Fairness.{fair-first}
 
 -- FIRST BYTES bs that hold any header, or are all there is, and the bytes behind them
 module _ (bs later : List ℕ) where

@@ -1,10 +1,3 @@
-pub mod Printing
-pub mod Splitting
-pub mod Going
-pub mod Fairness
 pub mod Opening
 pub mod Heading
-pub mod Pumping
 pub mod Whole
-pub mod AfterRun
-pub mod Alike

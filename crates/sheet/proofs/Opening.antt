@@ -19,8 +19,8 @@ use Rattle.book.specs.Page.{firstPage}
 use Rattle.tally.specs.Columns.{figuresWide, figuresLong, figureAt}
 use Rattle.tally.specs.Kept.{entryAt, bookOf, figuresIn, figuresOf, pageOf}
 use Rattle.begin.specs.Begin.{Begins}
-use Rattle.sheet.specs.Sheet.{begunSheet}
-use Rattle.sheet.specs.Standing.{Roomy, standOf, Firm}
+use Rattle.pages.specs.Sheet.{begunSheet}
+use Rattle.pages.specs.Standing.{Roomy, standOf, Firm}
 
 -- a list of the same at every place
 same-at : {A B : Type 0} (b : B) (l : List A) (k : ℕ) → getD (map (λ x. b) l) k b ≡ b

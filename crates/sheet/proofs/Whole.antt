@@ -7,8 +7,8 @@ use Rattle.stream.specs.Outcome.{MOST, Begins}
 use Rattle.stream.specs.declared.End.{End}
 use Rattle.stream.specs.declared.End.the-variants.{Whole}
 use Rattle.stream.proofs.Outcomes.{ran-whole, ran-beginning}
-use Rattle.sheet.specs.Sheet.{sheetOf}
-use Rattle.sheet.specs.Standing.{Listed}
+use Rattle.pages.specs.Sheet.{sheetOf}
+use Rattle.pages.specs.Standing.{Listed}
 
 -- THE PROGRAM: where it ends well, and the input has ended, what was written is the sheet of all the bytes that were read
 pub whole : (n : ℕ) → Listed Whole n → (t : Tape) × Holds n t × (t .ended ≡ true → t .wrote ≡ sheetOf (t .read))

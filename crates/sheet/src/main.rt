@@ -1,5 +1,6 @@
 // Reads a trace from standard input and prints its sheet: a line for each guest. `main` makes the arrays. Each function is told by the count `log`
-// what was read before it, and promises what was after it: specs/Standing.antt. It reads and writes by `stream` alone, and writes at the end.
+// what was read before it, and promises what was after it: crates/pages/specs/Standing.antt. It reads and writes by `stream` alone, and writes at the end.
+use headers::read_header;
 use rules::Refusal;
 use stream::End;
 use stream::Filled;
@@ -10,7 +11,6 @@ use table::columns::WAITING_LONG;
 use tally::columns::BOOK_LONG;
 use tally::columns::FIGURES_LONG;
 use trace::Header;
-use trace::opening::read_header;
 ghost use mathlib.Core.Path.{_≡_};
 ghost use Prim.Native.Nat.{_≤_};
 ghost use lib.ListN.{length, take};
@@ -20,12 +20,8 @@ ghost use Rattle.trace.specs.Header.{headerOf};
 ghost use Rattle.trace.specs.declared.Header.the-variants.{Opened};
 ghost use Rattle.begin.specs.Begin.{Largest};
 ghost use Rattle.stream.specs.Outcome.{Last, First};
-ghost use Rattle.sheet.specs.Sheet.{sheetOf};
-ghost use Rattle.sheet.specs.Standing.{Roomy, Listed};
-
-mod events; // the events turn the page, a buffer at a turn
-mod figures; // the lines of the figures
-mod output; // what is printed is handed on to be written
+ghost use Rattle.pages.specs.Sheet.{sheetOf};
+ghost use Rattle.pages.specs.Standing.{Roomy, Listed};
 
 // Makes the arrays, each for the largest settings, runs the trace on them, and says on standard error where a read or a write failed.
 fn main() {
@@ -147,7 +143,7 @@ fn refuse(refusal: Refusal, log: &mut u64) -> End
 {
     let mut out = [0u8; 65];
     let n = lines::put_refusal(&mut out, 0, refusal);
-    output::last(&out, n, log)
+    pages::output::last(&out, n, log)
 }
 
 // A good header: opens the tables, clears the figures, and goes on with the events. A buffer that is not full holds all of the input.
@@ -191,7 +187,7 @@ fn follow(
     let gate = begun.gate;
     moves::rows::clear(figures, FIGURES_LONG);
     if have < 4096 {
-        return events::close(
+        return rolls::close(
             version,
             buffer,
             rest,
@@ -204,7 +200,7 @@ fn follow(
             log,
         );
     }
-    events::pump(
+    rolls::pump(
         version,
         buffer,
         rest,

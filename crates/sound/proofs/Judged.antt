@@ -18,7 +18,7 @@ use Rattle.rules.proofs.Facts.{sound-is, is-sound}
 use Rattle.table.specs.Columns.{flightWide, waitingWide}
 use Rattle.table.specs.View.{guestForm, requestForm, flightForm, guestsOf, waitingOf, flightsOf, tableOf, countable, identified, zeroed, soundNumbers}
 use Rattle.entries.specs.Tests.{settledGuest, named, fits}
-use Rattle.sound.specs.Names.{namesOf}
+use Rattle.pairs.specs.Names.{namesOf}
 
 -- the order of guest g
 abbrev pub inOrder : Gate → (gs ws : List ℕ) → ℕ → Bool

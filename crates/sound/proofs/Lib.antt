@@ -1,8 +1,5 @@
 pub mod Fitted
-pub mod Places
-pub mod Buckets
 pub mod Judged
-pub mod Blocks
 pub mod Zeros
 pub mod SoundKnown
 pub mod Mine

@@ -135,7 +135,7 @@ module _ (P : Request → Bool) where
 
 -- ONE KIND of tag, by places
 
-module _ (has : Bool) (tag spacing : Request → ℕ) (w : List Request) (h next : ℕ) where
+module _ (has : Bool) (tag gap spacing : Request → ℕ) (w : List Request) (h next : ℕ) where
   -- the guest of a request, as a fact and as a test
   own : (q : Request) → q .guest ≡ h → of h q ≡ true
   own q e = eq-eqb (q .guest) h e
@@ -143,20 +143,20 @@ module _ (has : Bool) (tag spacing : Request → ℕ) (w : List Request) (h next
   is-own : (q : Request) → of h q ≡ true → q .guest ≡ h
   is-own q e = eqb-true (q .guest) h e
 
-  to-places : Kept has tag spacing (mine h w) next → KeptAt has tag spacing (at w) (length w) h next
+  to-places : Kept has tag gap spacing (mine h w) next → KeptAt has tag gap spacing (at w) (length w) h next
   to-places k =
       record {
-        spaced = λ e i j l m p q. omega (arith, pairs-whole (of h) (λ a b. tag a + spacing a ≤ tag b) w (k .spaced e) i j l m (own (at w i) p) (own (at w j) q));
+        spaced = λ e i j l m p q. omega (arith, pairs-whole (of h) (λ a b. tag a + gap a ≤ tag b) w (k .spaced e) i j l m (own (at w i) p) (own (at w j) q));
         next-follows = λ e i l p n. last-whole (of h) (λ q. next ≡ tag q + spacing q) w (k .next-follows e) i l (own (at w i) p) (λ j m o q. n j m o (is-own (at w j) q));
         idle-fits = λ e n. k .idle-fits e (none-mine (of h) w (λ j l p. n j (omega arith) l (is-own (at w j) p)));
         no-next = k .no-next;
         no-tags = λ e i l p. each-whole (of h) (λ q. tag q ≡ 0) w (k .no-tags e) i l (own (at w i) p);
       }
 
-  of-places : KeptAt has tag spacing (at w) (length w) h next → Kept has tag spacing (mine h w) next
+  of-places : KeptAt has tag gap spacing (at w) (length w) h next → Kept has tag gap spacing (mine h w) next
   of-places k =
       record {
-        spaced = λ e. pairs-mine (of h) (λ a b. tag a + spacing a ≤ tag b) w (λ i j l m p q. omega (arith, k .spaced e i j l m (is-own (at w i) p) (is-own (at w j) q)));
+        spaced = λ e. pairs-mine (of h) (λ a b. tag a + gap a ≤ tag b) w (λ i j l m p q. omega (arith, k .spaced e i j l m (is-own (at w i) p) (is-own (at w j) q)));
         next-follows = λ e. last-mine (of h) (λ q. next ≡ tag q + spacing q) w (λ i l p n. k .next-follows e i l (is-own (at w i) p) (λ j m o q. n j m o (own (at w j) q)));
         idle-fits = λ e z. k .idle-fits e (λ j m l p. none-whole (of h) w z j l (own (at w j) p));
         no-next = k .no-next;
@@ -164,13 +164,13 @@ module _ (has : Bool) (tag spacing : Request → ℕ) (w : List Request) (h next
       }
 
   -- what a kind of tag asks of the requests of a guest, it asks of the places that have one
-  pub kept-places : Kept has tag spacing (mine h w) next ↔ KeptAt has tag spacing (at w) (length w) h next
+  pub kept-places : Kept has tag gap spacing (mine h w) next ↔ KeptAt has tag gap spacing (at w) (length w) h next
   kept-places = (to-places, of-places)
 
 -- rows that are the same below the count
-pub kept-rows : (has : Bool) (tag spacing : Request → ℕ) (p q : ℕ → Request) (count h next : ℕ) → ((i : ℕ) → i < count → p i ≡ q i)
-    → KeptAt has tag spacing p count h next → KeptAt has tag spacing q count h next
-kept-rows has tag spacing p q count h next z k =
+pub kept-rows : (has : Bool) (tag gap spacing : Request → ℕ) (p q : ℕ → Request) (count h next : ℕ) → ((i : ℕ) → i < count → p i ≡ q i)
+    → KeptAt has tag gap spacing p count h next → KeptAt has tag gap spacing q count h next
+kept-rows has tag gap spacing p q count h next z k =
     record {
       spaced = λ e i j l m a b. let x = z i (omega arith) in let y = z j m in
           rw (← x, ← y) (k .spaced e i j l m (ap Request.guest x ∙ a) (ap Request.guest y ∙ b));

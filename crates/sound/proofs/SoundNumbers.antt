@@ -20,7 +20,7 @@ use Rattle.rules.specs.Tables.{Request, Table, reserved, limited, rspacing, lsp
 use Rattle.rules.specs.declared.Settings.{Settings}
 use Rattle.rules.specs.declared.Guest.{Guest}
 use Rattle.rules.specs.declared.Flight.{Flight}
-use Rattle.rules.specs.Sound.{sound}
+use Rattle.rules.specs.Sound.{sound, noGap}
 use Rattle.rules.specs.Refused.{Good, Fair}
 use Rattle.rules.specs.Chosen.{blank, at}
 use Rattle.rules.specs.declared.Gate.{Gate}
@@ -158,22 +158,22 @@ module _ (g : Gate) (gs ws fs : List ℕ) where
       (lt-or-le i (g .waiting))
 
   -- one kind of tag of guest h
-  module _ (has : Settings → Bool) (tag : Request → ℕ) (spacing : Settings → Request → ℕ) (next : Guest → ℕ) (h : ℕ) (known : h < g .guests) where
-    to-rows : Kept (has ((owner (t .guests) h) .settings)) tag (spacing ((owner (t .guests) h) .settings)) (mine h (t .waiting)) (next (owner (t .guests) h))
-        → KeptAt (has ((guestRow gs h) .settings)) tag (spacing ((guestRow gs h) .settings)) (waitingRow ws) (g .waiting) h (next (guestRow gs h))
+  module _ (has : Settings → Bool) (tag : Request → ℕ) (gap spacing : Settings → Request → ℕ) (next : Guest → ℕ) (h : ℕ) (known : h < g .guests) where
+    to-rows : Kept (has ((owner (t .guests) h) .settings)) tag (gap ((owner (t .guests) h) .settings)) (spacing ((owner (t .guests) h) .settings)) (mine h (t .waiting)) (next (owner (t .guests) h))
+        → KeptAt (has ((guestRow gs h) .settings)) tag (gap ((guestRow gs h) .settings)) (spacing ((guestRow gs h) .settings)) (waitingRow ws) (g .waiting) h (next (guestRow gs h))
     to-rows k =
-        let x = kept-places (has ((owner (t .guests) h) .settings)) tag (spacing ((owner (t .guests) h) .settings)) (t .waiting) h (next (owner (t .guests) h)) .0 k in
-        kept-rows (has ((guestRow gs h) .settings)) tag (spacing ((guestRow gs h) .settings)) (at (t .waiting)) (waitingRow ws) (g .waiting) h (next (guestRow gs h)) waiting-is
-        (subst (λ (m : ℕ). KeptAt (has ((guestRow gs h) .settings)) tag (spacing ((guestRow gs h) .settings)) (at (t .waiting)) m h (next (guestRow gs h))) long
-        (subst (λ (y : Guest). KeptAt (has (y .settings)) tag (spacing (y .settings)) (at (t .waiting)) (length (t .waiting)) h (next y)) (guest-is h known) x))
+        let x = kept-places (has ((owner (t .guests) h) .settings)) tag (gap ((owner (t .guests) h) .settings)) (spacing ((owner (t .guests) h) .settings)) (t .waiting) h (next (owner (t .guests) h)) .0 k in
+        kept-rows (has ((guestRow gs h) .settings)) tag (gap ((guestRow gs h) .settings)) (spacing ((guestRow gs h) .settings)) (at (t .waiting)) (waitingRow ws) (g .waiting) h (next (guestRow gs h)) waiting-is
+        (subst (λ (m : ℕ). KeptAt (has ((guestRow gs h) .settings)) tag (gap ((guestRow gs h) .settings)) (spacing ((guestRow gs h) .settings)) (at (t .waiting)) m h (next (guestRow gs h))) long
+        (subst (λ (y : Guest). KeptAt (has (y .settings)) tag (gap (y .settings)) (spacing (y .settings)) (at (t .waiting)) (length (t .waiting)) h (next y)) (guest-is h known) x))
 
-    of-rows : KeptAt (has ((guestRow gs h) .settings)) tag (spacing ((guestRow gs h) .settings)) (waitingRow ws) (g .waiting) h (next (guestRow gs h))
-        → Kept (has ((owner (t .guests) h) .settings)) tag (spacing ((owner (t .guests) h) .settings)) (mine h (t .waiting)) (next (owner (t .guests) h))
+    of-rows : KeptAt (has ((guestRow gs h) .settings)) tag (gap ((guestRow gs h) .settings)) (spacing ((guestRow gs h) .settings)) (waitingRow ws) (g .waiting) h (next (guestRow gs h))
+        → Kept (has ((owner (t .guests) h) .settings)) tag (gap ((owner (t .guests) h) .settings)) (spacing ((owner (t .guests) h) .settings)) (mine h (t .waiting)) (next (owner (t .guests) h))
     of-rows k =
-        let x = kept-rows (has ((guestRow gs h) .settings)) tag (spacing ((guestRow gs h) .settings)) (waitingRow ws) (at (t .waiting)) (g .waiting) h (next (guestRow gs h)) (λ i l. sym (waiting-is i l)) k in
-        kept-places (has ((owner (t .guests) h) .settings)) tag (spacing ((owner (t .guests) h) .settings)) (t .waiting) h (next (owner (t .guests) h)) .1
-        (subst (λ (y : Guest). KeptAt (has (y .settings)) tag (spacing (y .settings)) (at (t .waiting)) (length (t .waiting)) h (next y)) (sym (guest-is h known))
-        (subst (λ (m : ℕ). KeptAt (has ((guestRow gs h) .settings)) tag (spacing ((guestRow gs h) .settings)) (at (t .waiting)) m h (next (guestRow gs h))) (sym long) x))
+        let x = kept-rows (has ((guestRow gs h) .settings)) tag (gap ((guestRow gs h) .settings)) (spacing ((guestRow gs h) .settings)) (waitingRow ws) (at (t .waiting)) (g .waiting) h (next (guestRow gs h)) (λ i l. sym (waiting-is i l)) k in
+        kept-places (has ((owner (t .guests) h) .settings)) tag (gap ((owner (t .guests) h) .settings)) (spacing ((owner (t .guests) h) .settings)) (t .waiting) h (next (owner (t .guests) h)) .1
+        (subst (λ (y : Guest). KeptAt (has (y .settings)) tag (gap (y .settings)) (spacing (y .settings)) (at (t .waiting)) (length (t .waiting)) h (next y)) (sym (guest-is h known))
+        (subst (λ (m : ℕ). KeptAt (has ((guestRow gs h) .settings)) tag (gap ((guestRow gs h) .settings)) (spacing ((guestRow gs h) .settings)) (at (t .waiting)) m h (next (guestRow gs h))) (sym long) x))
 
   to : SoundTable t → identified t ≡ true → zeroed (requestForm .wide) (g .setup .capacity) (g .waiting) ws ≡ true → zeroed (flightForm .wide) (g .setup .depth) (g .flight) fs ≡ true
       → SoundNumbers g gs ws fs
@@ -203,9 +203,9 @@ module _ (g : Gate) (gs ws fs : List ℕ) where
             (s .tags-fit (at (t .waiting) i) (place-mem (t .waiting) i blank (omega (arith, long))));
         costs-fit = λ i k.
             subst (λ (q : Request). Fair (q .cost)) (waiting-is i k) (s .costs-fit (at (t .waiting) i) (place-mem (t .waiting) i blank (omega (arith, long))));
-        reservations = λ h k. to-rows reserved Request.rtag rspacing Guest.rnext h k (s .reservations h (omega (arith, many)));
-        limits = λ h k. to-rows limited Request.ltag lspacing Guest.lnext h k (s .limits h (omega (arith, many)));
-        shares = λ h k. to-rows (λ x. true) Request.stag sspacing Guest.snext h k (s .shares h (omega (arith, many)));
+        reservations = λ h k. to-rows reserved Request.rtag (λ x. noGap) rspacing Guest.rnext h k (s .reservations h (omega (arith, many)));
+        limits = λ h k. to-rows limited Request.ltag lspacing lspacing Guest.lnext h k (s .limits h (omega (arith, many)));
+        shares = λ h k. to-rows (λ x. true) Request.stag sspacing sspacing Guest.snext h k (s .shares h (omega (arith, many)));
         waiting-zeros = λ i l. zeroed-places (requestForm .wide) (g .setup .capacity) (g .waiting) ws zw i (omega arith);
         flight-zeros = λ i l. zeroed-places (flightForm .wide) (g .setup .depth) (g .flight) fs zf i (omega arith);
         waiting-ids = λ i k. omega (arith, ids i (omega (arith, count)), ap Flight.id (name-waiting i k));
@@ -234,9 +234,9 @@ module _ (g : Gate) (gs ws fs : List ℕ) where
             let (i, k, e) = mem-place q (t .waiting) blank m in
             let l : i < g .waiting = omega (arith, long) in
             subst (λ (q : Request). Fair (q .cost)) (sym (waiting-is i l) ∙ e) (s .costs-fit i l);
-        reservations = λ h k. let l : h < g .guests = omega (arith, many) in of-rows reserved Request.rtag rspacing Guest.rnext h l (s .reservations h l);
-        limits = λ h k. let l : h < g .guests = omega (arith, many) in of-rows limited Request.ltag lspacing Guest.lnext h l (s .limits h l);
-        shares = λ h k. let l : h < g .guests = omega (arith, many) in of-rows (λ x. true) Request.stag sspacing Guest.snext h l (s .shares h l);
+        reservations = λ h k. let l : h < g .guests = omega (arith, many) in of-rows reserved Request.rtag (λ x. noGap) rspacing Guest.rnext h l (s .reservations h l);
+        limits = λ h k. let l : h < g .guests = omega (arith, many) in of-rows limited Request.ltag lspacing lspacing Guest.lnext h l (s .limits h l);
+        shares = λ h k. let l : h < g .guests = omega (arith, many) in of-rows (λ x. true) Request.stag sspacing sspacing Guest.snext h l (s .shares h l);
       }
     where
       settings : (x : Settings) → List·Memᴰ x (map Guest.settings (t .guests)) → Good x

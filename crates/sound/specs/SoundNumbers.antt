@@ -10,6 +10,7 @@ use Rattle.rules.specs.Numbers.{ceiling, second, mostCost}
 use Rattle.rules.specs.Tables.{Request, reserved, limited, rspacing, lspacing, sspacing, name}
 use Rattle.rules.specs.declared.Guest.{Guest}
 use Rattle.rules.specs.declared.Flight.{Flight}
+use Rattle.rules.specs.Sound.{noGap}
 use Rattle.rules.specs.Refused.{Countable, Ruled, Good, Fair}
 use Rattle.rules.specs.declared.Gate.{Gate}
 use Rattle.table.specs.View.{guestForm, requestForm, flightForm}
@@ -31,9 +32,10 @@ abbrev pub NoneFrom : (row : ℕ → Request) (i count h : ℕ) → Type 0
 NoneFrom row i count h = (j : ℕ) → i ≤ j → j < count → (row j) .guest ≡ h → ⊥
 
 -- one kind of tag of guest h, and its next number, where count requests wait: the guest has this kind, or lacks it
-pub record KeptAt (has : Bool) (tag spacing : Request → ℕ) (row : ℕ → Request) (count h next : ℕ) : Type 0 where
-  -- "within a guest, each later waiting request's tag of each kind it has is at least the earlier one's plus the spacing"
-  pub spaced : has ≡ true → (i j : ℕ) → i < j → j < count → (row i) .guest ≡ h → (row j) .guest ≡ h → tag (row i) + spacing (row i) ≤ tag (row j)
+pub record KeptAt (has : Bool) (tag gap spacing : Request → ℕ) (row : ℕ → Request) (count h next : ℕ) : Type 0 where
+  -- "within a guest, each later waiting request's tag of each kind it has is at least the earlier one's plus the spacing", or what gap
+  -- there must be
+  pub spaced : has ≡ true → (i j : ℕ) → i < j → j < count → (row i) .guest ≡ h → (row j) .guest ≡ h → tag (row i) + gap (row i) ≤ tag (row j)
   -- "for a guest with something waiting, each next number it has is its last waiting tag plus the spacing"
   pub next-follows : has ≡ true → (i : ℕ) → i < count → (row i) .guest ≡ h → NoneFrom row (suc i) count h → next ≡ tag (row i) + spacing (row i)
   -- document 02, K8: "an idle guest's next number is at most the ceiling plus 64,000,000,000"
@@ -64,13 +66,13 @@ pub record SoundNumbers (g : Gate) (gs ws fs : List ℕ) : Type 0 where
   pub tags-fit : (i : ℕ) → i < g .waiting → ((waitingRow ws i) .rtag ≤ ceiling) × ((waitingRow ws i) .ltag ≤ ceiling) × ((waitingRow ws i) .stag ≤ ceiling)
   -- document 02, K8: "a cost outside 1 to 64 is 18 .. one kept in a table is 3"
   pub costs-fit : (i : ℕ) → i < g .waiting → Fair ((waitingRow ws i) .cost)
-  -- "within a guest", each kind it has, and those it lacks
+  -- "within a guest", each kind it has, and those it lacks. Document 02, K14: "Soundness then asks only that a guest's reservation tags do not fall"
   pub reservations : (h : ℕ) → h < g .guests
-      → KeptAt (reserved ((guestRow gs h) .settings)) Request.rtag (rspacing ((guestRow gs h) .settings)) (waitingRow ws) (g .waiting) h ((guestRow gs h) .rnext)
+      → KeptAt (reserved ((guestRow gs h) .settings)) Request.rtag noGap (rspacing ((guestRow gs h) .settings)) (waitingRow ws) (g .waiting) h ((guestRow gs h) .rnext)
   pub limits : (h : ℕ) → h < g .guests
-      → KeptAt (limited ((guestRow gs h) .settings)) Request.ltag (lspacing ((guestRow gs h) .settings)) (waitingRow ws) (g .waiting) h ((guestRow gs h) .lnext)
+      → KeptAt (limited ((guestRow gs h) .settings)) Request.ltag (lspacing ((guestRow gs h) .settings)) (lspacing ((guestRow gs h) .settings)) (waitingRow ws) (g .waiting) h ((guestRow gs h) .lnext)
   pub shares : (h : ℕ) → h < g .guests
-      → KeptAt true Request.stag (sspacing ((guestRow gs h) .settings)) (waitingRow ws) (g .waiting) h ((guestRow gs h) .snext)
+      → KeptAt true Request.stag (sspacing ((guestRow gs h) .settings)) (sspacing ((guestRow gs h) .settings)) (waitingRow ws) (g .waiting) h ((guestRow gs h) .snext)
   -- "unused places are zero": every number of every place from the count to the capacity, and to the depth
   pub waiting-zeros : (i : ℕ) → g .waiting ≤ i → i < g .setup .capacity → (c : ℕ) → c < requestForm .wide → getD ws (i * requestForm .wide + c) 0 ≡ 0
   pub flight-zeros : (i : ℕ) → g .flight ≤ i → i < g .setup .depth → (c : ℕ) → c < flightForm .wide → getD fs (i * flightForm .wide + c) 0 ≡ 0

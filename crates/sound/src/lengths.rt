@@ -1,9 +1,9 @@
 // Whether the counts of a gate lie in their ranges, and whether lent tables are long enough for them.
+use ranges::is_counted;
 use rules::Gate;
 use table::columns::FLIGHT_WIDE;
 use table::columns::GUEST_WIDE;
 use table::columns::WAITING_WIDE;
-use table::ranges::is_counted;
 ghost use mathlib.Core.Path.{_≡_};
 ghost use Rattle.table.specs.View.{countable, short};
 

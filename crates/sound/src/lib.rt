@@ -1,17 +1,15 @@
 // Whether lent tables are sound, by the numbers in them. Functions for this repository's own crates.
 pub mod lengths; // counts in range, and tables long enough for them
-pub mod pairs; // no request twice
-pub mod unused; // the places past the counts
 
-use entries::kinds::all_orderly;
 use entries::requests::all_fit;
 use entries::requests::all_flown;
 use entries::requests::all_named;
 use entries::settings::all_settled;
+use orders::all_orderly;
 use pairs::all_once;
+use ranges::is_ruled;
 use rules::Gate;
-use table::numbers::CEILING;
-use table::ranges::is_ruled;
+use tags::CEILING;
 use unused::is_clear;
 ghost use mathlib.Core.Path.{_≡_};
 ghost use Rattle.table.specs.View.{soundNumbers};

@@ -49,7 +49,7 @@ pub fn step_and_wake(
     match answer {
         Answer::Refused(why) => gates::refused(after, why),
         _ => {
-            let wake = choose::wake_of(after, &guests[..], &waiting[..]);
+            let wake = sends::wake_of(after, &guests[..], &waiting[..]);
             gates::answered(after, answer, wake)
         }
     }

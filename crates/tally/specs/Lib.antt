@@ -1,4 +1,3 @@
 pub mod Columns
 pub mod Kept
 pub mod Notes
-pub mod Turns

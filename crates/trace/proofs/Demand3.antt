@@ -10,10 +10,10 @@ use Rattle.rules.specs.Tables.{Request, Table}
 use Rattle.rules.specs.declared.Event.{Event}
 use Rattle.rules.specs.Refused.{NoneHolds}
 use Rattle.rules.specs.Run.{step}
-use Rattle.rules.specs.Turn.{isDue, ahead, sorted, findsRoom, atFree, InTurn}
-use Rattle.rules.specs.TurnAt.{TurnKept}
-use Rattle.rules.proofs.Demand3.{demand-3}
-use Rattle.rules.proofs.TurnAt.{demand-3-places}
+use Rattle.turns.specs.Turn.{isDue, ahead, sorted, findsRoom, atFree, InTurn}
+use Rattle.turns.specs.TurnAt.{TurnKept}
+use Rattle.turns.proofs.Demand3.{demand-3}
+use Rattle.turns.proofs.TurnAt.{demand-3-places}
 use Rattle.rules.specs.declared.Answer.{Answer}
 use Rattle.trace.specs.Header.{versionOf, ruleOf}
 use Rattle.trace.specs.Event.{whole}

@@ -45,7 +45,11 @@ isBad kind upper guest id = ltb 2 kind || (not (eqb kind 0) && not (eqb upper 0)
 abbrev pub costShown : (kind upper : ℕ) → ℕ
 costShown kind upper = if eqb kind 0 then upper + 1 else 0
 
-from-shown : (k u g i t : ℕ) → readShown (eventFrom k u g i t) ≡ (if isBad k u g i then 14 ∷ [] else k ∷ g ∷ i ∷ t ∷ costShown k u ∷ [])
+-- and of delta and rho: 1 of an arrival, none of another event
+abbrev pub countShown : (kind : ℕ) → ℕ
+countShown kind = if eqb kind 0 then 1 else 0
+
+from-shown : (k u g i t : ℕ) → readShown (eventFrom k u g i t) ≡ (if isBad k u g i then 14 ∷ [] else k ∷ g ∷ i ∷ t ∷ costShown k u ∷ countShown k ∷ countShown k ∷ [])
 unfolding eventFrom
 from-shown zero u g i t = refl
 from-shown (suc zero) zero g i t = refl
@@ -61,7 +65,7 @@ from-shown (suc (suc (suc k))) u g i t =
 -- an event is what its bytes say, field by field, or it is bad
 pub event-shown : (v : ℕ) (bs : List ℕ)
     → readShown (eventOf v bs)
-    ≡ (if isBad (kindIn v (byteAt bs 0)) (upperIn v (byteAt bs 0)) (byteAt bs 1) (fourAt bs 2) then 14 ∷ [] else kindIn v (byteAt bs 0) ∷ byteAt bs 1 ∷ fourAt bs 2 ∷ eightAt bs 6 ∷ costShown (kindIn v (byteAt bs 0)) (upperIn v (byteAt bs 0)) ∷ [])
+    ≡ (if isBad (kindIn v (byteAt bs 0)) (upperIn v (byteAt bs 0)) (byteAt bs 1) (fourAt bs 2) then 14 ∷ [] else kindIn v (byteAt bs 0) ∷ byteAt bs 1 ∷ fourAt bs 2 ∷ eightAt bs 6 ∷ costShown (kindIn v (byteAt bs 0)) (upperIn v (byteAt bs 0)) ∷ countShown (kindIn v (byteAt bs 0)) ∷ countShown (kindIn v (byteAt bs 0)) ∷ [])
 unfolding eventOf
 event-shown v bs = from-shown (kindIn v (byteAt bs 0)) (upperIn v (byteAt bs 0)) (byteAt bs 1) (fourAt bs 2) (eightAt bs 6)
 

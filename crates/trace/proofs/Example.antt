@@ -5,9 +5,9 @@ use mathlib.Core.List.{List, [], _∷_, _++_}
 use Rattle.lists.specs.Words.{lowest}
 use Rattle.rules.specs.Numbers.{down, up}
 use Rattle.rules.specs.Tables.{idle}
-use Rattle.rules.specs.Sound.{counted, settled, ranges, distinct, lawful, fair, kept, orderly, ruled, sound}
-use Rattle.rules.specs.Choice.{dueAt, openAt, passesAt, sending, earlier, sooner, dropped, byWeight, byReservation, room, choice}
-use Rattle.rules.specs.Events.{shifted, shiftedNext, adjusted, back, shareTag, stamped, following, placed, arriveAs, arrive, complete, wait, enter}
+use Rattle.rules.specs.Sound.{counted, settled, ranges, distinct, lawful, fair, spread, kept, orderly, ruled, sound}
+use Rattle.rules.specs.Choice.{dueAt, openAt, passesAt, sending, earlier, renewed, dropped, byWeight, byReservation, room, choice}
+use Rattle.rules.specs.Events.{shifted, shiftedNext, adjusted, back, shareTag, stamped, following, placed, raised, arriveAs, arrive, complete, wait, enter}
 use Rattle.rules.specs.Refusals.{eventTests}
 use Rattle.rules.specs.Run.{decided, step, fresh}
 use Rattle.trace.specs.Header.{same, body, ruleIn, creditAt, headerTestsFor}
@@ -49,7 +49,7 @@ text =
 
 -- document 01's example, byte by byte
 pub example-printed : printed example ≡ text
-unfolding lowest down up idle counted settled ranges distinct lawful fair kept orderly sound ruled dueAt openAt passesAt sending earlier sooner dropped byWeight byReservation room choice shifted shiftedNext adjusted back shareTag stamped following placed arriveAs arrive complete wait enter eventTests decided step fresh same body ruleIn creditAt headerTestsFor kindIn upperIn eventFrom eventOf eventsOf decimalIn lineOf answered answersTo tableAfter linesFrom lines left cut finished printed
+unfolding lowest down up idle counted settled ranges distinct lawful fair spread kept orderly sound ruled dueAt openAt passesAt sending earlier renewed dropped byWeight byReservation room choice shifted shiftedNext adjusted back shareTag stamped following placed raised arriveAs arrive complete wait enter eventTests decided step fresh same body ruleIn creditAt headerTestsFor kindIn upperIn eventFrom eventOf eventsOf decimalIn lineOf answered answersTo tableAfter linesFrom lines left cut finished printed
 example-printed = refl
 
 -- HEADERS AND EVENTS THAT ARE REFUSED

@@ -1,5 +1,4 @@
 pub mod HeaderLaws
-pub mod SettingsRows
 pub mod EventLaws
 pub mod RunLaws
 pub mod Runs

@@ -29,7 +29,7 @@ header-shown-once (Refused r) (Refused s) h = ap Refused (numberOf-once r s (ap 
 -- two events that are shown alike are equal
 pub read-shown-once : (a b : Read) → readShown a ≡ readShown b → a ≡ b
 unfolding at
-read-shown-once (Good (Arrival x t)) (Good (Arrival y u)) h = λ n. Good (Arrival (record { guest = ap (at 1) h n; id = ap (at 2) h n; cost = ap (at 4) h n }) (ap (at 3) h n))
+read-shown-once (Good (Arrival x t)) (Good (Arrival y u)) h = λ n. Good (Arrival (record { guest = ap (at 1) h n; id = ap (at 2) h n; cost = ap (at 4) h n; delta = ap (at 5) h n; rho = ap (at 6) h n }) (ap (at 3) h n))
 read-shown-once (Good (Arrival x t)) (Good (Completion y u)) h = absurd (omega (arith, ap (at 0) h))
 read-shown-once (Good (Arrival x t)) (Good (Tick u)) h = absurd (omega (arith, ap (at 0) h))
 read-shown-once (Good (Arrival x t)) Bad h = absurd (omega (arith, ap (at 0) h))

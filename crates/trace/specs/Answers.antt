@@ -9,7 +9,7 @@ use Rattle.rules.specs.Answers.{taken}
 use Rattle.rules.specs.declared.Event.{Event}
 use Rattle.rules.specs.Run.{fresh}
 use Rattle.rules.specs.Order.{brings}
-use Rattle.rules.specs.Turn.{findsRoom}
+use Rattle.turns.specs.Turn.{findsRoom}
 use Rattle.rules.specs.declared.Refusal.the-variants.{EventCut}
 use Rattle.rules.specs.declared.Answer.{Answer}
 use Rattle.rules.specs.declared.Answer.the-variants.{Nothing, Refused}

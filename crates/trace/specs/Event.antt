@@ -15,11 +15,11 @@ use Rattle.trace.specs.Header.{isTwo}
 use Rattle.trace.specs.declared.Read.{Read}
 use Rattle.trace.specs.declared.Read.the-variants.{Good, Bad}
 
--- the paper's number and values of an event: its kind, guest, id and time as they stand in the bytes, and the cost of an arrival, or 14 where it is bad
+-- the paper's number and values of an event: its kind, guest, id and time as they stand in the bytes, and the cost, delta and rho of an arrival, or 14 where it is bad
 abbrev pub readShown : Read → List ℕ
-readShown (Good (Arrival a time)) = 0 ∷ a .guest ∷ a .id ∷ time ∷ a .cost ∷ []
-readShown (Good (Completion f time)) = 1 ∷ f .guest ∷ f .id ∷ time ∷ 0 ∷ []
-readShown (Good (Tick time)) = 2 ∷ 0 ∷ 0 ∷ time ∷ 0 ∷ []
+readShown (Good (Arrival a time)) = 0 ∷ a .guest ∷ a .id ∷ time ∷ a .cost ∷ a .delta ∷ a .rho ∷ []
+readShown (Good (Completion f time)) = 1 ∷ f .guest ∷ f .id ∷ time ∷ 0 ∷ 0 ∷ 0 ∷ []
+readShown (Good (Tick time)) = 2 ∷ 0 ∷ 0 ∷ time ∷ 0 ∷ 0 ∷ 0 ∷ []
 readShown Bad = numberOf BadEvent ∷ []
 
 -- THE FIRST BYTE
@@ -38,10 +38,10 @@ eventByte kind upper = upper * 4 + kind
 
 -- AN EVENT
 
--- an event of this kind, upper part, guest, id and time
+-- an event of this kind, upper part, guest, id and time. A trace is one array's, and has no delta and rho (document 02, K14): they are 1 and 1
 unfoldable pub eventFrom : (kind upper guest id time : ℕ) → Read
 eventFrom kind upper guest id time =
-    if eqb kind 0 then Good (Arrival (record { guest = guest; id = id; cost = upper + 1 }) time)
+    if eqb kind 0 then Good (Arrival (record { guest = guest; id = id; cost = upper + 1; delta = 1; rho = 1 }) time)
     else if eqb kind 1 && eqb upper 0 then Good (Completion (record { guest = guest; id = id }) time)
     else if eqb kind 2 && eqb upper 0 && eqb guest 0 && eqb id 0 then Good (Tick time)
     else Bad

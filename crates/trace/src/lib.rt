@@ -1,10 +1,7 @@
-// The trace of document 01, and its version 2 of document 02, as bytes: its header and its events, read from slices. What is printed of it is in specs/Printed.antt.
+// The trace of document 01, and its version 2 of document 02, as bytes: what its header and its events are, and in specs/Printed.antt what is printed of it. The
+// crate has no code: `fields`, `headers` and `items` read them.
 use rules::Event;
 use rules::Refusal;
-
-pub mod little; // numbers from bytes
-pub mod opening; // the header
-pub mod events; // one event
 
 // What the header of a trace opens, or why it is refused.
 pub enum Header {

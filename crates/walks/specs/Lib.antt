@@ -4,9 +4,6 @@ pub mod WalksRows
 pub mod Marks
 pub mod Unseen
 pub mod Lifted
-pub mod InLine
-pub mod Collected
-pub mod Ready
 pub mod LeastLaws
 pub mod Survey
 pub mod SurveyLaws

@@ -125,7 +125,7 @@ module _ (a m : ℕ) (h : List Note) (x : Note) (l : List Request) (next now : �
         begun = k .begun;
       }
 
-  module _ (q : Request) (named : same (called x) (name q) ≡ true) (priced : x .cost ≡ q .cost) (next′ : ℕ) (tagged : q .ltag ≡ max next (x .time))
+  module _ (q : Request) (named : same (called x) (name q) ≡ true) (priced : x .cost ≡ q .cost) (next′ : ℕ) (tagged : max next (x .time) ≤ q .ltag)
       (follows : q .ltag ≤ next′) (later : now ≤ x .time) where
     -- it comes at or after a, and is new
     comes-new : a ≤ x .time → Kept a m (x ∷ h) (l ++ (q ∷ [])) next′ (x .time)

@@ -13,9 +13,9 @@ use Rattle.lists.specs.Words.{if_then_else_, all, filter}
 use Rattle.lists.specs.WordsLaws.{both, join, all-parts, all-of-map, all-filter, filter-map, filter-append, filter-filter, map-each}
 use Rattle.rules.specs.Tables.{Request, Table, limited, lplain, lspacing, nobodys, owner, of, mine, idle, name, same, names}
 use Rattle.rules.specs.Answers.{taken}
-use Rattle.rules.specs.Sound.{sound}
-use Rattle.rules.specs.Events.{moment, calledBy, smallest, shifted, shiftedNext, adjusted, stamped, following, placed, stampedFor, arriveAs, arrive, complete, wait, enter}
-use Rattle.rules.specs.Choice.{Result, picked, due, open?, dueAt, openAt, passesAt, passes, sending, earlier, sooner, dropOf, dropped, choice}
+use Rattle.rules.specs.Sound.{spread, sound}
+use Rattle.rules.specs.Events.{moment, calledBy, smallest, shifted, shiftedNext, adjusted, stamped, following, placed, raised, stampedFor, arriveAs, arrive, complete, wait, enter}
+use Rattle.rules.specs.Choice.{Result, picked, due, open?, dueAt, openAt, passesAt, passes, sending, earlier, renewed, dropOf, nextOf, dropped, choice}
 use Rattle.rules.specs.Refusals.{Verdict, accept, refuse, isAccept, verdict, tests, eventTests, accepted}
 use Rattle.rules.specs.Run.{decided, step, answers}
 use Rattle.rules.specs.declared.Settings.{Settings}
@@ -29,6 +29,7 @@ use Rattle.rules.specs.declared.Event.{Event}
 use Rattle.rules.specs.declared.Event.the-variants.{Arrival, Completion, Tick}
 use Rattle.rules.specs.declared.Answer.the-variants.{Sent}
 use Rattle.rules.proofs.Judged.{condition, passed}
+use Rattle.rules.proofs.Raises.{spread-some, raised-above}
 use Rattle.rules.proofs.Chains.{kept-above}
 use Rattle.rules.proofs.SameSettings.{same-owner, same-count, adjusted-settings, enter-settings, step-settings}
 use Rattle.rules.proofs.Facts.{Sound, orderly-is, any-orderly}
@@ -116,7 +117,7 @@ module _ (g a : ℕ) where
         (kept-noted a m h x (mine g (u .waiting)) ((owner (u .guests) g) .lnext) (u .time) lack k))
 
     -- the guest's own
-    placed-own : q .guest ≡ g → q .guest < length (u .guests) → same (called x) (name q) ≡ true → x .cost ≡ q .cost → q .ltag ≡ max ((owner (u .guests) g) .lnext) (x .time)
+    placed-own : q .guest ≡ g → q .guest < length (u .guests) → same (called x) (name q) ≡ true → x .cost ≡ q .cost → max ((owner (u .guests) g) .lnext) (x .time) ≤ q .ltag
         → KeptIn m (x ∷ h) (placed (x .time) q u)
     unfolding placed following
     placed-own e known named priced tagged =
@@ -131,7 +132,7 @@ module _ (g a : ℕ) where
     -- an accepted arrival
     arrived-kept : (m : ℕ) (h : List Note) (t : Table) (x : Arriving) (now : ℕ) → accepted t (Arrival x now) ≡ true → settingsAt t g ≡ s → KeptIn m h t
         → KeptIn m (noted (Arrival x now) h) (enter t (Arrival x now))
-    unfolding enter arrive arriveAs stamped eventTests
+    unfolding enter arrive arriveAs stamped raised eventTests
     arrived-kept m h t x now y owns k = go (eqb (x .guest) g) refl
       where
         b : Bool
@@ -163,10 +164,12 @@ module _ (g a : ℕ) where
         go true e =
             let i = eqb-true (x .guest) g e in
             let own : limited ((owner (t .guests) (x .guest)) .settings) ≡ true = rw (i, owns) lim in
-            let tag : q .ltag ≡ max ((owner (t .guests) (x .guest)) .lnext) now = rw own in
+            let l = lplain ((owner (t .guests) (x .guest)) .settings) in
+            let up = raised-above (x .delta) l ((owner (t .guests) (x .guest)) .lnext) (spread-some (x .delta) (x .rho) (not-false (spread (x .delta) (x .rho)) (cs 20))) in
+            let tag : max ((owner (t .guests) (x .guest)) .lnext) now ≤ q .ltag = rw own (omega (arith, up)) in
             let was : (owner (t .guests) (x .guest)) .lnext ≡ (owner (u .guests) g) .lnext = ap (λ (j : ℕ). (owner (t .guests) j) .lnext) i ∙ sym (adjusted-lnext b now t) in
             placed-own m h n q u lack at-time (adjusted-kept m h b now t k) i known
-            (join (eq-eqb (x .guest) (x .guest) refl) (eq-eqb (x .id) (x .id) refl)) refl (tag ∙ ap (λ (j : ℕ). max j now) was)
+            (join (eq-eqb (x .guest) (x .guest) refl) (eq-eqb (x .id) (x .id) refl)) refl (omega (arith, tag, was))
 
     -- an accepted event
     enter-kept : (m : ℕ) (h : List Note) (t : Table) (e : Event) → accepted t e ≡ true → settingsAt t g ≡ s → KeptIn m h t → KeptIn m (noted e h) (enter t e)
@@ -232,12 +235,12 @@ module _ (g a : ℕ) where
       dropped-left : (m : ℕ) (h : List Note) (p : Request) (u : Table) (out : List Passage)
           → Left a (lplain s) b m h (mine g (u .waiting)) ((owner (u .guests) g) .lnext) (t .time) out
           → Left a (lplain s) b m h (mine g ((dropped p u) .waiting)) ((owner ((dropped p u) .guests) g) .lnext) (t .time) out
-      unfolding dropped earlier sooner
+      unfolding dropped earlier renewed
       dropped-left m h p u out l =
           let f : Request → Request = λ q. if of (p .guest) q then earlier (dropOf u p) q else q in
           let n : (owner ((dropped p u) .guests) g) .lnext ≡ (owner (u .guests) g) .lnext =
           same-lnext ((dropped p u) .guests) (u .guests)
-          (map-set-same Guest.lnext (u .guests) (p .guest) (sooner (dropOf u p) (owner (u .guests) (p .guest))) nobodys refl) g
+          (map-set-same Guest.lnext (u .guests) (p .guest) (renewed (nextOf u p) (owner (u .guests) (p .guest))) nobodys refl) g
           in
           record {
             most = l .most;

@@ -125,7 +125,9 @@ impl Mirror {
     pub fn enter(&mut self, c: Call) -> Result<(), u8> {
         let kept = self.clone();
         let entered = match c {
-            Call::Arrive(guest, id, t, cost) => self.arrive(guest, id as u64, t as i128, cost),
+            Call::Arrive(guest, id, t, cost, spread) => {
+                self.arrive(guest, id as u64, t as i128, cost, spread)
+            }
             Call::Complete(guest, id, t) => self.complete(guest, id as u64, t as i128),
             Call::Tick(t) => self.clock(t as i128),
         };
@@ -154,13 +156,24 @@ impl Mirror {
         }
     }
 
-    fn arrive(&mut self, guest: u64, id: u64, t: i128, cost: u64) -> Result<(), u8> {
+    fn arrive(
+        &mut self,
+        guest: u64,
+        id: u64,
+        t: i128,
+        cost: u64,
+        spread: [u64; 2],
+    ) -> Result<(), u8> {
         self.known(guest)?;
         self.clock(t)?;
         if cost == 0 || cost > 64 {
             return Err(18);
         }
         let cost = cost as i128;
+        let [delta, rho] = spread.map(|n| n as i128);
+        if !(1..65_536).contains(&delta) || delta < rho {
+            return Err(20);
+        }
         let number = guest as usize;
         let waits = self.lanes[number].queue.iter().any(|q| q.id == id);
         if waits || self.flight.contains(&(guest, id)) {
@@ -175,6 +188,10 @@ impl Mirror {
         }
         let lane = &mut self.lanes[number];
         let lowest = [t, t, (t - lane.back).max(0)];
+        for (kind, more) in [(R, rho - 1), (L, delta - 1), (S, delta - 1)] {
+            let by = more * lane.spacing[kind].unwrap_or(0);
+            lane.next[kind] = (lane.next[kind] + by).max(0);
+        }
         if lane.queue.is_empty() {
             lane.next[S] = lane.next[S].min(t);
         }
@@ -268,10 +285,13 @@ impl Mirror {
         let lane = &mut self.lanes[number];
         if let Some(spacing) = lane.spacing[R] {
             let paid = cost * spacing;
-            lane.next[R] -= paid;
             for q in &mut lane.queue {
-                q.tags[R] = q.tags[R].map(|tag| tag - paid);
+                q.tags[R] = q.tags[R].map(|tag| (tag - paid).max(0));
             }
+            lane.next[R] = match lane.queue.back() {
+                Some(q) => q.tags[R].unwrap() + q.cost * spacing,
+                None => (lane.next[R] - paid).max(0),
+            };
         }
     }
 

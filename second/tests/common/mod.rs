@@ -2,6 +2,7 @@
 #![allow(dead_code)]
 
 pub mod mirror;
+pub mod old;
 
 use second::sample::Owned;
 use second::tables::{FLIGHT_NUMBERS, GATE_NUMBERS, GUEST_NUMBERS, WAITING_NUMBERS};
@@ -120,7 +121,7 @@ pub fn taken_apart(trace: &[u8]) -> (Header, Vec<Event>) {
 /// The call an event stands for that is not 14.
 pub fn call_of(e: Event) -> Call {
     match e.kind {
-        0 => Call::Arrive(e.guest as u64, e.id, e.time, e.cost()),
+        0 => arrive(e.guest as u64, e.id, e.time, e.cost()),
         1 => Call::Complete(e.guest as u64, e.id, e.time),
         _ => Call::Tick(e.time),
     }
@@ -139,11 +140,17 @@ pub fn printed(trace: &[u8]) -> String {
     String::from_utf8(out).unwrap()
 }
 
+/// Guest, id, time, and of an arrival the cost, then delta and rho.
 #[derive(Clone, Copy, Debug)]
 pub enum Call {
-    Arrive(u64, u32, u64, u64),
+    Arrive(u64, u32, u64, u64, [u64; 2]),
     Complete(u64, u32, u64),
     Tick(u64),
+}
+
+/// An arrival with a delta and rho of 1.
+pub fn arrive(guest: u64, id: u32, time: u64, cost: u64) -> Call {
+    Call::Arrive(guest, id, time, cost, [1, 1])
 }
 
 /// The answer to a call, for tests that do not look at the time to wake.
@@ -153,9 +160,22 @@ pub fn call(lent: &mut Tables, call: Call) -> Answer {
 
 pub fn reply(lent: &mut Tables, call: Call) -> Reply {
     match call {
-        Call::Arrive(guest, id, time, cost) => second::arrive(lent, guest, id, time, cost),
+        Call::Arrive(guest, id, time, cost, [delta, rho]) => {
+            second::arrive(lent, guest, id, time, cost, delta, rho)
+        }
         Call::Complete(guest, id, time) => second::complete(lent, guest, id, time),
         Call::Tick(time) => second::tick(lent, time),
+    }
+}
+
+/// The same call on a state that is known to be sound.
+pub fn play(state: &mut State, call: Call) -> Answer {
+    match call {
+        Call::Arrive(guest, id, time, cost, [delta, rho]) => {
+            state.arrive_spread(guest, id, time, cost, delta, rho)
+        }
+        Call::Complete(guest, id, time) => state.complete(guest, id, time),
+        Call::Tick(time) => state.tick(time),
     }
 }
 

@@ -1,10 +1,13 @@
 //! A batch, made of the library in one call and of the second program one event at a time, on the same tables, and what
 //! differs afterwards.
 
-use crate::calls::{broken_rule, tables_differ, Fences};
+use crate::calls::{broken_rule, tables_differ, Fences, Lent};
 use crate::tally::Seen;
 use second::sample::{Batch, Owned};
 use sgq::raw::{self, ANSWER_NUMBERS, EVENT_NUMBERS};
+
+/// Where the time stands in a row.
+const EVENT_TIME: usize = 3;
 
 /// Makes the batch of both, the tables being left as the second program leaves them. Notes its answers, or gives what
 /// differs.
@@ -51,21 +54,15 @@ fn of_library(
     (tables, answers): &mut (Owned, Vec<u64>),
     fences: &mut Fences,
 ) -> Result<u64, &'static str> {
-    let gate = fences.gate.put(&tables.gate);
-    let guests = fences.guests.put(&tables.guests);
-    let waiting = fences.waiting.put(&tables.waiting);
-    let flight = fences.flight.put(&tables.flight);
-    let events = fences.events.put(&batch.events);
-    let room = fences.answers.put(answers);
-    let (g, w, f) = (
-        tables.guests.len(),
-        tables.waiting.len(),
-        tables.flight.len(),
-    );
-    let (e, a) = (batch.events.len(), answers.len());
+    let l = Lent::put(tables, fences);
+    let (events, e) = (fences.events.put(&batch.events), batch.events.len());
+    let (room, a) = (fences.answers.put(answers), answers.len());
     // SAFETY: all numbers of the gate, and all else as long as it is, each in memory of its own.
-    let found =
-        unsafe { raw::sgq_batch(gate, guests, g, waiting, w, flight, f, events, e, room, a) };
+    let found = unsafe {
+        raw::sgq_batch(
+            l.gate, l.guests, l.g, l.waiting, l.w, l.flight, l.f, events, e, room, a,
+        )
+    };
     let mut events = batch.events.clone();
     let marks = [
         fences.gate.take(&mut tables.gate),
@@ -107,9 +104,6 @@ fn note(found: u64, batch: &Batch, answers: &[u64], seen: &mut Seen) {
             refusal,
             wake,
         };
-        let &[_, _, _, time, _] = event else {
-            unreachable!("a whole row")
-        };
-        seen.note(answer, time);
+        seen.note(answer, event[EVENT_TIME]);
     }
 }

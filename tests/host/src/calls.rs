@@ -14,6 +14,8 @@ pub enum Call {
         id: u32,
         time: u64,
         cost: u64,
+        delta: u64,
+        rho: u64,
     },
     Complete {
         guest: u64,
@@ -37,12 +39,14 @@ pub struct Opening {
 /// Where the tables stand while they are lent to the library.
 pub struct Fences {
     pub gate: Fenced,
-    settings: Fenced,
+    pub settings: Fenced,
     pub guests: Fenced,
     pub waiting: Fenced,
     pub flight: Fenced,
     pub events: Fenced,
     pub answers: Fenced,
+    pub counters: Fenced,
+    pub phases: Fenced,
 }
 
 impl Fences {
@@ -55,6 +59,8 @@ impl Fences {
             flight: Fenced::new(),
             events: Fenced::new(),
             answers: Fenced::new(),
+            counters: Fenced::new(),
+            phases: Fenced::new(),
         }
     }
 }
@@ -77,24 +83,15 @@ fn of_library(
     tables: &mut Owned,
     fences: &mut Fences,
 ) -> Result<raw::Answer, &'static str> {
-    let gate = fences.gate.put(&tables.gate);
-    let guests = fences.guests.put(&tables.guests);
-    let waiting = fences.waiting.put(&tables.waiting);
-    let flight = fences.flight.put(&tables.flight);
-    let (g, w, f) = (
-        tables.guests.len(),
-        tables.waiting.len(),
-        tables.flight.len(),
-    );
+    let l = Lent::put(tables, fences);
     // SAFETY: all numbers of the gate and the tables as long as they are, each in memory of its own.
     let answer = unsafe {
         match call {
             Call::Open(o) => {
-                let settings = fences.settings.put(&o.settings);
-                let s = o.settings.len();
+                let (settings, s) = (fences.settings.put(&o.settings), o.settings.len());
                 raw::sgq_open(
-                    gate, o.depth, o.guests, o.capacity, o.rule, settings, s, guests, g, waiting,
-                    w, flight, f,
+                    l.gate, o.depth, o.guests, o.capacity, o.rule, settings, s, l.guests, l.g,
+                    l.waiting, l.w, l.flight, l.f,
                 )
             }
             &Call::Arrive {
@@ -102,20 +99,55 @@ fn of_library(
                 id,
                 time,
                 cost,
+                delta,
+                rho,
             } => raw::sgq_arrive(
-                gate, guests, g, waiting, w, flight, f, guest, id, time, cost,
+                l.gate, l.guests, l.g, l.waiting, l.w, l.flight, l.f, guest, id, time, cost, delta,
+                rho,
             ),
-            &Call::Complete { guest, id, time } => {
-                raw::sgq_complete(gate, guests, g, waiting, w, flight, f, guest, id, time)
+            &Call::Complete { guest, id, time } => raw::sgq_complete(
+                l.gate, l.guests, l.g, l.waiting, l.w, l.flight, l.f, guest, id, time,
+            ),
+            &Call::Tick { time } => {
+                raw::sgq_tick(l.gate, l.guests, l.g, l.waiting, l.w, l.flight, l.f, time)
             }
-            &Call::Tick { time } => raw::sgq_tick(gate, guests, g, waiting, w, flight, f, time),
         }
     };
     taken_back(call, tables, fences)?;
     Ok(answer)
 }
 
-fn taken_back(call: &Call, tables: &mut Owned, fences: &mut Fences) -> Result<(), &'static str> {
+/// The gate and the tables while they are lent: where each begins, and how long the tables are.
+pub struct Lent {
+    pub gate: *mut u64,
+    pub guests: *mut u64,
+    pub g: usize,
+    pub waiting: *mut u64,
+    pub w: usize,
+    pub flight: *mut u64,
+    pub f: usize,
+}
+
+impl Lent {
+    pub fn put(tables: &Owned, fences: &mut Fences) -> Lent {
+        Lent {
+            gate: fences.gate.put(&tables.gate),
+            guests: fences.guests.put(&tables.guests),
+            g: tables.guests.len(),
+            waiting: fences.waiting.put(&tables.waiting),
+            w: tables.waiting.len(),
+            flight: fences.flight.put(&tables.flight),
+            f: tables.flight.len(),
+        }
+    }
+}
+
+/// Takes back what was lent, or gives which memory beside it has changed.
+pub fn taken_back(
+    call: &Call,
+    tables: &mut Owned,
+    fences: &mut Fences,
+) -> Result<(), &'static str> {
     let marks = [
         fences.gate.take(&mut tables.gate),
         fences.guests.take(&mut tables.guests),
@@ -146,14 +178,16 @@ fn of_second(call: &Call, tables: &mut Owned) -> raw::Answer {
             id,
             time,
             cost,
-        } => second::arrive(&mut lent, guest, id, time, cost),
+            delta,
+            rho,
+        } => second::arrive(&mut lent, guest, id, time, cost, delta, rho),
         &Call::Complete { guest, id, time } => second::complete(&mut lent, guest, id, time),
         &Call::Tick { time } => second::tick(&mut lent, time),
     })
 }
 
 /// The second program's reply as the C interface gives it.
-fn in_numbers(reply: Reply) -> raw::Answer {
+pub fn in_numbers(reply: Reply) -> raw::Answer {
     let (kind, guest, id, refusal) = match reply.answer {
         Answer::Nothing => (raw::NOTHING, 0, 0, 0),
         Answer::Sent { phase, guest, id } => match phase {
@@ -198,18 +232,22 @@ pub fn tables_differ(before: &Owned, ours: &Owned, theirs: &Owned) -> Vec<String
         ("flight", &before.flight, &ours.flight, &theirs.flight),
     ];
     for (name, before, ours, theirs) in tables {
-        if let Some(at) = (0..ours.len()).find(|&at| ours[at] != theirs[at]) {
-            let (was, has, wants) = (before[at], ours[at], theirs[at]);
-            found.push(format!(
-                "{name} number {at} was {was}, the library leaves {has}, second {wants}"
-            ));
-        }
+        found.extend(numbers_differ(name, before, ours, theirs));
     }
     found
 }
 
+/// The first number that differs between the two.
+pub fn numbers_differ(name: &str, before: &[u64], ours: &[u64], theirs: &[u64]) -> Option<String> {
+    let at = (0..ours.len()).find(|&at| ours[at] != theirs[at])?;
+    let (was, has, wants) = (before[at], ours[at], theirs[at]);
+    Some(format!(
+        "{name} number {at} was {was}, the library leaves {has}, second {wants}"
+    ))
+}
+
 /// How the second program judges the tables that were handed over.
-fn judgement(call: &Call, before: &Owned) -> String {
+pub fn judgement(call: &Call, before: &Owned) -> String {
     match (call, broken_rule(before)) {
         (Call::Open(_), _) | (_, None) => String::new(),
         (_, Some(rule)) => format!("; second finds broken: {rule:?}"),

@@ -1,9 +1,9 @@
 //! Sound tables through many calls: a gate is opened and the events of a random trace are played on it. A trace cannot
-//! say a rule, a credit or a cost, so the rule is named by who plays, and each guest is given a credit here and each
-//! arrival a cost. So other requests are in flight than the trace knows of, and most completions are of those.
+//! say a rule, a credit, a cost, a delta or a rho, so the rule is named by who plays, and each guest is given a credit here
+//! and each arrival the others. So other requests are in flight than the trace knows of, and most completions are of those.
 
 use crate::calls::{hold, Call, Fences, Opening};
-use crate::damage::cost;
+use crate::damage::{cost, spread};
 use crate::tally::Seen;
 use second::kinds::{fixed, trace};
 use second::numbers::{MOST_COST, MOST_CREDIT};
@@ -31,7 +31,8 @@ pub fn play(
         "fixed" => fixed(WAITING, most as u64),
         _ => trace(kind, seed).ok_or("there is no such kind of trace")?,
     };
-    let (mut rng, dearest) = (Prng::new(seed), dearest(kind, seed));
+    let mut rng = Prng::new(seed);
+    let loads = (dearest(kind, seed), Spread::of(kind, seed));
     let opening = opening(rule, &bytes, &mut rng);
     let events = &bytes[header_of(&bytes).length()..];
     let mut tables = dusty(&opening);
@@ -42,7 +43,7 @@ pub fn play(
     };
     make(&Call::Open(opening), 0, &mut tables)?;
     for (number, event) in events.chunks_exact(EVENT_BYTES).take(most).enumerate() {
-        let call = call(event, dearest, &tables, &mut rng);
+        let call = call(event, loads, &tables, &mut rng);
         make(&call, number + 1, &mut tables)?;
     }
     Ok(tables)
@@ -87,17 +88,54 @@ fn dearest(kind: &str, seed: u64) -> u64 {
     }
 }
 
+/// What the arrivals of a run are told of other arrays. A large delta holds a limited guest back for long, so in some runs
+/// there is no other array, and in some they do little; in the large ones they do anything.
+#[derive(Clone, Copy)]
+enum Spread {
+    None,
+    Little,
+    Any,
+}
+
+impl Spread {
+    fn of(kind: &str, seed: u64) -> Spread {
+        match (kind, seed / 3 % 3) {
+            ("large", _) | (_, 0) => Spread::Any,
+            (_, 1) => Spread::Little,
+            _ => Spread::None,
+        }
+    }
+
+    /// Delta and rho.
+    fn pick(self, rng: &mut Prng) -> [u64; 2] {
+        match self {
+            Spread::None => [1, 1],
+            Spread::Little => {
+                let delta = rng.between(1, 4);
+                [delta, rng.below(delta + 1)]
+            }
+            Spread::Any => spread(rng, 4),
+        }
+    }
+}
+
 /// The call that an event of a trace is; an arrival costs up to so much, a few of them what none may.
-fn call(bytes: &[u8], dearest: u64, tables: &Owned, rng: &mut Prng) -> Call {
+fn call(bytes: &[u8], (dearest, spread): (u64, Spread), tables: &Owned, rng: &mut Prng) -> Call {
     let event = Event::from_bytes(Version::One, bytes.try_into().expect("a whole event"));
     let (guest, id, time) = (event.guest as u64, event.id, event.time);
     match event.kind {
-        0 => Call::Arrive {
-            guest,
-            id,
-            time,
-            cost: cost(rng, 4, dearest),
-        },
+        0 => {
+            let cost = cost(rng, 4, dearest);
+            let [delta, rho] = spread.pick(rng);
+            Call::Arrive {
+                guest,
+                id,
+                time,
+                cost,
+                delta,
+                rho,
+            }
+        }
         1 => {
             let (guest, id) = flown(tables, rng).unwrap_or((guest, id));
             Call::Complete { guest, id, time }

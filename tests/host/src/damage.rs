@@ -1,9 +1,13 @@
 //! Random tables, most of them damaged, and random calls on them.
 
 use crate::calls::{Call, Opening};
+use second::calls::{read, table_refusal};
 use second::numbers::{Settings, CEILING, MOST_CAPACITY, MOST_COST, MOST_CREDIT, MOST_DEPTH};
 use second::numbers::{MOST_GUESTS, MOST_RATE, RULE_1, RULE_2};
-use second::sample::{bad_cost, good_cost, sound_tables, spoil, Owned, Prng};
+use second::sample::{
+    bad_cost, bad_spread, good_cost, good_spread, sound_tables, spoil, spoil_reservation, Owned,
+    Prng,
+};
 use second::tables::{Flight, Guest, Waiting};
 use second::tables::{
     CREDIT, FLIGHT_NUMBERS, GATE_NUMBERS, GUEST_NUMBERS, RULE, SETTINGS_CREDIT, SETTINGS_NUMBERS,
@@ -36,13 +40,15 @@ pub fn tables(rng: &mut Prng) -> Owned {
 
 /// One damage, or none that can be seen.
 pub fn damage(rng: &mut Prng, tables: &mut Owned) {
-    match rng.below(14) {
+    match rng.below(16) {
         0 => rubbish(rng, tables),
         1 => cut(rng, tables),
         2..=3 => repeat_id(rng, tables),
         4 => another_credit(rng, tables),
         5 => tables.gate[RULE] = rng.pick(&RULES),
         6..=7 => another_cost(rng, tables),
+        // Tags of a guest that fall, or are the same, or closer than its spacing.
+        8..=9 => spoil_reservation(rng, tables),
         _ => spoil_lent(rng, tables),
     }
 }
@@ -77,6 +83,22 @@ fn another_cost(rng: &mut Prng, tables: &mut Owned) {
     }
 }
 
+/// Whether sound tables have reservation tags of a guest that stand closer than its spacing, or are the same.
+pub fn has_closer_tags(tables: &Owned) -> bool {
+    if table_refusal(&tables.view()).is_some() {
+        return false;
+    }
+    let state = read(&tables.view());
+    let closer = |(at, later): (usize, &Waiting)| {
+        let settings = state.guests[later.guest as usize].settings;
+        let mut before = state.waiting[..at].iter();
+        let last = before.rfind(|earlier| earlier.guest == later.guest);
+        let apart = |last: &Waiting| last.rtag + last.cost * settings.reservation_spacing();
+        settings.has_reservation() && last.is_some_and(|last| later.rtag < apart(last))
+    };
+    state.waiting.iter().enumerate().any(closer)
+}
+
 /// A guest of these settings, which may be any, with the next numbers that its last request leaves.
 fn followed(settings: Settings, last: &Waiting) -> Guest {
     let next = |tag: u64, apart: u64| tag.wrapping_add(last.cost.wrapping_mul(apart));
@@ -99,6 +121,16 @@ pub fn cost(rng: &mut Prng, bad: u64, dearest: u64) -> u64 {
         bad_cost(rng)
     } else {
         good_cost(rng).min(dearest)
+    }
+}
+
+/// Delta and rho: so often in a hundred such as none may have, a delta of 0 or 65,536, a rho above it or huge; else any
+/// that an arrival may have, 1 and 1, a rho of 0 and both ends often.
+pub fn spread(rng: &mut Prng, bad: u64) -> [u64; 2] {
+    if rng.chance(bad) {
+        bad_spread(rng)
+    } else {
+        good_spread(rng)
     }
 }
 
@@ -204,11 +236,14 @@ pub fn calls(rng: &mut Prng, tables: &Owned) -> [Call; 4] {
     let (guest, id) = named(rng, tables);
     let time = time(rng, tables);
     let cost = cost(rng, 12, MOST_COST);
+    let [delta, rho] = spread(rng, 12);
     let arrive = Call::Arrive {
         guest,
         id,
         time,
         cost,
+        delta,
+        rho,
     };
     let (guest, id) = named(rng, tables);
     let time = self::time(rng, tables);
@@ -269,7 +304,7 @@ fn opening(rng: &mut Prng, tables: &Owned) -> Opening {
     opening
 }
 
-fn settings(rng: &mut Prng) -> [u64; SETTINGS_NUMBERS] {
+pub fn settings(rng: &mut Prng) -> [u64; SETTINGS_NUMBERS] {
     let settings = second::sample::any_settings(rng);
     [
         settings.reservation,

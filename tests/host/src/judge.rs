@@ -226,6 +226,7 @@ impl Seen {
             Refusal::ShortTable | Refusal::NotSound | Refusal::Cost => false,
             Refusal::ShortAnswers | Refusal::TooManyEvents => false,
             Refusal::NoWayBack | Refusal::ShortRoom => false,
+            Refusal::Delta | Refusal::Array => false,
             _ => !self.refusals.contains_key(&refusal.number()),
         };
         if let Some(never) = Refusal::ALL.iter().find(never) {

@@ -1,12 +1,13 @@
 //! Hands random tables, most of them damaged, to each call of the library through the C interface, and compares the
 //! answer and every number of every table afterwards with the second program; then plays whole runs on sound tables,
-//! and hands batches of events over sound and damaged tables; then moves traces from one version to the other, salvages
-//! torn ones, judges the lines of other gates, and reads short clocks.
+//! and hands batches of events over sound and damaged tables; then calls the arrays of houses that have several; then moves
+//! traces from one version to the other, salvages torn ones, judges the lines of other gates, and reads short clocks.
 //!
 //!     host-tests [FIRST]     the seeds begin at FIRST, 1 where none is named
 //!
 //! A failure names the seed, the call and what differs. Ends with 'N passed, M failed'.
 
+mod arrays;
 mod batches;
 mod calls;
 mod clean;
@@ -36,12 +37,16 @@ const BATCH_SEEDS: usize = 1_500;
 const LARGE_BATCH_SEEDS: usize = 20;
 const BATCHES: usize = 3;
 
-/// The refusals that no single call gives.
-const OF_BATCHES: [Refusal; 3] = [
+/// The refusals that no single call on a gate gives.
+const NOT_SINGLE: [Refusal; 4] = [
     Refusal::EventKind,
     Refusal::ShortAnswers,
     Refusal::TooManyEvents,
+    Refusal::Array,
 ];
+
+/// The refusals that no batch gives: it opens no gate, and is of one array.
+const NOT_BATCHED: [Refusal; 2] = [Refusal::Setting, Refusal::Array];
 
 /// Kinds of traces for clean runs, how many of each, and how many events at most. The large ones come last. Each is
 /// played under both rules for limits.
@@ -66,6 +71,7 @@ fn main() -> ExitCode {
     damaged(first, &mut fences, &mut tally);
     clean(first, &mut fences, &mut tally);
     batched(first, &mut fences, &mut tally);
+    arrays::test(first, &mut fences, &mut tally);
     moves::moved(first, &mut tally);
     salvage::salvaged(first, &mut tally);
     judge::judged(first, &mut tally);
@@ -78,20 +84,23 @@ fn main() -> ExitCode {
 fn damaged(first: u64, fences: &mut Fences, tally: &mut Tally) {
     let mut seen = Seen::default();
     let mut rules = Rules::default();
+    let mut closer = 0;
     for seed in (first..).take(SEEDS) {
         let mut rng = Prng::new(seed);
         let tables = damage::tables(&mut rng);
         rules.note(broken_rule(&tables));
+        closer += u64::from(damage::has_closer_tags(&tables));
         let result = four_calls(seed, &mut rng, &tables, fences, &mut seen);
         tally.add(&format!("seed {seed}"), result);
     }
     println!("damaged tables: {SEEDS} seeds, {} calls", seen.calls);
     seen.print();
     rules.print();
-    let single = Refusal::ALL.iter().copied();
-    let single: Vec<_> = single.filter(|one| !OF_BATCHES.contains(one)).collect();
-    let all = seen.all_seen(&single);
-    tally.add("damaged tables", all.and(rules.all_seen()));
+    println!("  sound, and reservation tags closer than their spacing: {closer}");
+    let all = seen.all_seen(&all_but(&NOT_SINGLE));
+    let sound = || "no sound table has close reservation tags".to_string();
+    let close = (closer > 0).then_some(()).ok_or_else(sound);
+    tally.add("damaged tables", all.and(rules.all_seen()).and(close));
     let enough = seen.calls >= LEAST_CALLS || tally.failed > 0;
     let too_few = || format!("only {} calls were made", seen.calls);
     tally.add("calls", enough.then_some(()).ok_or_else(too_few));
@@ -199,8 +208,13 @@ fn batched(first: u64, fences: &mut Fences, tally: &mut Tally) {
     }
     println!("batches: {} answers", seen.calls);
     seen.print();
-    // No batch opens a gate.
-    tally.add("batches", seen.all_seen(&Refusal::ALL[1..]));
+    tally.add("batches", seen.all_seen(&all_but(&NOT_BATCHED)));
+}
+
+/// All refusals but these.
+fn all_but(these: &[Refusal]) -> Vec<Refusal> {
+    let all = Refusal::ALL.iter().copied();
+    all.filter(|one| !these.contains(one)).collect()
 }
 
 /// Batches on the tables at the end of a large run, sound and with one damage.

@@ -95,6 +95,15 @@ impl Seen {
             None => Ok(()),
         }
     }
+
+    /// Whether none of these refusals was seen.
+    pub fn never_seen(&self, refusals: &[Refusal]) -> Result<(), String> {
+        let mut all = refusals.iter();
+        match all.find(|&&refusal| self.times(refusal) > 0) {
+            Some(given) => Err(format!("{} was given", given.number())),
+            None => Ok(()),
+        }
+    }
 }
 
 /// The place among the times to wake: never, now or later.

@@ -3,7 +3,7 @@ use Prim.Native.Nat.{ℕ, _-_}
 use mathlib.Core.Path.{ap, sym, _∙_}
 use lib.ListN.{take, drop}
 use lib.Seq.{length-take-le}
-use Rattle.feed.proofs.Shift.{shift-front}
+use Rattle.buffers.proofs.Shifts.{shift-front}
 use Rattle.begin.proofs.Begins.{sizes}
 use borrow.Author.Needs.{needs}
 use Rattle.begin.proofs.begin.Statement.{statement}

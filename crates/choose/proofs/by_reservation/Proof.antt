@@ -1,6 +1,6 @@
 -- `by_reservation` meets its contract: what the walk found due goes, and else the weight phase chooses. Assumes nothing.
-use Rattle.choose.proofs.Phases.{line-asks, latest-asks}
-use Rattle.choose.proofs.Returns.{due-here, one-due, none-due}
+use Rattle.sends.proofs.Phases.{line-asks, latest-asks}
+use Rattle.sends.proofs.Returns.{due-here, one-due, none-due}
 use borrow.Author.Needs.{needs}
 use Rattle.choose.proofs.by_reservation.Statement.{statement}
 use Rattle.choose.proofs.by_reservation.Tie as tie

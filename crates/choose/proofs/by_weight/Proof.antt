@@ -1,5 +1,5 @@
 -- `by_weight` meets its contract: what the walk found open goes, and else nothing does. Assumes nothing.
-use Rattle.choose.proofs.Returns.{open-here, one-open, none-open}
+use Rattle.sends.proofs.Returns.{open-here, one-open, none-open}
 use borrow.Author.Needs.{needs}
 use Rattle.choose.proofs.by_weight.Statement.{statement}
 use Rattle.choose.proofs.by_weight.Tie as tie

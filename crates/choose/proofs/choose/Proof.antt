@@ -1,5 +1,5 @@
 -- `choose` meets its contract: with a place free it is the reservation phase, else nothing goes. Assumes nothing.
-use Rattle.choose.proofs.Returns.{place-free, none-free}
+use Rattle.sends.proofs.Returns.{place-free, none-free}
 use borrow.Author.Needs.{needs}
 use Rattle.choose.proofs.choose.Statement.{statement}
 use Rattle.choose.proofs.choose.Tie as tie

@@ -1,5 +1,5 @@
 use Rattle.rules.specs.declared.Event.the-variants.{Arrival}
-use Rattle.host.proofs.Returns.{call-returned}
+use Rattle.hands.proofs.Returns.{call-returned}
 use borrow.Author.Needs.{needs}
 use Rattle.host.proofs.sgq_arrive.Statement.{statement}
 use Rattle.host.proofs.sgq_arrive.Tie as tie
@@ -25,7 +25,7 @@ same-length-3 c = search needs
 returns : tie.Need-returns
 returns c =
     let s = c .before .before .before .before .before .before .before .before .before .before .before .before .before .before .before .before .before in
-    call-returned (Arrival (record { guest = s .args .guest; id = s .args .id; cost = s .args .cost }) (s .args .time)) (s .args .seven .now) _ (c .before .before .before .before .before .before .before .before .before .before .before .before .gate-in .result) (c .before .before .before .before .before .before .before .before .before .before .before .before .gate-in .ensures) (s .args .guests .now) (s .args .waiting .now) (s .args .flight .now) (c .hand-back .result) (c .before .before .before .before .before .before .before .before .arrive .result, _, _, _) (c .before .before .before .before .before .before .before .before .arrive .ensures) (c .hand-back .ensures .0) (c .hand-back .ensures .1)
+    call-returned (Arrival (record { guest = s .args .guest; id = s .args .id; cost = s .args .cost; delta = s .args .delta; rho = s .args .rho }) (s .args .time)) (s .args .seven .now) _ (c .before .before .before .before .before .before .before .before .before .before .before .before .gate-in .result) (c .before .before .before .before .before .before .before .before .before .before .before .before .gate-in .ensures) (s .args .guests .now) (s .args .waiting .now) (s .args .flight .now) (c .hand-back .result) (c .before .before .before .before .before .before .before .before .arrive .result, _, _, _) (c .before .before .before .before .before .before .before .before .arrive .ensures) (c .hand-back .ensures .0) (c .hand-back .ensures .1)
 
 pub sgq-arrive-spec : {M : Type 1} → statement M
 sgq-arrive-spec =

@@ -1,5 +1,5 @@
 -- The batch over numbers at the gate that the seven numbers are. Assumes nothing.
-use Rattle.host.proofs.Batches.{batch-returned}
+use Rattle.hands.proofs.Batches.{batch-returned}
 use borrow.Author.Needs.{needs}
 use Rattle.host.proofs.sgq_batch.Statement.{statement}
 use Rattle.host.proofs.sgq_batch.Tie as tie

@@ -1,5 +1,5 @@
 use Rattle.gate.specs.Promise.{opened}
-use Rattle.host.proofs.Returns.{returned}
+use Rattle.hands.proofs.Returns.{returned}
 use borrow.Author.Needs.{needs}
 use Rattle.host.proofs.sgq_open.Statement.{statement}
 use Rattle.host.proofs.sgq_open.Tie as tie

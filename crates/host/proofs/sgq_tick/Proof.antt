@@ -1,5 +1,5 @@
 use Rattle.rules.specs.declared.Event.the-variants.{Tick}
-use Rattle.host.proofs.Returns.{call-returned}
+use Rattle.hands.proofs.Returns.{call-returned}
 use borrow.Author.Needs.{needs}
 use Rattle.host.proofs.sgq_tick.Statement.{statement}
 use Rattle.host.proofs.sgq_tick.Tie as tie

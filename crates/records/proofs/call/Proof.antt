@@ -17,15 +17,15 @@ use Rattle.records.proofs.Words.{Outcome-typed, alloc, apart, apart8, g
 use Rattle.records.proofs.Words.{count-room, length-all, length-brought, at-home, called-home, Used, calls-used, Unpack, Pack, sv, Records}
 use Rattle.records.proofs.Words.{room-of, makes-rows, lends-rows, relends, unpacks, packs, rows-gone}
 use contract.Running.{tablesOf}
-use Rattle.records.proofs.guests.used.Symbol as used-def
-use Rattle.records.proofs.guests.used.Symbol.{name as #records·guests·used}
-use Rattle.records.proofs.guests.used.Met as used-thm
-use Rattle.records.proofs.guests.unpack.Symbol as unpack-def
-use Rattle.records.proofs.guests.unpack.Symbol.{name as #records·guests·unpack}
-use Rattle.records.proofs.guests.unpack.Met as unpack-thm
-use Rattle.records.proofs.guests.pack.Symbol as pack-def
-use Rattle.records.proofs.guests.pack.Symbol.{name as #records·guests·pack}
-use Rattle.records.proofs.guests.pack.Met as pack-thm
+use Rattle.packs.proofs.used.Symbol as used-def
+use Rattle.packs.proofs.used.Symbol.{name as #packs·used}
+use Rattle.packs.proofs.used.Met as used-thm
+use Rattle.packs.proofs.unpack.Symbol as unpack-def
+use Rattle.packs.proofs.unpack.Symbol.{name as #packs·unpack}
+use Rattle.packs.proofs.unpack.Met as unpack-thm
+use Rattle.packs.proofs.pack.Symbol as pack-def
+use Rattle.packs.proofs.pack.Symbol.{name as #packs·pack}
+use Rattle.packs.proofs.pack.Met as pack-thm
 use Rattle.records.proofs.part.call as part
 use Rattle.records.proofs.part.call.Symbol as part-def
 use Rattle.records.proofs.part.call.Symbol.{name as #records·part·call}
@@ -143,8 +143,8 @@ module _ {M : Type 1} (𝓤 : URA M) (H : Heap 𝓤) (A : Atoms 𝓤) (W : Given
         move t (0 ∷ 5 ∷ 4 ∷ 3 ∷ 2 ∷ 1 ∷ []) $
         z r w (ws .1 .0) (ws .1 .1 .1 .0) (ws .1 .1 .1 .1 .0) e (len-rows ∙ length-all wanted gs) len-waiting len-flight is))))))))))
 
-  module _ (C : Calls 𝓤 H) (Λ : Loops 𝓤 H) (fm : FmC 𝓤 H (W .laws) C) (known-used : Triple 𝓤 (C #records·guests·used) (Used 𝓤 H A)) (known-unpack : Triple 𝓤 (C #records·guests·unpack) (Unpack 𝓤 H A mem run))
-      (known-part : Triple 𝓤 (C #records·part·call) (Part 𝓤 H A mem run)) (known-pack : Triple 𝓤 (C #records·guests·pack) (Pack 𝓤 H A mem run)) where
+  module _ (C : Calls 𝓤 H) (Λ : Loops 𝓤 H) (fm : FmC 𝓤 H (W .laws) C) (known-used : Triple 𝓤 (C #packs·used) (Used 𝓤 H A)) (known-unpack : Triple 𝓤 (C #packs·unpack) (Unpack 𝓤 H A mem run))
+      (known-part : Triple 𝓤 (C #records·part·call) (Part 𝓤 H A mem run)) (known-pack : Triple 𝓤 (C #packs·pack) (Pack 𝓤 H A mem run)) where
     -- the walk; before a statement stands what is at hand, _i being the place of local i
     walk : ent 𝓤 (onEntry 𝓤 H A f.signature (κ0, (κ1, (κ2, tt))) (q0, (q1, (q2, tt))) a at-vals) (WpFn 𝓤 H C Λ code.function (Gate-val gate ∷ sv guests ∷ sv waiting ∷ sv flight ∷ Event-val event ∷ []) Post)
     walk =
@@ -191,7 +191,7 @@ module _ {M : Type 1} (𝓤 : URA M) (H : Heap 𝓤) (A : Atoms 𝓤) (W : Given
         gone ! $ free0 ! $ keep ! (1 ∷ 3 ∷ 4 ∷ 2 ∷ 5 ∷ 6 ∷ 7 ∷ []) $ by ! (exits r w zs waiting′ flight′ e len-waiting len-flight)))))))))))))))))))))))))))
 
 module _ {M : Type 1} (𝓤 : URA M) (H : Heap 𝓤) (A : Atoms 𝓤) (W : Given 𝓤 H A) (mem : Memory → SProp 𝓤) (run : Routine → Fun 𝓤) where
-  walks : (C : Calls 𝓤 H) (Λ : Loops 𝓤 H) → FmC 𝓤 H (W .laws) C → Triple 𝓤 (C #records·guests·used) (Used 𝓤 H A) → Triple 𝓤 (C #records·guests·unpack) (Unpack 𝓤 H A mem run) → Triple 𝓤 (C #records·part·call) (Part 𝓤 H A mem run) → Triple 𝓤 (C #records·guests·pack) (Pack 𝓤 H A mem run)
+  walks : (C : Calls 𝓤 H) (Λ : Loops 𝓤 H) → FmC 𝓤 H (W .laws) C → Triple 𝓤 (C #packs·used) (Used 𝓤 H A) → Triple 𝓤 (C #packs·unpack) (Unpack 𝓤 H A mem run) → Triple 𝓤 (C #records·part·call) (Part 𝓤 H A mem run) → Triple 𝓤 (C #packs·pack) (Pack 𝓤 H A mem run)
       → Walks 𝓤 H A f.ended stayed (WpFn 𝓤 H C Λ code.function) (f.clauses 𝓤 H A mem run)
   walks C Λ fm known-used known-unpack known-part known-pack = walked 𝓤 H A f.ended stayed (f.clauses 𝓤 H A mem run) (WpFn 𝓤 H C Λ code.function)
       (λ κs. (Gate-vals, (slice-vals, (slice-vals, (slice-vals, (Event-vals, tt))))))
@@ -200,7 +200,7 @@ module _ {M : Type 1} (𝓤 : URA M) (H : Heap 𝓤) (A : Atoms 𝓤) (W : Given
       (walk 𝓤 H A W mem run (κs .0) (κs .1 .0) (κs .1 .1 .0) (qs .0) (qs .1 .0) (qs .1 .1 .0) (a .0) (a .1 .0) (a .1 .1 .0) (a .1 .1 .1 .0) (a .1 .1 .1 .1 .0) (are .0) (are .1 .0 .0 .1) (are .1 .1 .0 .0 .1) (are .1 .1 .1 .0 .0 .1) (are .1 .1 .1 .1 .0) C Λ fm known-used known-unpack known-part known-pack))
 
 meets : {M : Type 1} (𝓤 : URA M) (H : Heap 𝓤) (A : Atoms 𝓤) → Given 𝓤 H A → (mem : Memory → SProp 𝓤) (run : Routine → Fun 𝓤) (𝓣 : Tables 𝓤 H)
-    → Triple 𝓤 (𝓣 .C #records·guests·used) (Used 𝓤 H A) → Triple 𝓤 (𝓣 .C #records·guests·unpack) (Unpack 𝓤 H A mem run) → Triple 𝓤 (𝓣 .C #records·part·call) (Part 𝓤 H A mem run) → Triple 𝓤 (𝓣 .C #records·guests·pack) (Pack 𝓤 H A mem run)
+    → Triple 𝓤 (𝓣 .C #packs·used) (Used 𝓤 H A) → Triple 𝓤 (𝓣 .C #packs·unpack) (Unpack 𝓤 H A mem run) → Triple 𝓤 (𝓣 .C #records·part·call) (Part 𝓤 H A mem run) → Triple 𝓤 (𝓣 .C #packs·pack) (Pack 𝓤 H A mem run)
     → Meets 𝓤 H A f.signature (WpFn 𝓤 H (𝓣 .C) (𝓣 .Λ) code.function) (f.spec 𝓤 H A mem run)
 meets 𝓤 H A W mem run 𝓣 known-used known-unpack known-part known-pack =
     walk-meets 𝓤 H A f.ended stayed W (goes-none 𝓤 H A W 3 (λ _. GateR) yes (λ κs x f. refl), (goes-slice 𝓤 H A W 3 0 tt (plain (λ _. Rec)), (goes-gave-slice 𝓤 H A W 3 1 tt (plain (λ _. u64)), (goes-gave-slice 𝓤 H A W 3 2 tt (plain (λ _. u64)), (goes-none 𝓤 H A W 3 (λ _. EventR) yes (λ κs x f. refl), tt)))))
@@ -212,7 +212,7 @@ call-spec 𝓤 H 𝓜 𝓖 𝓡 =
     entered 𝓤 H (tripleOf 𝓤 H (𝓖 .A) f.signature (f.spec 𝓤 H (𝓖 .A) (𝓜 .mem) (𝓡 .run)))
     (tables 𝓤 H 𝓜 𝓡 code.env .C) (tables 𝓤 H 𝓜 𝓡 code.env .Λ) #records·call code.function (code.unfolded 𝓤 H 𝓜 𝓡)
     (meets 𝓤 H (𝓖 .A) (givenOf 𝓤 H 𝓜 𝓖) (𝓜 .mem) (𝓡 .run) (tablesOf 𝓤 H 𝓜 (tables 𝓤 H 𝓜 𝓡 code.env))
-    (cited 𝓤 H (Used 𝓤 H (𝓖 .A)) 𝓜 𝓡 code.env #records·guests·used used-def.routine code.calls-records·guests·used (used-thm.met 𝓤 H 𝓜 𝓖 𝓡))
-    (cited 𝓤 H (Unpack 𝓤 H (𝓖 .A) (𝓜 .mem) (𝓡 .run)) 𝓜 𝓡 code.env #records·guests·unpack unpack-def.routine code.calls-records·guests·unpack (unpack-thm.met 𝓤 H 𝓜 𝓖 𝓡))
+    (cited 𝓤 H (Used 𝓤 H (𝓖 .A)) 𝓜 𝓡 code.env #packs·used used-def.routine code.calls-packs·used (used-thm.met 𝓤 H 𝓜 𝓖 𝓡))
+    (cited 𝓤 H (Unpack 𝓤 H (𝓖 .A) (𝓜 .mem) (𝓡 .run)) 𝓜 𝓡 code.env #packs·unpack unpack-def.routine code.calls-packs·unpack (unpack-thm.met 𝓤 H 𝓜 𝓖 𝓡))
     (cited 𝓤 H (Part 𝓤 H (𝓖 .A) (𝓜 .mem) (𝓡 .run)) 𝓜 𝓡 code.env #records·part·call part-def.routine code.calls-records·part·call (part-thm.met 𝓤 H 𝓜 𝓖 𝓡))
-    (cited 𝓤 H (Pack 𝓤 H (𝓖 .A) (𝓜 .mem) (𝓡 .run)) 𝓜 𝓡 code.env #records·guests·pack pack-def.routine code.calls-records·guests·pack (pack-thm.met 𝓤 H 𝓜 𝓖 𝓡)))
+    (cited 𝓤 H (Pack 𝓤 H (𝓖 .A) (𝓜 .mem) (𝓡 .run)) 𝓜 𝓡 code.env #packs·pack pack-def.routine code.calls-packs·pack (pack-thm.met 𝓤 H 𝓜 𝓖 𝓡)))

@@ -4,7 +4,7 @@ use mathlib.Core.List.{List}
 use Prim.Native.Nat.{ℕ}
 use Rattle.lines.proofs.PutLaws.{put-front}
 use Rattle.stream.specs.Outcome.{Last}
-use Rattle.sheet.specs.Sheet.{sheetOf}
+use Rattle.pages.specs.Sheet.{sheetOf}
 use borrow.Author.Needs.{needs}
 use Rattle.sheet.proofs.refuse.Statement.{statement}
 use Rattle.sheet.proofs.refuse.Tie as tie

@@ -1,7 +1,7 @@
 use mathlib.Core.Path.{_∙_}
 use Rattle.stream.specs.Outcome.{MOST}
 use Rattle.stream.proofs.Firsts.{filled-first, unfilled}
-use Rattle.sheet.specs.Sheet.{sheetOf}
+use Rattle.pages.specs.Sheet.{sheetOf}
 use borrow.Author.Needs.{needs}
 use Rattle.sheet.proofs.run.Statement.{statement}
 use Rattle.sheet.proofs.run.Tie as tie

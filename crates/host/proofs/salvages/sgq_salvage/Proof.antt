@@ -1,4 +1,4 @@
-use Rattle.host.proofs.SalvagedOnce.{handed-on}
+use Rattle.hands.proofs.SalvagedOnce.{handed-on}
 use borrow.Author.Needs.{needs}
 use Rattle.host.proofs.salvages.sgq_salvage.Statement.{statement}
 use Rattle.host.proofs.salvages.sgq_salvage.Tie as tie

@@ -1,4 +1,4 @@
-use Rattle.host.proofs.MovedOnce.{handed-on}
+use Rattle.hands.proofs.MovedOnce.{handed-on}
 use borrow.Author.Needs.{needs}
 use Rattle.host.proofs.traces.sgq_trace_up.Statement.{statement}
 use Rattle.host.proofs.traces.sgq_trace_up.Tie as tie

@@ -1,0 +1,4 @@
+pub mod Counters
+pub mod Phases
+pub mod Promise
+pub mod Steps

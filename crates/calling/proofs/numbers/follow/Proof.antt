@@ -1,0 +1,56 @@
+-- What was found of the tables stays true, and the call is the step or the refusal. Assumes nothing.
+use Rattle.calling.proofs.Returns.{good-known, good-returns, bad-returns, good-stays, bad-stays}
+use borrow.Author.Needs.{needs}
+use Rattle.calling.proofs.numbers.follow.Statement.{statement}
+use Rattle.calling.proofs.numbers.follow.Tie as tie
+
+enum-known-found : tie.Need-enum-known-found
+enum-known-found c = search needs
+
+refused-requires : tie.Need-refused-requires
+refused-requires c κs = search needs
+
+enum-told : tie.Need-enum-told
+enum-told c = search needs
+
+step-and-wake-requires : tie.Need-step-and-wake-requires
+step-and-wake-requires c κs =
+    let s = c .before .before .before .before .before .before .before .before in
+    good-known (s .args .gate) (s .args .guests .now) (s .args .waiting .now) (s .args .flight .now) (s .args .found) (s .pre) (c .before .before .before .enum-told .given .1)
+
+returns : tie.Need-returns
+returns c =
+    let s = c .before .before .before .before .before .before .before in (
+      bad-returns (s .args .gate) (s .args .guests .now) (s .args .waiting .now) (s .args .flight .now) (s .args .found) (s .pre) (s .args .event) _ (c .before .before .found .given .1) _ (c .refused .ensures),
+      bad-stays (s .args .gate) (s .args .guests .now) (s .args .waiting .now) (s .args .flight .now) (s .args .found) (s .pre) _ _ (c .refused .ensures),
+    )
+
+same-length : tie.Need-same-length
+same-length c = search needs
+
+same-length-2 : tie.Need-same-length-2
+same-length-2 c = search needs
+
+same-length-3 : tie.Need-same-length-3
+same-length-3 c = search needs
+
+returns-2 : tie.Need-returns-2
+returns-2 c =
+    let s = c .before .before .before .before .before .before .before .before .before .before .before .before .before .before .before in (
+      good-returns (s .args .gate) (s .args .guests .now) (s .args .waiting .now) (s .args .flight .now) (s .args .found) (s .pre) (s .args .event) (c .before .before .before .before .before .before .before .before .before .before .enum-told .given .1) _ (c .before .before .before .before .before .before .step-and-wake .ensures .0),
+      good-stays (s .args .gate) (s .args .guests .now) (s .args .waiting .now) (s .args .flight .now) (s .args .found) (s .pre) (c .before .before .before .before .before .before .before .before .before .before .enum-told .given .1) _ _ _ _ (c .before .before .before .before .before .before .step-and-wake .ensures .1),
+    )
+
+pub follow-spec : {M : Type 1} → statement M
+follow-spec =
+    tie.close
+    (tie.spec
+    enum-known-found
+    refused-requires
+    enum-told
+    step-and-wake-requires
+    returns
+    same-length
+    same-length-2
+    same-length-3
+    returns-2)

@@ -1,0 +1,77 @@
+-- `hearing::hear_good` meets its contract: a refusal, or the choice on what entered. Assumes nothing.
+use mathlib.Core.Path.{_∙_}
+use Rattle.judge.proofs.Heard.{good-refused, good-known, good-entered}
+use borrow.Author.Needs.{needs}
+use Rattle.hears.proofs.hear_good.Statement.{statement}
+use Rattle.hears.proofs.hear_good.Tie as tie
+
+enter-requires : tie.Need-enter-requires
+enter-requires c κs = search needs
+
+enum-known-entered : tie.Need-enum-known-entered
+enum-known-entered c = search needs
+
+hear-plain-requires : tie.Need-hear-plain-requires
+hear-plain-requires c κs = search needs
+
+enum-known-entered-2 : tie.Need-enum-known-entered-2
+enum-known-entered-2 c = search needs
+
+hear-choice-requires : tie.Need-hear-choice-requires
+hear-choice-requires c κs =
+    let s = c .before .before .before .before .before .before .before .before .before .before .before .before .before .before .before .before .before .before .before .before .before .before in
+    (good-known (s .args .gate) (s .args .guests .now) (s .args .waiting .now) (s .args .flight .now) (s .pre .0) (s .args .event) (s .args .number) (s .args .said .now) (c .before .before .before .before .before .before .before .before .before .before .before .before .before .enter .result) _ _ _ (c .before .before .before .before .before .before .before .before .before .before .before .before .before .enter .ensures) _ (c .before .before .before .before .before .entered2 .given .1), s .pre .1)
+
+same-length : tie.Need-same-length
+same-length c = search needs
+
+same-length-2 : tie.Need-same-length-2
+same-length-2 c = search needs
+
+same-length-3 : tie.Need-same-length-3
+same-length-3 c = search needs
+
+same-length-4 : tie.Need-same-length-4
+same-length-4 c = search needs
+
+returns : tie.Need-returns
+returns c =
+    let s = c .before .before .before .before .before .before .before .before .before .before .before .before .before .before .before .before .before .before .before .before .before .before in
+    good-refused (s .args .gate) (s .args .guests .now) (s .args .waiting .now) (s .args .flight .now) (s .pre .0) (s .args .event) (s .args .number) (s .args .said .now) (c .before .before .before .before .before .before .before .before .before .before .before .before .before .enter .result) _ _ _ (c .before .before .before .before .before .before .before .before .before .before .before .before .before .enter .ensures) _ (c .before .before .before .before .before .entered .given .1) _ (c .before .before .hear-plain .ensures)
+
+same-length-5 : tie.Need-same-length-5
+same-length-5 c = c .before .before .before .before .before .before .before .before .hear-choice .kept .1 .0 ∙ c .before .before .before .before .before .before .before .before .before .before .before .before .before .before .before .before .before .before .before .before .before .before .enter .kept .1 .0
+
+same-length-6 : tie.Need-same-length-6
+same-length-6 c = search needs
+
+same-length-7 : tie.Need-same-length-7
+same-length-7 c = search needs
+
+same-length-8 : tie.Need-same-length-8
+same-length-8 c = search needs
+
+returns-2 : tie.Need-returns-2
+returns-2 c =
+    let s = c .before .before .before .before .before .before .before .before .before .before .before .before .before .before .before .before .before .before .before .before .before .before .before .before .before .before .before .before .before .before .before in
+    good-entered (s .args .gate) (s .args .guests .now) (s .args .waiting .now) (s .args .flight .now) (s .pre .0) (s .args .event) (s .args .number) (s .args .said .now) (c .before .before .before .before .before .before .before .before .before .before .before .before .before .before .before .before .before .before .before .before .before .before .enter .result) _ _ _ (c .before .before .before .before .before .before .before .before .before .before .before .before .before .before .before .before .before .before .before .before .before .before .enter .ensures) _ (c .before .before .before .before .before .before .before .before .before .before .before .before .before .before .entered2 .given .1) (c .before .before .before .before .before .before .before .before .hear-choice .ensures)
+
+pub hear-good-spec : {M : Type 1} → statement M
+hear-good-spec =
+    tie.close
+    (tie.spec
+    enter-requires
+    enum-known-entered
+    hear-plain-requires
+    enum-known-entered-2
+    hear-choice-requires
+    same-length
+    same-length-2
+    same-length-3
+    same-length-4
+    returns
+    same-length-5
+    same-length-6
+    same-length-7
+    same-length-8
+    returns-2)

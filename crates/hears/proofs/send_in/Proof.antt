@@ -1,0 +1,63 @@
+-- `hearing::send_in` meets its contract: the sends of `choose`, by the phase. Assumes nothing.
+use Rattle.rules.specs.declared.Phase.the-variants.{Reservation, Weight}
+use Rattle.judge.proofs.Sent.{send-left}
+use borrow.Author.Needs.{needs}
+use Rattle.hears.proofs.send_in.Statement.{statement}
+use Rattle.hears.proofs.send_in.Tie as tie
+
+enum-told : tie.Need-enum-told
+enum-told c = search needs
+
+send-by-reservation-requires : tie.Need-send-by-reservation-requires
+send-by-reservation-requires c κs = search needs
+
+enum-told-2 : tie.Need-enum-told-2
+enum-told-2 c = search needs
+
+send-by-weight-requires : tie.Need-send-by-weight-requires
+send-by-weight-requires c κs = search needs
+
+same-length : tie.Need-same-length
+same-length c = search needs
+
+same-length-2 : tie.Need-same-length-2
+same-length-2 c = search needs
+
+same-length-3 : tie.Need-same-length-3
+same-length-3 c = search needs
+
+returns : tie.Need-returns
+returns c =
+    let s = c .before .before .before .before .before .before .before .before .before .before .before .before .before .before in
+    send-left (s .args .gate) (s .args .guests .now) (s .args .waiting .now) (s .args .flight .now) (s .pre .0) (s .pre .1 .0 .0) (s .args .place) (s .pre .1 .0 .1) (s .pre .1 .1) (s .args .phase) Reservation (c .before .before .before .before .before .before .before .before .before .enum-told .given .1) (c .before .before .before .before .before .send-by-reservation .result) _ _ _ (c .before .before .before .before .before .send-by-reservation .ensures)
+
+same-length-4 : tie.Need-same-length-4
+same-length-4 c = search needs
+
+same-length-5 : tie.Need-same-length-5
+same-length-5 c = search needs
+
+same-length-6 : tie.Need-same-length-6
+same-length-6 c = search needs
+
+returns-2 : tie.Need-returns-2
+returns-2 c =
+    let s = c .before .before .before .before .before .before .before .before .before .before .before .before .before .before .before .before in
+    send-left (s .args .gate) (s .args .guests .now) (s .args .waiting .now) (s .args .flight .now) (s .pre .0) (s .pre .1 .0 .0) (s .args .place) (s .pre .1 .0 .1) (s .pre .1 .1) (s .args .phase) Weight (c .before .before .before .before .before .before .before .before .before .before .before .enum-told2 .given .1) (c .before .before .before .before .before .before .before .send-by-weight .result) _ _ _ (c .before .before .before .before .before .before .before .send-by-weight .ensures)
+
+pub send-in-spec : {M : Type 1} → statement M
+send-in-spec =
+    tie.close
+    (tie.spec
+    enum-told
+    send-by-reservation-requires
+    enum-told-2
+    send-by-weight-requires
+    same-length
+    same-length-2
+    same-length-3
+    returns
+    same-length-4
+    same-length-5
+    same-length-6
+    returns-2)

@@ -1,3 +1,0 @@
-pub mod Calls
-pub mod Host
-pub mod Traces

@@ -1,0 +1,14 @@
+pub mod Keeps
+pub mod Exactly
+pub mod Accepted
+pub mod Runs
+pub mod Demand3
+pub mod CounterLaws
+pub mod Lines
+pub mod Counted
+pub mod Untouched
+pub mod Unread
+pub mod Good
+pub mod GoodHouse
+pub mod Begins
+pub mod Readings

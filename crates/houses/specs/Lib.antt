@@ -1,0 +1,5 @@
+pub mod House
+pub mod History
+pub mod Cases
+pub mod Needs
+pub mod Opening

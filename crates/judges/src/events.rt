@@ -1,0 +1,77 @@
+// All events of a trace: the other gate's lines are heard one after the other, each at the tables that those before it left.
+use crate::ended;
+use crate::wrong_at;
+use hears::hear;
+use judge::Judged;
+use rules::Answer;
+use rules::Gate;
+use rules::Refusal;
+use ties::saying::says;
+ghost use mathlib.Core.Path.{_≡_};
+ghost use Prim.Native.Nat.{_+_, _≤_, _<_, _^_};
+ghost use lib.ListN.{length};
+ghost use Rattle.rules.specs.Tables.{Table};
+ghost use Rattle.table.specs.View.{tableOf, Known};
+ghost use Rattle.lines.specs.Line.{LINE};
+ghost use Rattle.judge.specs.Acceptable.{cutAsked, askedFrom};
+ghost use Rattle.judge.specs.Judging.{judgedFrom};
+
+// What is left behind the whole events, of which there are so many: the line of one that is cut short, and nothing more.
+fn judge_rest(rest: &[u8], number: u64, said: &[u8], text: &mut [u8]) -> Judged
+    requires { ⌜ (number + 3 < 2 ^ 64) × (LINE ≤ length (now text)) ⌝ }
+    ensures { λ r. ⌜ ((t : Table) → r ≡ judgedFrom number t (cutAsked (now (rest .entry))) (now (said .entry))) ⌝ }
+{
+    if rest.len() == 0 {
+        return ended(number + 2, said);
+    }
+    let answer = Answer::Refused(Refusal::EventCut);
+    let long = says(text, number + 1, answer, said);
+    if long == 0 {
+        return wrong_at(number + 2, answer);
+    }
+    ended(number + 3, &said[long..])
+}
+
+// Judges the lines behind the header line, of the events of a trace of this version, from the tables on that its header opens.
+pub fn judge_events(
+    version: u64,
+    bytes: &[u8],
+    first: Gate,
+    guests: &mut [u64],
+    waiting: &mut [u64],
+    flight: &mut [u64],
+    said: &[u8],
+    text: &mut [u8],
+) -> Judged
+    requires { ⌜ Known first (now guests) (now waiting) (now flight) ⌝ }
+    requires { ⌜ LINE ≤ length (now text) ⌝ }
+    ensures { λ r. ⌜ r ≡ judgedFrom 0 (tableOf first (now (guests .entry)) (now (waiting .entry)) (now (flight .entry))) (askedFrom version (now (bytes .entry))) (now (said .entry)) ⌝ }
+{
+    let n = bytes.len() / 14;
+    let mut gate = first;
+    let mut at: usize = 0;
+    let mut i: usize = 0;
+    while i < n {
+        let heard = hear(
+            version,
+            bytes,
+            i * 14,
+            gate,
+            guests,
+            waiting,
+            flight,
+            i as u64 + 1,
+            &said[at..],
+            text,
+        );
+        let answer = heard.answer;
+        let long = heard.long;
+        if long == 0 {
+            return wrong_at(i as u64 + 2, answer);
+        }
+        gate = heard.gate;
+        at += long;
+        i += 1;
+    }
+    judge_rest(&bytes[n * 14..], n as u64, &said[at..], text)
+}

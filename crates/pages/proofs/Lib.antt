@@ -1,0 +1,5 @@
+pub mod Printing
+pub mod AfterRun
+pub mod Alike
+pub mod Splitting
+pub mod Fairness

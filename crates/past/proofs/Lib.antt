@@ -1,0 +1,5 @@
+pub mod Spaced
+pub mod Single
+pub mod Plain
+pub mod StayAbove
+pub mod LastTime

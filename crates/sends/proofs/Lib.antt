@@ -1,0 +1,7 @@
+pub mod Firsts
+pub mod Phases
+pub mod Returns
+pub mod Rising
+pub mod Sends
+pub mod Wakes
+pub mod WeightSend
