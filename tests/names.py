@@ -1,5 +1,5 @@
 #!/usr/bin/env python3
-"""Holds the README and the pages in docs/ to the files that they speak of.
+"""Holds the README, the pages in docs/ and those of integrations/ to the files that they speak of.
 
 Places: `name` file:line, as in `chosen` crates/rules/proofs/Chosen.antt:12, where the name may stand at the end of the line
 above. The file declares the name in that line; --mend corrects the line. A file with a line and no name is an error.
@@ -15,10 +15,10 @@ import sys
 ROOT = pathlib.Path(__file__).resolve().parent.parent
 MAPPING = ROOT / "README.md"
 QUOTING = ROOT / "docs" / "PROMISES.md"
-PAGES = [MAPPING, *sorted((ROOT / "docs").glob("*.md"))]
+PAGES = [MAPPING, *sorted((ROOT / "docs").glob("*.md")), *sorted((ROOT / "integrations").glob("*/README.md"))]
 PLACE = re.compile(r"`([^`\s]+)`(\s+)([\w./-]+\.\w+):(\d+)")
 LINED = re.compile(r"[\w./-]+\.(?:antt|rt|edit|py|rs|h|c):\d+")
-FOLDERS = "crates|tests|docs|files|samples|second|tools|include|install|bindings|bench|examples|[.]ci"
+FOLDERS = "crates|tests|docs|files|samples|second|tools|include|install|integrations|bindings|bench|examples|[.]ci"
 FILE = re.compile(rf"(?<![\w/.*-])((?:{FOLDERS})/[\w./-]*\w)(?![\w/*-])")
 LINK = re.compile(r"\]\(([^)\s]+)\)")
 FENCE = re.compile(r"^```")
