@@ -107,8 +107,8 @@ class House:
         shutil.copy(ROOT / "tools" / "sheettable.py", self.root / "tools")
         shutil.copy(SECOND, self.root / "made.decide")
         self.write("made.sheet", f"#!/bin/sh\nexec '{self.root}/made.decide' sheet\n", 0o755)
-        for folder in ("files", "include"):
-            shutil.copytree(ROOT / folder, self.root / folder)
+        for folder in ("files", "include", "lab"):
+            shutil.copytree(ROOT / folder, self.root / folder, ignore=shutil.ignore_patterns("out", "__pycache__"))
         self.write("made.host", "a library\n")
         self.write("made.files", FILES.format(second=self.root / "made.decide"), 0o755)
         self.write("bin/cc", CC, 0o755)
@@ -209,12 +209,12 @@ def expected(sample, end="out"):
 
 def test_words(tally, house):
     check(tally, "no word", house.sgq(), 2, said="./sgq decide [TRACE]")
-    known = "there is no 'dcide': say decide, sheet, up, back, salvage, judge, test, help or --version"
+    known = "there is no 'dcide': say decide, sheet, up, back, salvage, judge, picture, lab, test, help or --version"
     check(tally, "unknown word", house.sgq("dcide"), 2, said=known, lines=1)
     helped = house.sgq("help")
     check(tally, "help", helped, 0, helped.stdout, lines=0)
     hold(tally, "help says test", b"./sgq test" in helped.stdout)
-    for words in (["decide", "--help"], ["decide", "-h"], *([word, "--help"] for word in ("sheet", *WHOLE, "judge", "test"))):
+    for words in (["decide", "--help"], ["decide", "-h"], *([word, "--help"] for word in ("sheet", *WHOLE, "judge", "picture", "lab", "test"))):
         more = house.sgq(*words)
         check(tally, " ".join(words), more, 0, more.stdout, lines=0)
         hold(tally, f"{' '.join(words)} says more", more.stdout.startswith(f"./sgq {words[0]} ".encode()))
@@ -234,6 +234,13 @@ def test_words(tally, house):
         said = f"judge takes a trace and the lines of another gate, not {count} names"
         check(tally, f"judge of {names}", house.sgq("judge", *names), 2, said=said, lines=1)
     check(tally, "unknown option of judge", house.sgq("judge", "--all", "b"), 2, said="judge has no '--all'", lines=1)
+    for names in ([], ["a"], ["a", "b", "c"]):
+        said = f"picture takes a trace and where the page goes, not {len(names)} names"
+        check(tally, f"picture of {names}", house.sgq("picture", *names), 2, said=said, lines=1)
+    check(tally, "unknown option of picture", house.sgq("picture", "--all", "b"), 2, said="picture has no '--all'", lines=1)
+    check(tally, "unknown option of lab", house.sgq("lab", "--all"), 2, said="lab has no '--all'", lines=1)
+    for name in ("figure99", "../lab", "figure05.py", ""):
+        check(tally, f"experiment '{name}'", house.sgq("lab", name), 2, said=f"there is no experiment '{name}'", lines=1)
     check(tally, "test with more words", house.sgq("test", "all"), 2, said="no more words", lines=1)
 
 
@@ -515,6 +522,74 @@ def standing_in_place(house, name, program):
     yield
     house.write(f"made.{name}", kept, 0o755)
     house.write("files/whole.h", "good\n")
+
+
+# In place of lab/lab.py, which tests/lab.py tests: what it was called with, and its status.
+LAB = """import sys
+print(*sys.argv[1:])
+sys.exit(int(sys.argv[-1] == "figure06"))
+"""
+
+
+def test_picture(tally, house):
+    """Where the trace comes from and where the page goes, and what is said where it does not."""
+    trace = (house.root / "example.sgq").read_bytes()
+    for name, words, given, out in (
+        ("a trace", ["example.sgq", "day.html"], b"", "day.html"),
+        ("a text", ["samples/example.txt", "day.html"], b"", "day.html"),
+        ("a trace there", ["-", "day.html"], trace, "day.html"),
+        ("a text there", ["-", "day.html"], (ROOT / "samples" / "example.txt").read_bytes(), "day.html"),
+        ("--", ["--", "-x", "day.html"], b"", "day.html"),
+        ("a drawing", ["example.sgq", "day.svg"], b"", "day.svg"),
+    ):
+        house.remove(out)
+        check(tally, f"picture of {name}", house.sgq("picture", *words, given=given), 0, lines=0)
+        drawn = (house.root / out).read_text() if (house.root / out).exists() else ""
+        hold(tally, f"the picture of {name}", drawn.startswith("<svg" if out.endswith("svg") else "<!doctype html>") and drawn.count("<title>guest 0, id ") == 4, drawn[:200])
+    ended = house.sgq("picture", "example.sgq", "-")
+    check(tally, "picture to standard output", ended, 0, ended.stdout, lines=0)
+    hold(tally, "it is a page", ended.stdout.startswith(b"<!doctype html>"))
+    check_no_picture(tally, house)
+
+
+def check_no_picture(tally, house):
+    house.write("day.html", "as it was")
+    with tempfile.TemporaryDirectory() as temporary:
+        there = dict(house.environment, TMPDIR=temporary)
+        for number, trace, said in REFUSED:
+            ended = house.sgq("picture", "-", "day.html", given=trace, env=there)
+            check(tally, f"picture, {number}, {len(trace)} bytes", ended, 1, said=f"standard input is refused: {said}", lines=1)
+        for name, words, said in (
+            ("a lost trace", ["lost.sgq", "day.html"], "there is no file 'lost.sgq': name"),
+            ("a folder", ["example.sgq", "samples"], "samples is a folder: name a file in it"),
+            ("no folder", ["example.sgq", "lost/day.html"], "there is no folder"),
+            ("a bad text", ["bad.txt", "day.html"], "bad.txt: line 2: capacity 0 is not from 1 to 1024"),
+        ):
+            check(tally, f"picture, {name}", house.sgq("picture", *words, env=there), 2, said=said, lines=1)
+        hold(tally, "no temporary file of picture is left", os.listdir(temporary) == [], os.listdir(temporary))
+    hold(tally, "what was there stays", (house.root / "day.html").read_text() == "as it was")
+    many = HEAD + "".join(f"arrival 0 {id} at {id}0ms\ncompletion 0 {id} at {id}1ms\n" for id in range(1, 800))
+    ended = house.sgq("picture", "-", "many.svg", given=many.encode())
+    check(tally, "one drawing of many", ended, 1, said="standard input has more than 700 requests, so there is no one drawing of it", lines=1)
+    check(tally, "a page of many", house.sgq("picture", "-", "many.html", given=many.encode()), 0, lines=0)
+
+
+def test_lab(tally, house):
+    """All is made ready, and the lab is called with it."""
+    house.write("lab/lab.py", LAB)
+    own, made = house.root / "target" / "sgq", house.root / "target" / "bin"
+    words = f"--sim {own}/lab --decide {made}/decide --sheet {made}/sheet --files {own}/files"
+    for given, told, status in ((["figure05"], "--short 1 {} figure05", 0), (["--short"], "--short 6 {}", 0), (["figure05", "figure06"], "--short 1 {} figure05 figure06", 1)):
+        ended = house.sgq("lab", *given)
+        check(tally, f"lab {' '.join(given)}", ended, status, f"{told.format(words)}\n".encode())
+    hold(tally, "the simulator is linked", (own / "lab").exists() and (own / "lab.linked").exists())
+    links = (house.root / "links").read_text().count("\n")
+    house.sgq("lab")
+    hold(tally, "it is linked once", (house.root / "links").read_text().count("\n") == links)
+    house.write("no-c", "")
+    house.write("lab/sim/run.h", "another\n")
+    check(tally, "a simulator that does not compile", house.sgq("lab"), 2, said="lab/sim/ could not be compiled by cc; see target/sgq/lab.log", lines=1)
+    house.remove("no-c")
 
 
 def test_texts(tally, house):
@@ -859,6 +934,8 @@ def tests(tally):
             test_moves,
             test_salvage,
             test_judge,
+            test_picture,
+            test_lab,
             test_texts,
             test_bad_texts,
             test_refusals,
