@@ -30,13 +30,13 @@ def nanoseconds(seconds):
     return round(seconds * NANO)
 
 
-def text_of(run, gate, shorter, rule=None):
-    """A run as the simulator reads it; lab/sim/run.h has the form."""
+def text_of(run, gate, shorter, rule=None, seed=SEED):
+    """A run as the simulator reads it; lab/sim/run.h has the form. Its figures are those of the one seed."""
     part = 1 / shorter if run.scaled else 1
     until = nanoseconds(run.seconds.number * part)
     lines = [f"gate {gate}", f"rule {rule or run.rule}", f"arrays {run.arrays.number}", f"depth {run.depth.number}"]
     lines += [f"capacity {run.capacity()}", f"servers {run.servers.number}", f"vary {round(run.vary.number * 1000)}"]
-    lines += [f"think {nanoseconds(run.think.number)}", f"until {until}", f"every {NANO}", f"seed {SEED}"]
+    lines += [f"think {nanoseconds(run.think.number)}", f"until {until}", f"every {NANO}", f"seed {seed}"]
     for since, rate in run.speeds():
         for array in range(run.arrays.number):
             lines.append(f"speed {array} {nanoseconds(since.number * part)} {rate.number}")

@@ -3,6 +3,9 @@
 what it writes and prints, beside the second program; and for each fault one line, the status, and that an existing file is
 replaced by a whole result or not at all.
 
+    python3 tests/files.py [FIRST | --fresh]     the random traces have the seeds from FIRST on, 1 where none is named, and fresh ones (kit.py);
+                                                 or those alone, and nothing else is tried
+
 The library is target/staticlib/libhost.a, which 'rt staticlib host' writes; the environment variable SGQ_LIB may name
 another archive, as to try these tests on a wrong one. Ends with 'N passed, M failed'."""
 import os
@@ -15,7 +18,7 @@ import subprocess
 import sys
 import tempfile
 
-from kit import LIBRARY, ROOT, SECOND, Stop, build_second, need_library, random_trace, run_tests, sgqtext
+from kit import LIBRARY, ROOT, SECOND, Seeds, Stop, build_second, need_library, random_trace, run_tests, sgqtext
 from machine import OWN, before_linked, compiler, say_how
 
 SOURCES = sorted((ROOT / "files").glob("*.c"))
@@ -199,10 +202,10 @@ def unlisted(tally, house):
     hold(tally, "a result that cannot be", (ended.returncode, ended.stderr) == (1, said), f"it ended with {ended}")
 
 
-def test_salvage_beside_second(tally, house):
+def test_salvage_beside_second(tally, house, seeds):
     """Random torn traces: the same bytes and the same list as the second program's, or the same refusal."""
     for kind in TORN:
-        for seed in range(1, SALVAGED + 1):
+        for seed in seeds.of(SALVAGED):
             trace = random_trace(kind, seed)
             house.write("trace", trace)
             tally.add(f"salvage of {kind} seed {seed}", salvage_beside_second(house), trace)
@@ -280,10 +283,10 @@ def test_judge(tally, house):
     hold(tally, "nothing else is there", house.names() == ["lines", "many", "trace"], house.names())
 
 
-def test_judge_beside_second(tally, house):
+def test_judge_beside_second(tally, house, seeds):
     """Random traces, each with the lines of the second program, and those damaged: the same number of the line, and what was due."""
     for kind in JUDGED:
-        for seed in range(1, SEEDS + 1):
+        for seed in seeds.of(SEEDS):
             trace = random_trace(kind, seed)
             lines = subprocess.run([SECOND], input=trace, stdout=subprocess.PIPE, check=True).stdout
             house.write("trace", trace)
@@ -334,10 +337,10 @@ def test_refused(tally, house):
     check(tally, "refused to standard output", house.run("up", "trace", "-"), 1, "trace is refused: it is of version 2, and up takes version 1 (12)")
 
 
-def test_beside_second(tally, house):
+def test_beside_second(tally, house, seeds):
     """Random traces, damaged ones too: the same bytes as the second program's, or the same refusal."""
     for kind in KINDS:
-        for seed in range(1, SEEDS + 1):
+        for seed in seeds.of(SEEDS):
             trace = random_trace(kind, seed)
             house.write("trace", trace)
             for word in ("up", "back"):
@@ -453,20 +456,29 @@ def test_stopped(tally, house):
     check(tally, "lines that become shorter", shortened("judge", "trace", "lines", "the trace", "the lines"), 1, said)
 
 
+def compare(tally, house, seeds):
+    """All that is held to the second program on random traces."""
+    test_beside_second(tally, house, seeds)
+    test_salvage_beside_second(tally, house, seeds)
+    test_judge_beside_second(tally, house, seeds)
+
+
 def tests(tally):
+    seeds = Seeds(tally, sys.argv[1:])
     need_library()
     build_second()
     say_how(linked=True)
     with tempfile.TemporaryDirectory() as name:
         house = House(pathlib.Path(name))
+        if seeds.alone:
+            compare(tally, house, seeds)
+            return
         test_words(tally, house)
         test_moves(tally, house)
         test_salvage(tally, house)
         test_judge(tally, house)
         test_refused(tally, house)
-        test_beside_second(tally, house)
-        test_salvage_beside_second(tally, house)
-        test_judge_beside_second(tally, house)
+        compare(tally, house, seeds)
         test_faults(tally, house)
         test_full(tally, house)
         test_stopped(tally, house)

@@ -1,6 +1,8 @@
-"""What the tests share: the second program and its random traces, the library, the text tool, and the count of what passed."""
+"""What the tests share: the second program and its random traces, the seeds of those, the library, the text tool, and the count of what
+passed."""
 import os
 import pathlib
+import random
 import shutil
 import subprocess
 import sys
@@ -14,6 +16,8 @@ TRACES = BUILT / "release" / "traces"
 CORES = 2
 # The library that a host links; SGQ_LIB may name another archive, as to try a test on a wrong one.
 LIBRARY = pathlib.Path(os.environ.get("SGQ_LIB") or ROOT / "target" / "staticlib" / "libhost.a").absolute()
+PART = 10  # of so many fixed seeds there is one fresh one; tests/host/src/seeds.rs has the same
+MOST_SEED = 2**63  # so that those that follow it fit into 64 bits
 X86_64 = (62).to_bytes(2, "little")  # the machine in an object's header
 
 sys.path.insert(0, str(ROOT / "samples"))
@@ -45,11 +49,49 @@ def random_trace(kind, seed):
     return subprocess.run([TRACES, str(seed), kind], stdout=subprocess.PIPE, check=True).stdout
 
 
+def drawn_seed():
+    """A seed above all fixed ones, from the system's randomness."""
+    return random.SystemRandom().randrange(10**6, 10**12)
+
+
+def fresh_seed():
+    """The one that SGQ_SEED names, to repeat a run, or else one that is drawn."""
+    named = os.environ.get("SGQ_SEED")
+    if not named:
+        return drawn_seed()
+    if not named.isdecimal() or int(named) >= MOST_SEED:
+        raise Stop(f"SGQ_SEED is '{named}', and has to be a whole number below {MOST_SEED}")
+    return int(named)
+
+
+class Seeds:
+    """The seeds of a test's random comparisons: fixed ones, so that every run sees what the last one saw, and beside them a tenth as many
+    fresh ones, so that no run sees only that. The first fresh one is printed, and told again where something fails.
+
+    A test's words are one number, the first of the fixed ones, or --fresh, by which it plays the fresh ones alone and leaves out all that
+    has no seed."""
+
+    def __init__(self, tally, words):
+        if len(words) > 1 or not (words in ([], ["--fresh"]) or words[0].isdecimal()):
+            raise Stop("the words are one number, the first of the fixed seeds, or --fresh, the fresh ones alone")
+        self.alone = words == ["--fresh"]
+        self.first = int(words[0]) if words and not self.alone else 1
+        self.fresh = fresh_seed()
+        tally.repeat = f"seed {self.fresh} (SGQ_SEED={self.fresh} repeats it)"
+        print(tally.repeat, flush=True)
+
+    def of(self, count):
+        """The fresh ones beside so many fixed ones, and those."""
+        fixed = 0 if self.alone else count
+        return [*range(self.fresh, self.fresh + -(-count // PART)), *range(self.first, self.first + fixed)]
+
+
 class Tally:
     """Counts what passed; says what failed, and keeps its trace."""
 
     def __init__(self):
         self.passed = self.failed = 0
+        self.repeat = None  # how a run is repeated that has a fresh seed
 
     def add(self, name, why, trace=None):
         """One test more: it passed where there is no reason why not."""
@@ -62,7 +104,9 @@ class Tally:
             print(f"  its trace is in {kept(name, trace)}", flush=True)
 
     def end(self):
-        """The last line, and the exit status."""
+        """The last line, and the exit status. Where something failed the seed stands above it, for what failed without naming one."""
+        if self.failed and self.repeat:
+            print(self.repeat)
         print(f"{self.passed} passed, {self.failed} failed")
         return 0 if self.passed and not self.failed else 1
 

@@ -2,7 +2,8 @@
 """Tests the lab and the pictures: the experiments on short runs, each run of one array recorded and held to decide, sheet and judge byte for byte; that
 the checks notice what is wrong; docs/BEHAVIOUR.md; the page in a browser; and pictures of traces.
 
-    python3 tests/lab.py [--mend]     --mend writes the figures into docs/BEHAVIOUR.md, and docs/lot214.svg
+    python3 tests/lab.py [--mend | --fresh]     --mend writes the figures into docs/BEHAVIOUR.md, and docs/lot214.svg; --fresh plays random traces
+                                                and a run on fresh seeds alone (kit.py), and nothing else
 
 The browser is headless Chromium, where it is installed. The library is target/staticlib/libhost.a, which 'rt staticlib host' writes, and decide and sheet
 stand in target/bin; the environment variable SGQ_LIB may name another archive. Ends with 'N passed, M failed'.
@@ -15,7 +16,7 @@ import subprocess
 import sys
 import tempfile
 
-from kit import LIBRARY, ROOT, Stop, build_second, need_library, random_trace, run_tests, sgqtext
+from kit import LIBRARY, ROOT, Seeds, Stop, build_second, need_library, random_trace, run_tests, sgqtext
 from machine import before_linked, before_program, compiler, is_installed, say_how
 
 LAB = ROOT / "lab"
@@ -154,19 +155,42 @@ def test_loads(tally, programs):
     hold(tally, "a closed load", 0 <= under_way <= 32, f"{under_way} are not under way")
 
 
-def lines_of(programs, run, gate, folder):
+def lines_of(programs, run, gate, folder, seed=play.SEED):
     """What a gate answers in a run, in the lines of decide."""
     path = pathlib.Path(folder) / f"lines.{gate}"
-    play.run_program(programs.sim, f"{play.text_of(run, gate, SHORTER)}lines {path}\n".encode())
+    play.run_program(programs.sim, f"{play.text_of(run, gate, SHORTER, seed=seed)}lines {path}\n".encode())
     return path.read_bytes()
+
+
+def modelled():
+    """The runs that the plain model is held to the library in."""
+    for one in lab.experiments(["figure03", "figure05", "figure06", "figure07", "table04", "figure08", "rules", "costs"]):
+        yield from [run for run in one.runs if run.arrays.number == 1][-2:]
 
 
 def test_model(tally, programs, folder):
     """The plain model with K3 in it decides as the library; so what it does without K3 differs by that line alone."""
-    for name in ("figure03", "figure05", "figure06", "figure07", "table04", "figure08", "rules", "costs"):
-        for run in [run for run in lab.experiments([name])[0].runs if run.arrays.number == 1][-2:]:
-            same = lines_of(programs, run, "library", folder) == lines_of(programs, run, "after-k3", folder)
-            hold(tally, f"the model of {run.name}", same, "the library decides otherwise")
+    for run in modelled():
+        same = lines_of(programs, run, "library", folder) == lines_of(programs, run, "after-k3", folder)
+        hold(tally, f"the model of {run.name}", same, "the library decides otherwise")
+
+
+def test_fresh_run(tally, programs, folder, seed):
+    """One of these runs on another seed, which also chooses it. Figures are held to the paper's on the fixed seed alone; on any seed decide,
+    sheet and judge agree with what is recorded, and the model decides as the library."""
+    runs = list(modelled())
+    run = runs[seed % len(runs)]
+    files = [folder / name for name in ("fresh.trace", "fresh.lines", "fresh.sheet")]
+    text = play.text_of(run, "library", SHORTER, seed=seed) + "".join(f"{path.suffix[1:]} {path}\n" for path in files)
+    why = None
+    try:
+        play.run_program(programs.sim, text.encode())
+        play.follow_chain(programs, *files)
+        if files[1].read_bytes() != lines_of(programs, run, "after-k3", folder, seed):
+            why = "the plain model decides otherwise than the library"
+    except play.Failed as failed:
+        why = failed
+    tally.add(f"a run of {run.name}, seed {seed}", why)
 
 
 # The experiments.
@@ -397,10 +421,10 @@ class Sheet(ledger.Listener):
             ]
 
 
-def test_ledger(tally, programs, folder):
+def test_ledger(tally, programs, folder, seeds):
     """What the pictures count of a trace is what sheet prints, but for the sends ahead of a limit."""
     for kind in KINDS:
-        for seed in range(1, SEEDS + 1):
+        for seed in seeds.of(SEEDS):
             trace = random_trace(kind, seed)
             printed = play.run_program(programs.sheet, trace).decode()
             if printed.startswith("trace refused"):
@@ -413,12 +437,12 @@ def test_ledger(tally, programs, folder):
             expected = [[*row[:5], row[6], (row[7] << 64) + row[8], *row[9:]] for row in rows]
             hold(
                 tally,
-                f"the count of {kind} {seed}",
+                f"the count of {kind} seed {seed}",
                 list(sheet.lines()) == expected,
                 f"{list(sheet.lines())}, and sheet has {expected}",
             )
             page = picture.picture(trace, lines, "a trace")
-            hold(tally, f"the picture of {kind} {seed}", page.startswith("<!doctype html>") and "data-plot=" in page)
+            hold(tally, f"the picture of {kind} seed {seed}", page.startswith("<!doctype html>") and "data-plot=" in page)
 
 
 def test_day(tally, programs, folder, mend):
@@ -478,8 +502,10 @@ def test_stretches(tally):
 
 def tests(tally):
     words = sys.argv[1:]
-    if words not in ([], ["--mend"]):
-        raise Stop("tests/lab.py takes no word but --mend")
+    if words not in ([], ["--mend"], ["--fresh"]):
+        raise Stop("tests/lab.py takes no word but --mend or --fresh")
+    mend = words == ["--mend"]
+    seeds = Seeds(tally, [] if mend else words)
     need_library()
     build_second()
     say_how(linked=True)
@@ -487,6 +513,10 @@ def tests(tally):
         folder = pathlib.Path(name)
         made = build(folder)
         programs = programs_from(made)
+        test_fresh_run(tally, programs, folder, seeds.fresh)
+        test_ledger(tally, programs, folder, seeds)
+        if seeds.alone:
+            return
         chosen = lab.experiments([])
         test_wrong_runs(tally, programs)
         test_compilers(tally, programs, made)
@@ -497,16 +527,23 @@ def tests(tally):
         results = lab.play_all(programs, chosen, SHORTER)
         test_experiments(tally, chosen, results)
         test_notices(tally, programs, results)
-        test_behaviour(tally, chosen, results, bool(words))
+        test_behaviour(tally, chosen, results, mend)
         test_stretches(tally)
-        test_ledger(tally, programs, folder)
         pages = [("the lab's page", test_page(tally, chosen, results, folder), 40)]
         pages += [
-            ("the day of lot 214", test_day(tally, programs, folder, bool(words)), 1),
+            ("the day of lot 214", test_day(tally, programs, folder, mend), 1),
             ("a trace of many", test_sums(tally, programs, folder), 10),
         ]
         for title, path, least in pages:
             test_browser(tally, title, path, folder, least)
 
 
-sys.exit(run_tests(tests))
+def tests_told(tally):
+    """A program that ends otherwise than it should is a failure like any other: it is counted, and the seed told with it."""
+    try:
+        tests(tally)
+    except play.Failed as why:
+        raise Stop(why) from why
+
+
+sys.exit(run_tests(tests_told))

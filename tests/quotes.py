@@ -11,9 +11,9 @@ that request of document 02; 'demand 3', as docs/PROMISES.md quotes it below its
 the file's first comment names in a sentence "Words in quotes are demand 3's.", or the heading above the row; else of document 01.
 Word for word: the words stand so in one paragraph, item or cell of the source, or in a heading. '..' passes over words. The source's
 own quotation marks, and its marks of bold and of readings ('*'), are left out.
-Sentences: every row of docs/RULES.md begins with a quote, and together the rows have every word of document 01, but for headings and
-the printed example. Of document 02 that is not asked yet. --list lists the sentences of document 01 that the quotes in specs/ do not
-have whole: docs/RULES.md alone answers for them.
+Sentences: every row of docs/RULES.md begins with a quote, and together the rows have every word of both documents, but for headings and
+the printed example: of document 01 those below no request's heading, of a request those below its own, 'When to wake us: K2', which
+begins with its title. --list lists the sentences that the quotes in specs/ do not have whole: docs/RULES.md alone answers for them.
 Ends with 'N passed, M failed'.
 """
 import pathlib
@@ -32,6 +32,7 @@ OF_FILE = re.compile(rf"Words in quotes are ({NAMED.pattern})'s\.")
 MARKS = re.compile(r'\*\*|(?:^|(?<=\s))\*\s|"')
 BLOCK = re.compile(r"^```.*?^```$", re.M | re.S)
 TITLES = re.compile(r"^\|.*\n\|[-:| ]+$", re.M)
+OF_REQUEST = re.compile(r"#+ (.+): K[0-9]{1,2}$")
 ITEM = re.compile(r"^(?:#+|-|[0-9]+\.)\s+")
 SENTENCE = re.compile(r"[^.;]+(?:[.;](?!\s|$)[^.;]*)*[.;]?")
 
@@ -92,14 +93,15 @@ def pattern_of(quote):
 
 
 class Quotes:
-    """Holds quotes to their sources, and notes which letters of document 01 they have."""
+    """Holds quotes to their sources, and notes which letters of these they have."""
 
     def __init__(self, sources):
         self.sources, self.tally = sources, Tally()
-        self.had = {}  # by the kind of place and the text of document 01: the places of the letters that are quoted
+        self.had = {}  # by the kind of place and the text of a source: the places of the letters that are quoted
 
-    def hold(self, kind, place, text, source):
-        """All quotes of a text, which are of this source where it names none."""
+    def hold(self, kind, place, text, source, aside=None):
+        """All quotes of a text, which are of this source where it names none. Quotes of others are of the kind `aside`, where it is named."""
+        own = source
         pieces = text.split('"')
         if len(pieces) % 2 == 0:
             self.tally.add(place, "a quotation mark is not closed")
@@ -107,20 +109,21 @@ class Quotes:
             names = NAMED.findall(outside)
             source = names[-1].lower() if names else source
             if self.sources.get(source, ()) is not None:
-                self.tally.add(place, self.judge(kind, " ".join(quote.split()), source))
+                of = aside if aside and source != own else kind
+                self.tally.add(place, self.judge(of, " ".join(quote.split()), source))
 
     def judge(self, kind, quote, source):
         """Why the quote is not right, or None."""
         pattern = pattern_of(quote)
         found = [match for match in map(pattern.search, self.sources.get(source, ())) if quote and match]
-        for match in found if source == "document 01" else []:
+        for match in found:
             letters = self.had.setdefault((kind, match.string), set())
             for group in range(1, pattern.groups + 1):
                 letters.update(range(*match.span(group)))
         return None if found else f'"{quote}" does not stand so in {source}'
 
     def lacks(self, kind, text):
-        """Each sentence of a text of document 01, or part of one, with whether quotes of this kind lack a word of it."""
+        """Each sentence of a text, or part of one, with whether quotes of this kind lack a word of it."""
         letters = self.had.get((kind, text), set())
         for sentence in SENTENCE.finditer(text):
             words = [word.start() for word in re.compile(r"\w+").finditer(text, *sentence.span())]
@@ -138,24 +141,27 @@ def hold_comments(quotes):
 
 
 def hold_rules(quotes):
-    """Each row of a table, other than its first, begins with a quote; and all its quotes are right."""
+    """Each row of a table, other than its first, begins with a quote; and all its quotes are right, as is a request's title in a heading."""
     source, lines = "document 01", RULES.read_text().splitlines()
     for number, (line, after) in enumerate(zip(lines, lines[1:] + [""]), 1):
         if line.startswith("#"):
             named = NAMED.search(line)
             source = named.group(0).lower() if named else "document 01"
+            title = OF_REQUEST.match(line)
+            if title and quotes.sources.get(source, ()) is not None:
+                quotes.tally.add(f"docs/RULES.md:{number}", quotes.judge("rules", title.group(1), source))
         elif line.startswith("|") and "|-" not in (line[:2], after[:2]):
             place = f"docs/RULES.md:{number}"
             quotes.tally.add(place, None if '"' in line.split("|")[1] else "the row does not begin with a quote")
-            quotes.hold("rules", place, line, source)
+            quotes.hold("rules", place, line, source, "aside")
 
 
-def check_sentences(quotes, said, listed):
+def check_sentences(quotes, name, said, listed):
     sentences = [each for text in said for each in quotes.lacks("rules", text)]
     for sentence, lacks in sentences:
         quotes.tally.add("docs/RULES.md", f'no row has all of "{sentence}"' if lacks else None)
     alone = [sentence for text in said for sentence, lacks in quotes.lacks("specs", text) if lacks]
-    print(f"document 01: {len(sentences)} sentences and parts of them, {len(alone)} of which specs/ does not quote whole (--list)")
+    print(f"{name}: {len(sentences)} sentences and parts of them, {len(alone)} of which specs/ does not quote whole (--list)")
     for sentence in alone if listed else []:
         print(f"  {sentence}")
 
@@ -166,11 +172,11 @@ def main():
     quotes = Quotes(read_sources(folder))
     hold_comments(quotes)
     hold_rules(quotes)
-    document = read_document(folder / DOCUMENTS["document 01"])
-    if document:
-        check_sentences(quotes, document[0], "--list" in sys.argv)
     for name, file in DOCUMENTS.items():
-        if quotes.sources[name] is None:
+        document = read_document(folder / file)
+        if document:
+            check_sentences(quotes, name, document[0], "--list" in sys.argv)
+        else:
             print(f"skipped: there is no {folder / file}, so nothing was held to {name}")
     return quotes.tally.end()
 

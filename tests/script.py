@@ -5,6 +5,7 @@ with 'N passed, M failed'."""
 import contextlib
 import os
 import pathlib
+import re
 import resource
 import shutil
 import signal
@@ -209,12 +210,12 @@ def expected(sample, end="out"):
 
 def test_words(tally, house):
     check(tally, "no word", house.sgq(), 2, said="./sgq decide [TRACE]")
-    known = "there is no 'dcide': say decide, sheet, up, back, salvage, judge, picture, lab, test, help or --version"
+    known = "there is no 'dcide': say decide, sheet, up, back, salvage, judge, picture, lab, test, soak, help or --version"
     check(tally, "unknown word", house.sgq("dcide"), 2, said=known, lines=1)
     helped = house.sgq("help")
     check(tally, "help", helped, 0, helped.stdout, lines=0)
     hold(tally, "help says test", b"./sgq test" in helped.stdout)
-    for words in (["decide", "--help"], ["decide", "-h"], *([word, "--help"] for word in ("sheet", *WHOLE, "judge", "picture", "lab", "test"))):
+    for words in (["decide", "--help"], ["decide", "-h"], *([word, "--help"] for word in ("sheet", *WHOLE, "judge", "picture", "lab", "test", "soak"))):
         more = house.sgq(*words)
         check(tally, " ".join(words), more, 0, more.stdout, lines=0)
         hold(tally, f"{' '.join(words)} says more", more.stdout.startswith(f"./sgq {words[0]} ".encode()))
@@ -242,6 +243,9 @@ def test_words(tally, house):
     for name in ("figure99", "../lab", "figure05.py", ""):
         check(tally, f"experiment '{name}'", house.sgq("lab", name), 2, said=f"there is no experiment '{name}'", lines=1)
     check(tally, "test with more words", house.sgq("test", "all"), 2, said="no more words", lines=1)
+    for words in NO_MINUTES:
+        said = "sgq: soak takes a number of minutes above 0: ./sgq soak 30\n"
+        check(tally, f"soak of {words}", house.sgq("soak", *words), 2, said=said, lines=1)
 
 
 def test_missing(tally, house):
@@ -592,6 +596,92 @@ def test_lab(tally, house):
     house.remove("no-c")
 
 
+NO_MINUTES = ([], ["1", "2"], [""], ["0"], ["0.0"], ["-1"], ["x"], ["1m"], ["1.2.3"], [".5"], ["5."], ["1e3"], ["--all"])
+# In place of tests/soak, whose own test is below.
+SOAK = """import sys
+print(*sys.argv[1:])
+sys.exit(int(sys.argv[1] == "7"))
+"""
+
+
+def test_soak(tally, house):
+    """What it stands on is proved, and the soak is called with its minutes and gives the status."""
+    house.write("tests/soak", SOAK)
+    for minutes, status in (("30", 0), ("0.5", 0), ("7", 1)):
+        check(tally, f"soak {minutes}", house.sgq("soak", minutes), status, f"{minutes}\n".encode())
+    for command in ("cargo", "cc"):
+        (house.root / "bin" / command).rename(house.root / "bin" / "aside")
+        check(tally, f"soak without {command}", house.sgq("soak", "1"), 2, said=f"sgq: {command} is missing: install", lines=1)
+        (house.root / "bin" / "aside").rename(house.root / "bin" / command)
+    source = house.root / "crates" / "rules.rt"
+    good = source.read_text()
+    source.write_text("worse\n")
+    house.write("broken", "")
+    check(tally, "soak of what is not proved", house.sgq("soak", "1"), 2, said="rules is not proved (rt ended with status 1), so soak is not run")
+    house.remove("broken")
+    source.write_text(good)
+
+
+# In place of a comparison that tests/soak makes: it notes the seed, and then does the one or the other. Minutes would make this test wait, or
+# depend on how fast the machine is; so the rounds are ended by a comparison that can be made twice only.
+COMPARISON = """import os, sys
+with open(os.environ["HOUSE"] + "/seeds", "a+") as seeds:
+    print(os.environ["SGQ_SEED"], *sys.argv[1:], file=seeds, flush=True)
+    seeds.seek(0)
+    made = len(seeds.readlines())
+"""
+PASSES = COMPARISON + "print('3 passed, 0 failed')\n"
+FAILS = COMPARISON + "print('seed')\nprint('FAILED small seed', os.environ['SGQ_SEED'])\nprint('2 passed, 1 failed')\nsys.exit(1)\n"
+STUCK = COMPARISON + "print('FAILED to go on: it is missing')\nprint('0 passed, 1 failed')\nsys.exit(1)\n"
+SILENT = COMPARISON + "print('Traceback')\nsys.exit(3)\n"
+TWICE = COMPARISON + "print('3 passed, 0 failed' if made < 15 else '0 passed, 1 failed')\nsys.exit(made >= 15)\n"
+COMPARED = ["tests/run", "tests/host/run", "tests/files.py", "tests/lab.py", "tests/text.py"]
+# What the last comparison does, the minutes, the status, and what is then printed; N is a number.
+SOAKS = {
+    "passes": (PASSES, "0.0001", 0, ["round 1, seed 77: 15 passed, 0 failed in N s", "15 passed, 0 failed"]),
+    "fails": (FAILS, "0.0001", 1, ["  FAILED small seed 77", "  2 passed, 1 failed", "round 1, seed 77: 14 passed, 1 failed in N s", "14 passed, 1 failed"]),
+    "cannot be made": (STUCK, "600", 1, ["  FAILED to go on: it is missing", "  0 passed, 1 failed", "round 1, seed 77: 12 passed, 1 failed in N s"]),
+    "gives no verdict": (SILENT, "600", 1, ["  Traceback", "  it gave no verdict, and ended with status 3", "round 1, seed 77: 12 passed, 1 failed in N s"]),
+}
+NO_FURTHER = ["no further round: nothing passed in tests/text.py", "12 passed, 1 failed"]
+
+
+def soaked(house, *words, seed="77"):
+    """A run of tests/soak over the stand-ins."""
+    environment = dict(house.environment, SGQ_SEED=seed)
+    return subprocess.run([sys.executable, house.root / "tests" / "soak", *words], env=environment, capture_output=True, timeout=HANGS)
+
+
+def test_rounds(tally, house):
+    """tests/soak itself: its rounds and their seeds, and what it prints where a comparison fails or cannot be made."""
+    for name in ("soak", "kit.py", "machine.py"):
+        shutil.copy(ROOT / "tests" / name, house.write(f"tests/{name}", ""))
+    for name in COMPARED:
+        house.write(name, PASSES)
+    said = "tests/soak takes a number of minutes above 0, as tests/soak 30\n"
+    for words in NO_MINUTES:
+        check(tally, f"tests/soak of {words}", soaked(house, *words), 2, said=said, lines=1)
+    check(tally, "tests/soak of no seed", soaked(house, "1", seed="x"), 2, said="SGQ_SEED is 'x', and has to be", lines=1)
+    hold(tally, "nothing is compared for it", not (house.root / "seeds").exists())
+    for name, (does, minutes, status, told) in SOAKS.items():
+        house.write(COMPARED[-1], does)
+        ended = soaked(house, minutes)
+        told = ([f"SGQ_SEED=77 python3 {COMPARED[-1]} --fresh"] if status else []) + told + (NO_FURTHER if minutes == "600" else [])
+        printed = re.sub(r"in \d+ s$", "in N s", ended.stdout.decode(), flags=re.MULTILINE).splitlines()
+        hold(tally, f"a comparison that {name}", (ended.returncode, printed) == (status, told), f"it ended with {ended}")
+    house.write(COMPARED[-1], TWICE)
+    house.remove("seeds")
+    ended = soaked(house, "600")
+    rounds = re.findall(r"^round (\d+), seed (\d+): (\d+) passed, (\d+) failed in \d+ s$", ended.stdout.decode(), re.MULTILINE)
+    seeds = [seed for _, seed, _, _ in rounds]
+    counts = [(number, passed, failed) for number, _, passed, failed in rounds]
+    hold(tally, "the rounds of a soak", counts == [("1", "15", "0"), ("2", "15", "0"), ("3", "12", "1")], f"it ended with {ended}")
+    hold(tally, "all of them are counted", ended.stdout.endswith(b"\n42 passed, 1 failed\n"), f"it ended with {ended}")
+    hold(tally, "each has a seed", seeds[:1] == ["77"] and len(set(seeds)) == 3, seeds)
+    noted = (house.root / "seeds").read_text().splitlines()
+    hold(tally, "each comparison has it", noted == [f"{seed} --fresh" for seed in seeds for _ in COMPARED], noted)
+
+
 def test_texts(tally, house):
     """A text is told by its first bytes, wherever it comes from, and a trace too."""
     text = (ROOT / "samples" / "example.txt").read_bytes()
@@ -936,6 +1026,8 @@ def tests(tally):
             test_judge,
             test_picture,
             test_lab,
+            test_soak,
+            test_rounds,
             test_texts,
             test_bad_texts,
             test_refusals,

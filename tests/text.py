@@ -1,6 +1,11 @@
 #!/usr/bin/env python3
 """Tests samples/sgqtext.py: from bytes to text and back over random traces, refusals with the line's number, times, the
-command itself, and that a text of any length goes through it in little memory. Ends with 'N passed, M failed'."""
+command itself, and that a text of any length goes through it in little memory.
+
+    python3 tests/text.py [FIRST | --fresh]     the random traces have the seeds from FIRST on, 1 where none is named, and fresh ones (kit.py);
+                                                or those alone, and nothing else is tried
+
+Ends with 'N passed, M failed'."""
 import concurrent.futures
 import os
 import re
@@ -9,11 +14,11 @@ import select
 import subprocess
 import sys
 
-from kit import CORES, ROOT, SECOND, build_second, random_trace, run_tests, sgqtext
+from kit import CORES, ROOT, SECOND, Seeds, build_second, random_trace, run_tests, sgqtext
 
 KINDS = ["small", "ceiling", "jumps", "header", "cut", "garbage"]
 KINDS += [f"{kind}2" for kind in KINDS]  # of version 2
-SEEDS = 40
+SEEDS, LARGE = 40, 2  # random traces of each kind, and large ones
 HEAD = "depth 4\ncapacity 8\nguest 0 reservation 1 limit 2 shares 3\n"
 HEAD_BYTES = bytes.fromhex("53475101000401080001000000 0200000003000000")
 # The same in version 2, and an arrival of cost 64.
@@ -177,8 +182,8 @@ def round_trip(kind, seed):
     return name, None, trace
 
 
-def test_round_trips(tally):
-    cases = [(kind, seed) for kind in KINDS for seed in range(1, SEEDS + 1)] + [("large", 1), ("large", 2)]
+def test_round_trips(tally, seeds):
+    cases = [(kind, seed) for kind in KINDS for seed in seeds.of(SEEDS)] + [("large", seed) for seed in seeds.of(LARGE)]
     print(f"round trips: {len(cases)}", flush=True)
     with concurrent.futures.ThreadPoolExecutor(CORES) as pool:
         for result in pool.map(lambda case: round_trip(*case), cases):
@@ -319,13 +324,16 @@ def test_page(tally):
 
 
 def tests(tally):
+    seeds = Seeds(tally, sys.argv[1:])
     build_second()
+    test_round_trips(tally, seeds)
+    if seeds.alone:
+        return
     test_page(tally)
     test_stream(tally)
     test_memory(tally)
     test_mistakes(tally)
     test_failures(tally)
-    test_round_trips(tally)
     test_files(tally)
     test_refusals(tally)
     test_times(tally)

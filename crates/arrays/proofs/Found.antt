@@ -11,7 +11,7 @@ use Rattle.lists.specs.Words.{if_then_else_}
 use Rattle.lists.specs.WordsLaws.{both, neither}
 use Rattle.rules.specs.Numbers.{within}
 use Rattle.rules.specs.Sound.{counted, ruled}
-use Rattle.rules.specs.Refusals.{Test, Verdict, accept, refuse, judged, isAccept}
+use Rattle.rules.specs.Refusals.{Test, accept, refuse, judged, isAccept}
 use Rattle.rules.specs.declared.Gate.{Gate}
 use Rattle.rules.specs.declared.Flight.{Flight}
 use Rattle.rules.specs.declared.Refusal.{Refusal}
@@ -170,9 +170,6 @@ module _ (s : Site) (g : Gate) (cs ps : List ℕ) where
 -- BEFORE THE GATE IS OPENED
 
 module _ (s : Site) (d n c rule : ℕ) (cs ps : List ℕ) (a : Bool) (p : a ≡ within 1 mostArrays (s .arrays)) where
-  abbrev verdict : Verdict
-  verdict = judged (openingTests s d n c rule cs ps)
-
   pub open-arrays-bad : not a ≡ true → refuse NoArray ≡ judged (openingTests s d n c rule cs ps)
   unfolding openingTests
   open-arrays-bad m = rw (sym p ∙ not-true a m) refl

@@ -1,28 +1,12 @@
 -- What the functions over the counters keep, turn by turn. Assumes nothing.
 use Prim.Native.Nat.{ℕ, suc, _+_, _*_, _≤_, _<_}
-use mathlib.Core.Path.{_≡_, refl, sym, ap, _∙_}
-use mathlib.Core.Bool.{Bool, true, false, true≢false}
+use mathlib.Core.Path.{_≡_, refl, ap, _∙_}
+use mathlib.Core.Bool.{Bool, true, false}
 use mathlib.Core.List.{List}
 use native.Mathlib.Omega.{arith}
 use native.Mathlib.Nat.{mul-le-mul-right, suc-mul}
 use native.Mathlib.Numerals.{add-one}
-use Rattle.lists.specs.Words.{below}
-use Rattle.lists.specs.WordsLaws.{join, below-at}
 use Rattle.arrays.specs.Counters.{counterWide, DELTA, RHO, rowOf, counterAt, oneMore, rowSet, countedRow, countedAll, clearedRow, clearedAll}
-
--- TESTS OF EVERY NUMBER
-
--- one more passes
-pub below-more : (i : ℕ) (f : ℕ → Bool) → below i f ≡ true → f i ≡ true → below (i + 1) f ≡ true
-below-more i f h e = rw add-one (join e h)
-
--- where one fails, they do not all pass
-pub below-not : (n : ℕ) (f : ℕ → Bool) (i : ℕ) → i < n → f i ≡ false → below n f ≡ false
-below-not n f i l e = go (below n f) refl
-  where
-    go : (b : Bool) → below n f ≡ b → below n f ≡ false
-    go true h = absurd (true≢false (sym (below-at n f h i l) ∙ e))
-    go false h = h
 
 -- ROWS
 

@@ -13,13 +13,15 @@ use Rattle.rules.specs.Numbers.{mostDelta}
 abbrev pub mostArrays : ℕ
 mostArrays = 8
 
--- how many numbers a guest has at an array, and where delta and rho stand among them
+-- how many numbers a guest has at an array
 abbrev pub counterWide : ℕ
 counterWide = 2
 
+-- where delta stands among them
 abbrev pub DELTA : ℕ
 DELTA = 0
 
+-- where rho stands among them
 abbrev pub RHO : ℕ
 RHO = 1
 

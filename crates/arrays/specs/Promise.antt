@@ -42,6 +42,7 @@ with h cs ps = (h .0, h .1, h .2, h .3, cs, ps)
 abbrev pub SeenAt : Type 0
 SeenAt = Gate × Printed × List ℕ × List ℕ × List ℕ × List ℕ × List ℕ × List ℕ
 
+-- what a caller sees of what a call handed back
 abbrev pub seenAt : HandedAt → SeenAt
 seenAt h = (h .0 .gate, shown (h .0 .answer), hour (h .0 .wake), h .1, h .2, h .3, h .4, h .5)
 

@@ -1,4 +1,4 @@
--- What the functions of src do, one by one. Their own contracts, no promise of a public call.
+-- What the functions of crates/counters, crates/phases and crates/sites do, one by one. Their own contracts, no promise of a public call.
 use Prim.Native.Nat.{ℕ, _+_, _-_, _*_, max, _<_}
 use mathlib.Core.Bool.{not, _&&_}
 use mathlib.Core.List.{List, [], _∷_}

@@ -68,11 +68,6 @@ module _ (v : Lending) (lawful : Lawful v) (n c d : ℕ) where
 
   -- ANY NUMBER OF EVENTS
 
-  pub held-set : (rs : List Read) (h : Host v) → SetTo n c d (h .gate) → SetTo n c d (heldAfter v h rs .gate)
-  unfolding heldAfter
-  held-set [] h s = s
-  held-set (r ∷ rs) h s = held-set rs (holds v (one v r h)) (one-set r h s)
-
   -- what they leave, beside any outcome: `Beyond` speaks of the tables alone
   pub held-beyond : (rs : List Read) (h : Host v) (o : Outcome) → SetTo n c d (h .gate)
       → Beyond v n c d (h .guests) (h .waiting) (h .flight) (o, heldAfter v h rs .guests, heldAfter v h rs .waiting, heldAfter v h rs .flight)

@@ -1,11 +1,10 @@
 -- DEMAND 3 through batches: a waiting request whose reservation is due goes by reservation, after exactly those that stand before it, over any run of batches.
 -- Assumes nothing.
-use Prim.Native.Nat.{ℕ, _<_}
-use mathlib.Core.Path.{_≡_, refl, sym, ap, _∙_}
+use Prim.Native.Nat.{ℕ}
+use mathlib.Core.Path.{_≡_, refl, ap, _∙_}
 use mathlib.Core.Bool.{Bool, true, false, _&&_}
-use mathlib.Core.List.{List, [], _∷_, _++_}
+use mathlib.Core.List.{List, [], _∷_}
 use lib.Dec.{ltb, eqb}
-use lib.ListN.{length, getD}
 use Rattle.lists.specs.Words.{if_then_else_, all}
 use Rattle.lists.specs.WordsLaws.{both, join, all-append, places-all}
 use Rattle.lists.specs.Tab.{tab, getD-tab, length-tab}
@@ -13,7 +12,7 @@ use Rattle.rules.specs.declared.Event.the-variants.{Arrival, Completion, Tick}
 use Rattle.turns.specs.TurnAt.{TurnKept}
 use Rattle.rules.specs.Refusals.{judged, isAccept}
 use Rattle.gate.specs.Promise.{Lending}
-use Rattle.gate.specs.Calls.{Host, holds, call, held, shows, firm, narrow, freeReplies}
+use Rattle.gate.specs.Calls.{Host, holds, call, shows, firm, narrow, freeReplies}
 use Rattle.gate.proofs.Lending.{Lawful}
 use Rattle.gate.proofs.Demand3.{calls-demand-3-places}
 use Rattle.gate.proofs.Runs.{calls-run}
@@ -57,7 +56,7 @@ from-narrow kind guest id time cost delta rho = go (ltb id 4294967296) refl
     go false e = refl
 
 pub events-narrow : (es : List ℕ) → all narrowRead (eventsIn es) ≡ true
-unfolding eventsIn eventAt
+unfolding eventsIn
 events-narrow es =
     places-all narrowRead (tab (countOf es) (eventAt es)) Bad
     (λ k l.

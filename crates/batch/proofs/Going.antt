@@ -1,7 +1,6 @@
 -- What the loop over the rows keeps, turn by turn: what was found of the tables stays true, and the answers so far stand in their rows. Assumes nothing.
-use Prim.Native.Nat.{ℕ, suc, _+_, _*_, _/_, _≤_, _<_}
+use Prim.Native.Nat.{ℕ, suc, _+_, _*_, _≤_}
 use mathlib.Core.Path.{_≡_, refl, sym, ap, _∙_, subst}
-use mathlib.Core.Bool.{Bool, true, false}
 use mathlib.Core.List.{List, [], _∷_, _++_}
 use native.Mathlib.Omega.{arith}
 use native.Mathlib.Numerals.{add-one}
@@ -24,7 +23,7 @@ use Rattle.gate.specs.declared.Reply.{Reply}
 use Rattle.gate.proofs.Once.{seen-once}
 use Rattle.batch.specs.declared.Read.{Read}
 use Rattle.batch.specs.declared.Read.the-variants.{Good, Bad}
-use Rattle.batch.specs.Rows.{countOf, eventAt, eventsIn, answerWide, rowOf, lineOf, linesOf, answersOver}
+use Rattle.batch.specs.Rows.{countOf, eventAt, eventsIn, answerWide, rowOf, lineOf, linesOf}
 use Rattle.batch.specs.Promise.{hostOf, one, heldAfter, outcomes}
 use Rattle.batch.specs.Turns.{turn, Ran}
 use Rattle.batch.proofs.Runs.{length-lines, lines-snoc, held-snoc, outcomes-snoc, length-outcomes}

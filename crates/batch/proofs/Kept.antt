@@ -1,43 +1,31 @@
 -- `untouched`: a refused batch changes nothing; and whatever is found, the answers are as long as before and the places past the last event hold what they
 -- held. Assumes nothing.
-use Prim.Native.Nat.{ℕ, _+_, _*_, _≤_, _<_}
+use Prim.Native.Nat.{ℕ, _*_, _≤_}
 use mathlib.Core.Path.{_≡_, refl, sym, ap, _∙_}
-use mathlib.Core.Bool.{Bool, true, false}
-use mathlib.Core.List.{List, _++_}
+use mathlib.Core.List.{List}
 use native.Mathlib.Omega.{arith}
-use lib.Dec.{ltb}
-use lib.ListN.{length, drop, take, length-append, length-drop}
+use lib.ListN.{length, drop, length-append, length-drop}
 use lib.Seq.{drop-append-seam}
 use borrow.Author.Tests.{ltb-false}
-use Rattle.rules.specs.Refusals.{Verdict, accept, refuse, judged}
+use Rattle.rules.specs.Refusals.{Verdict, accept, refuse, judged, isAccept}
 use Rattle.rules.specs.declared.Gate.{Gate}
-use Rattle.rules.specs.declared.Outcome.{Outcome}
 use Rattle.rules.specs.declared.Refusal.{Refusal}
-use Rattle.rules.specs.declared.Refusal.the-variants.{AnswersShort}
 use Rattle.rules.proofs.Judged.{passed, numberOf-some}
 use Rattle.gate.specs.Promise.{Lending}
 use Rattle.gate.specs.Calls.{Host}
-use Rattle.gate.specs.declared.Judged.{Judged}
-use Rattle.gate.specs.declared.Judged.the-variants.{Good as Accepted, Bad as Barred}
+use Rattle.gate.specs.declared.Judged.the-variants.{Bad as Barred}
 use Rattle.batch.specs.Rows.{countOf, eventsIn, answerWide, linesOf, answersOver}
-use Rattle.batch.specs.Promise.{BatchIn, hostOf, foundOf, outcomes, batchTests, batchedBy, batchedIn}
+use Rattle.batch.specs.Promise.{hostOf, foundOf, outcomes, batchTests, batchedBy, batchedIn}
 use Rattle.batch.proofs.Runs.{length-lines, length-outcomes, length-events}
 
 -- where nothing stands against a batch there is room for the answers
 pub accepted-room : (es bs : List ℕ) → judged (batchTests es bs) ≡ accept → countOf es * answerWide ≤ length bs
 unfolding batchTests
-accepted-room es bs p = ltb-false (length bs) (countOf es * answerWide) (passed (batchTests es bs) (ap isOpen p) 16)
-  where
-    isOpen : Verdict → Bool
-    isOpen accept = true
-    isOpen (refuse r) = false
+accepted-room es bs p = ltb-false (length bs) (countOf es * answerWide) (passed (batchTests es bs) (ap isAccept p) 16)
 
 module _ (v : Lending) (es : List ℕ) (g : Gate) (gs : List (v .Cell)) (ws fs bs : List ℕ) where
   abbrev h : Host v
   h = hostOf v g gs ws fs
-
-  abbrev back : BatchIn v
-  back = batchedIn v es g gs ws fs bs
 
   -- a refused batch changes nothing
   pub batch-refusal-keeps : (r : Refusal) → batchedIn v es g gs ws fs bs .0 .found ≡ Barred r

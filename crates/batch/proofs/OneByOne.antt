@@ -2,27 +2,17 @@
 -- ones passed over. On any tables, sound or not, long enough or not: nothing is asked of them. Assumes nothing.
 use Prim.Native.Nat.{ℕ}
 use mathlib.Core.Path.{_≡_, refl, sym, ap, _∙_}
-use mathlib.Core.Bool.{Bool, true, false}
-use mathlib.Core.List.{List, [], _∷_, _++_, map}
-use lib.Dec.{ltb, eqb}
-use lib.ListN.{getD}
-use Rattle.lists.specs.Words.{if_then_else_, all}
-use Rattle.lists.specs.Tab.{tab}
-use Rattle.lists.specs.WordsLaws.{join}
+use mathlib.Core.List.{List, [], _∷_, map}
+use Rattle.lists.specs.Words.{if_then_else_}
 use Rattle.rules.specs.Refusals.{Verdict, accept, refuse, judged, isAccept}
-use Rattle.rules.specs.declared.Answer.{Answer}
-use Rattle.rules.specs.declared.Answer.the-variants.{Refused}
-use Rattle.rules.specs.declared.Gate.{Gate}
 use Rattle.rules.specs.declared.Outcome.{Outcome}
-use Rattle.rules.specs.declared.Wake.{Wake}
-use Rattle.rules.specs.declared.Refusal.the-variants.{BadEvent}
 use Rattle.gate.specs.Promise.{Lending}
-use Rattle.gate.specs.Calls.{Host, holds, call, held, replies, wakings, narrow}
+use Rattle.gate.specs.Calls.{Host, holds, call, held, replies, wakings}
 use Rattle.batch.specs.declared.Read.{Read}
 use Rattle.batch.specs.declared.Read.the-variants.{Good, Bad}
-use Rattle.batch.specs.Rows.{countOf, eventFrom, eventAt, eventsIn, answersOver}
-use Rattle.batch.specs.Promise.{hostOf, one, heldAfter, outcomes, batchTests, batchedBy, batchedIn}
-use Rattle.batch.specs.Batches.{goods, good, narrowRead, Batch, doneBy, allDone, leaves, batch, heldBatches}
+use Rattle.batch.specs.Rows.{eventsIn, answersOver}
+use Rattle.batch.specs.Promise.{heldAfter, outcomes, batchTests, batchedBy, batchedIn}
+use Rattle.batch.specs.Batches.{goods, good, Batch, doneBy, allDone, leaves, batch, heldBatches}
 use Rattle.batch.proofs.Runs.{held-append}
 
 module _ (v : Lending) where

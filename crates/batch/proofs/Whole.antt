@@ -1,20 +1,18 @@
 -- What the whole call hands back, by what its tests find: refused with nothing done, or every event done. Assumes nothing.
 use Prim.Native.Nat.{ℕ, _*_, _/_, _≤_, _<_}
-use mathlib.Core.Path.{_≡_, refl, sym, ap, _∙_}
+use mathlib.Core.Path.{_≡_, sym, ap, _∙_}
 use mathlib.Core.List.{List}
 use native.Mathlib.Nat.{div-lt-iff-lt-mul, le-div-iff-mul-le}
-use lib.Dec.{ltb, lit<}
+use lib.Dec.{lit<}
 use lib.ListN.{length}
 use borrow.Author.Tests.{lt-ltb, le-ltb}
 use Rattle.rules.specs.declared.Gate.{Gate}
 use Rattle.rules.specs.declared.Refusal.the-variants.{AnswersShort, TooManyEvents}
 use Rattle.rules.specs.Refusals.{Verdict, accept, refuse, judged}
 use Rattle.gate.specs.Promise.{numbers}
-use Rattle.gate.specs.Calls.{Host}
-use Rattle.gate.specs.declared.Judged.the-variants.{Good as Accepted, Bad as Barred}
-use Rattle.batch.specs.declared.Batched.{Batched}
+use Rattle.gate.specs.declared.Judged.the-variants.{Good as Accepted}
 use Rattle.batch.specs.Rows.{countOf, mostEvents, answerWide}
-use Rattle.batch.specs.Promise.{BatchIn, batchTests, hostOf, batchedBy, batchedIn, batched, seenBatch}
+use Rattle.batch.specs.Promise.{batchTests, hostOf, batchedBy, batchedIn, batched, seenBatch}
 use Rattle.batch.specs.Turns.{Ran}
 
 module _ (es bs : List ℕ) where

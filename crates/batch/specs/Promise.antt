@@ -8,7 +8,6 @@ use lib.ListN.{length}
 use Rattle.rules.specs.Answers.{numberOf}
 use Rattle.rules.specs.Refusals.{Test, Verdict, accept, refuse, judged}
 use Rattle.rules.specs.declared.Gate.{Gate}
-use Rattle.rules.specs.declared.Refusal.{Refusal}
 use Rattle.rules.specs.declared.Refusal.the-variants.{BadEvent, AnswersShort, TooManyEvents}
 use Rattle.rules.specs.declared.Answer.the-variants.{Refused}
 use Rattle.rules.specs.declared.Outcome.{Outcome}
@@ -80,6 +79,7 @@ module _ (v : Lending) where
   abbrev pub SeenBatchIn : Type 0
   SeenBatchIn = Gate × ℕ × List (v .Cell) × List ℕ × List ℕ × List ℕ
 
+  -- what a caller sees of what a call handed back
   abbrev pub seenBatchIn : BatchIn → SeenBatchIn
   seenBatchIn b = (b .0 .gate, foundOf (b .0 .found), b .1, b .2, b .3, b .4)
 

@@ -15,25 +15,31 @@ use Rattle.batch.specs.declared.Read.the-variants.{Good, Bad}
 
 -- EVENTS
 
--- where the kind of an event stands in its row, its guest, its id, its time, its cost, its delta and its rho
+-- where the kind of an event stands in its row
 abbrev pub EVENT_KIND : ℕ
 EVENT_KIND = 0
 
+-- where its guest stands
 abbrev pub EVENT_GUEST : ℕ
 EVENT_GUEST = 1
 
+-- where its id stands
 abbrev pub EVENT_ID : ℕ
 EVENT_ID = 2
 
+-- where its time stands
 abbrev pub EVENT_TIME : ℕ
 EVENT_TIME = 3
 
+-- where its cost stands
 abbrev pub EVENT_COST : ℕ
 EVENT_COST = 4
 
+-- where its delta stands
 abbrev pub EVENT_DELTA : ℕ
 EVENT_DELTA = 5
 
+-- where its rho stands
 abbrev pub EVENT_RHO : ℕ
 EVENT_RHO = 6
 
@@ -66,7 +72,7 @@ abbrev pub eventNumber : List ℕ → (k j : ℕ) → ℕ
 eventNumber es k j = getD es (k * eventWide + j) 0
 
 -- the event of row k
-unfoldable pub eventAt : List ℕ → ℕ → Read
+abbrev pub eventAt : List ℕ → ℕ → Read
 eventAt es k = eventFrom (eventNumber es k EVENT_KIND) (eventNumber es k EVENT_GUEST) (eventNumber es k EVENT_ID) (eventNumber es k EVENT_TIME)
     (eventNumber es k EVENT_COST) (eventNumber es k EVENT_DELTA) (eventNumber es k EVENT_RHO)
 

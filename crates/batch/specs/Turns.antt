@@ -1,4 +1,4 @@
--- What the functions of src/numbers.rt do to what a host holds and to the answers, row by row. Their own contracts, no promise of a public call.
+-- What the functions of crates/bulk do to what a host holds and to the answers, row by row. Their own contracts, no promise of a public call.
 use Prim.Native.Nat.{ℕ, _*_}
 use mathlib.Core.Path.{_≡_}
 use mathlib.Core.List.{List}

@@ -29,9 +29,9 @@ use Rattle.rules.specs.declared.Phase.the-variants.{Reservation, Weight}
 use Rattle.rules.specs.declared.Refusal.{Refusal}
 use Rattle.rules.specs.declared.Answer.the-variants.{Nothing, Sent, Refused}
 use Rattle.rules.proofs.Facts.{Sound, orderly-is, any-orderly, waiting-known}
-use Rattle.rules.proofs.Conditions.{same-is}
+use Rattle.rules.proofs.Conditions.{same-is, is-same}
 use Rattle.rules.proofs.Chosen.{chosen}
-use Rattle.rules.proofs.Answered.{unrefused}
+use Rattle.rules.proofs.Answered.{unrefused, nothing-sent}
 use Rattle.rules.proofs.ArriveSound.{adjusted-length}
 use Rattle.book.specs.Stubs.{Stub, stub}
 use Rattle.book.specs.Book.{Entry, called, noted, struck, acceptedAt}
@@ -39,11 +39,7 @@ use Rattle.book.specs.Page.{named, ltagOf, liesAhead}
 
 -- NAMES
 
--- equal names have the same guest and id
-pub is-same : (a b : Flight) → a ≡ b → same a b ≡ true
-is-same a b e = join (eq-eqb (a .guest) (b .guest) (ap Flight.guest e)) (eq-eqb (a .id) (b .id) (ap Flight.id e))
-
--- other names have not
+-- names that differ have not the same guest and id
 pub is-other : (a b : Flight) → (a ≡ b → ⊥) → same a b ≡ false
 is-other a b n = go (same a b) refl
   where
@@ -123,10 +119,6 @@ sent-at u s i h v e =
             length-removeAt i (map stub (u .waiting)) (rw (length-map (u .waiting) stub) h),
           );
     }
-
--- an answer that sends nothing sends no request
-nothing-sent : {ph : Phase} {g i : ℕ} → Nothing ≡ Sent ph g i → ⊥
-nothing-sent e = let z : _≡_ {A = ℕ} 0 1 = cc in omega arith
 
 -- What the choice sends at a sound table stood at one place, and the others close up.
 pub choice-goes : (u : Table) → Sound u → (ph : Phase) (g i : ℕ) → choice u .answer ≡ Sent ph g i → SentFrom u (named g i) (choice u .table)

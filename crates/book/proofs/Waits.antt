@@ -129,13 +129,9 @@ past-turned p e f = go (accepted (p .table) e) refl
         (up-to-later (p .table .time) (moment e) (p .book) (accepted-later (p .table) e h) f))
     go false h = rw (turned-refused p e h) f
 
--- So it is after any run of events,
+-- So it is after any run of events.
 pub book-past : (es : List Event) (p : Page) → Past p → Past (turnedBy p es)
 book-past es p f = turned-keeps Past past-turned es p f
-
--- at every place.
-pub past-at : (p : Page) → Past p → (j : ℕ) → j < length (p .book) → (entry (p .book) j) .time ≤ p .table .time
-past-at p f j h = leb-true _ _ (all-at (λ n. leb (n .time) (p .table .time)) (p .book) _ f j h)
 
 -- A WAIT
 

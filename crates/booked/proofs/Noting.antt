@@ -7,7 +7,7 @@ use mathlib.Core.Logic.{_⊎_, inl, inr, ⊎-elim}
 use native.Mathlib.Omega.{arith}
 use lib.Dec.{lit<, lit≤}
 use lib.ListN.{length}
-use Rattle.lists.specs.Tab.{lt-or-le}
+use Rattle.lists.specs.Tab.{lt-or-le, eq-or-not}
 use Rattle.rules.specs.declared.Gate.{Gate}
 use Rattle.rules.specs.declared.Arriving.{Arriving}
 use Rattle.rules.specs.declared.Event.{Event}
@@ -22,7 +22,7 @@ use Rattle.tally.specs.Kept.{bookOf, figuresOf, Matches}
 use Rattle.tally.specs.Notes.{oneMore}
 use Rattle.booked.specs.Turns.{lastNote, notedIn, countedIn, Fits, Notable, standing, Entering, Noted}
 use Rattle.tally.proofs.BookRows.{noted-below, noted-last, length-noted, noted-book}
-use Rattle.tally.proofs.FigureRows.{same-or-not, one-here, one-beside, one-others, length-one, arrived-is, completed-is}
+use Rattle.tally.proofs.FigureRows.{one-here, one-beside, one-others, length-one, arrived-is, completed-is}
 
 -- ONE MORE in a column that no send touches
 
@@ -34,7 +34,7 @@ module _ (n m g i : ℕ) (fg : List ℕ) (known : g < m) (room : m * figuresWide
   row = omega arith
 
   pub few-after : (k j : ℕ) → k < m → j ≤ UPPER → figureAt (oneMore g i fg) k j ≤ n + 1
-  few-after k j h l = go (same-or-not k g) (same-or-not j i)
+  few-after k j h l = go (eq-or-not k g) (eq-or-not j i)
     where
       go : (k ≡ g) ⊎ (k ≡ g → ⊥) → (j ≡ i) ⊎ (j ≡ i → ⊥) → figureAt (oneMore g i fg) k j ≤ n + 1
       go (inl e) (inl f) = rw (e, f) (omega (arith, one-here g i fg row wide, few g i known (omega arith)))
@@ -42,14 +42,14 @@ module _ (n m g i : ℕ) (fg : List ℕ) (known : g < m) (room : m * figuresWide
       go (inr d) f = omega (arith, one-others g i fg row wide k j d (omega arith), few k j h l)
 
   pub fewer-after : (k j : ℕ) → k < m → RESERVED ≤ j → j ≤ UPPER → figureAt (oneMore g i fg) k j ≤ n
-  fewer-after k j h b l = go (same-or-not k g)
+  fewer-after k j h b l = go (eq-or-not k g)
     where
       go : (k ≡ g) ⊎ (k ≡ g → ⊥) → figureAt (oneMore g i fg) k j ≤ n
       go (inl e) = rw e (omega (arith, one-beside g i fg row wide j (λ f. omega arith), few g j known l))
       go (inr d) = omega (arith, one-others g i fg row wide k j d (omega arith), few k j h l)
 
 -- one more fits
-fits-one : (n x : ℕ) → n + 1 < 2 ^ 64 → x ≤ n → x + 1 < 2 ^ 64
+pub fits-one : (n x : ℕ) → n + 1 < 2 ^ 64 → x ≤ n → x + 1 < 2 ^ 64
 fits-one n x h l = omega arith
 
 module _ (n : ℕ) (h : Gate) (hs vs es bk fg : List ℕ) (k : Known h hs vs es) where

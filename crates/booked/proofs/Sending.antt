@@ -43,10 +43,7 @@ use Rattle.tally.proofs.Places.{found-at}
 use Rattle.tally.proofs.BookRows.{removed-below, removed-from, struck-below, struck-from, length-struck, struck-book}
 use Rattle.tally.proofs.FigureRows.{length-sent, sent-is, few-sent}
 use Rattle.tally.proofs.Stubs.{stubAt, noStub, stubs-tab, moved-match, matched-names}
-
--- one more fits
-fits-one : (n x : ℕ) → n + 1 < 2 ^ 64 → x ≤ n → x + 1 < 2 ^ 64
-fits-one n x h l = omega arith
+use Rattle.booked.proofs.Noting.{fits-one}
 
 -- a test counts at most one
 at-most-one : (b : Bool) → (if b then 1 else 0) ≤ 1

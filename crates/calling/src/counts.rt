@@ -9,11 +9,13 @@ ghost use Rattle.rules.specs.Waking.{unsaid};
 ghost use Rattle.rules.specs.declared.Answer.the-variants.{Refused};
 ghost use Rattle.table.specs.View.{outcomeOf};
 
-// Where a request's guest and id stand in its row of the flight table, and how many numbers the row has.
+// Where a request's guest stands in its row of the flight table.
 pub const GUEST: usize = table::columns::GUEST;
 
+// Where its id stands there.
 pub const ID: usize = table::columns::ID;
 
+// How many numbers the row has.
 pub const FLIGHT_WIDE: usize = table::columns::FLIGHT_WIDE;
 
 // Depth, guests and capacity lie in their ranges.

@@ -53,9 +53,6 @@ told-val = LL.val S.the-type S′.the-laws
 abbrev pub told-vals : Told → List Val
 told-vals = LL.vals S.the-type S′.the-laws
 
-pub told-tells : Tells ToldR (Is ToldR) told-vals
-told-tells = LL.tells S.the-type S′.the-laws
-
 -- THE TWO
 
 abbrev pub TurnR : RattleType
@@ -63,9 +60,6 @@ TurnR = U.the-row
 
 abbrev pub turn-mir : Ty
 turn-mir = U′.mir
-
-abbrev pub turn-val : Turn → Val
-turn-val = LL.val U.the-type U′.the-laws
 
 abbrev pub turn-vals : Turn → List Val
 turn-vals = LL.vals U.the-type U′.the-laws

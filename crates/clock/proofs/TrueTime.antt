@@ -1,6 +1,6 @@
 -- The true time: where the instants of the readings are less than 4,294,967,296 microseconds apart, the time after each is 1,000 times the
 -- microseconds since the first, as long as that is at most the ceiling. A longer gap is not seen. Assumes nothing.
-use Prim.Native.Nat.{ℕ, _+_, _-_, _*_, _≤_, _<_}
+use Prim.Native.Nat.{ℕ, _+_, _-_, _≤_, _<_}
 use mathlib.Core.Path.{_≡_, refl, sym, ap, _∙_, subst}
 use mathlib.Core.List.{List, [], _∷_, _++_, map}
 use native.Mathlib.Omega.{arith}

@@ -16,11 +16,13 @@ pub const MOST_ARRAYS: u64 = 8;
 // Where a counter stops.
 pub const MOST_COUNT: u64 = 65535;
 
-// The numbers of a row, and where each stands in it.
+// How many numbers a row has.
 pub const COUNTER_WIDE: usize = 2;
 
+// Where delta stands in a row.
 pub const DELTA: usize = 0;
 
+// Where rho stands in a row.
 pub const RHO: usize = 1;
 
 // A row is good: delta is not past its stop, and rho not above delta.

@@ -75,6 +75,7 @@ module _ (g c : ℕ) (gs : List ℕ) (none : guestAt gs g RESERVATION ≡ 0) whe
   unfolding down
   no-spacing = rw none
 
+  -- a guest without a reservation has no fall
   nothing : fallOf g c gs ≡ 0
   nothing = ap (c *_) no-spacing ∙ mul-zero c
 

@@ -2,7 +2,7 @@
 use Prim.Native.Nat.{ℕ}
 use mathlib.Core.Path.{_≡_, refl, ap, _∙_}
 use mathlib.Core.Bool.{Bool, true}
-use mathlib.Core.List.{List, [], _∷_, _++_, map}
+use mathlib.Core.List.{[], _∷_, _++_, map}
 use Rattle.lists.specs.Words.{all, without}
 use Rattle.lists.specs.WordsLaws.{join, all-append, all-parts, all-without, map-append}
 use Rattle.rules.specs.Tables.{Request, Table, idle, name, same, names}

@@ -10,7 +10,7 @@ use Rattle.rules.specs.Numbers.{down, up, idleBound}
 use Rattle.rules.specs.Tables.{Request, reserved, limited, rspacing, lspacing, sspacing, owner, mine, name}
 use Rattle.rules.specs.declared.Guest.{Guest}
 use Rattle.rules.specs.Sound.{kept, noGap}
-use Rattle.table.specs.Columns.{RESERVATION, LIMIT, SHARES, RNEXT, guestWide, waitingWide, mostGuests, guestAt}
+use Rattle.table.specs.Columns.{RESERVATION, LIMIT, RNEXT, guestWide, waitingWide, mostGuests, guestAt}
 use Rattle.table.specs.View.{guestsOf, waitingOf}
 use Rattle.entries.specs.Tests.{settledGuest, named, fits}
 

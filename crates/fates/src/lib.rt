@@ -14,15 +14,19 @@ ghost use Rattle.salvage.specs.Fates.{fromTime, fromLast, byTime, byRead, fateO
 // How far an event may lie ahead of the last kept: 3,600 seconds.
 const FARTHEST: u64 = 3600000000000;
 
-// The numbers of the reasons.
+// The number of the first reason: its kind or its spare part is not one that an event has.
 const BAD: u64 = 1;
 
+// The number of the second: its time is above the ceiling.
 const ABOVE: u64 = 2;
 
+// The number of the third: its time is before that of the last kept.
 const BEHIND: u64 = 3;
 
+// The number of the fourth: its time is too far ahead of that.
 const AHEAD: u64 = 4;
 
+// The number of the fifth: it is cut short.
 const CUT: u64 = 5;
 
 // An event's time beside that of the last kept.

@@ -16,7 +16,7 @@ use Rattle.lines.specs.Line.{lineOf}
 use Rattle.lines.specs.Put.{Put}
 use Rattle.lines.proofs.PutLaws.{puts, put-as}
 use Rattle.trace.specs.Event.{eventOf, eventsOf, whole}
-use Rattle.trace.specs.Printed.{answered, answersTo, tableAfter, linesFrom, Place, lines, left}
+use Rattle.trace.specs.Printed.{answered, answersTo, tableAfter, linesFrom, lines, left}
 use Rattle.trace.specs.declared.Read.{Read}
 use Rattle.trace.proofs.RunLaws.{table-more, lines-more}
 use Rattle.trace.proofs.Runs.{run, table-run}
@@ -108,9 +108,3 @@ module _ (g₀ : Gate) (gs₀ ws₀ fs₀ : List ℕ) (k : Known g₀ gs₀ ws�
           lines = subst (λ (k : ℕ). Put 0 (linesFrom number (answersTo t₀ (eventsOf v k bs))) out₀ bytes out) n (f .lines);
           room = f .room;
         }
-
--- how far a turn counts
-pub turned-number : (v : ℕ) (bs : List ℕ) (number : ℕ) (g : Gate) (gs ws fs rest : List ℕ) (number′ : ℕ) (g′ : Gate) (gs′ ws′ fs′ out : List ℕ) (bytes : ℕ) (out′ : List ℕ)
-    → Turned v bs number g gs ws fs rest number′ g′ gs′ ws′ fs′ out bytes out′ → number′ ≡ number + whole bs
-unfolding left
-turned-number v bs number g gs ws fs rest number′ g′ gs′ ws′ fs′ out bytes out′ t = ap (λ (p : Place). p .number) (t .place)

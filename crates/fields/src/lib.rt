@@ -17,11 +17,13 @@ ghost use Rattle.trace.specs.Header.{mark, same, body as bodyOf, versionOf, dep
 
 pub mod little; // numbers from bytes
 
-// Where limit, shares and credit stand in a guest's record.
+// Where the limit stands in a guest's record.
 const LIMIT_AT: usize = 4;
 
+// Where its shares stand.
 const SHARES_AT: usize = 8;
 
+// Where its credit stands, in version 2.
 const CREDIT_AT: usize = 12;
 
 // Where the records of so many guests end in a trace of this version: the events begin there, and so does the record of the next guest.

@@ -1,5 +1,5 @@
 -- `untouched`, first half: what stands beyond the places that the settings need comes back as it was, whatever is handed in. Assumes nothing.
-use Prim.Native.Nat.{ℕ, _*_, _≤_}
+use Prim.Native.Nat.{ℕ, _≤_}
 use mathlib.Core.Path.{_≡_, refl, sym, ap, _∙_, subst}
 use mathlib.Core.List.{List}
 use lib.ListN.{length, drop, length-map}

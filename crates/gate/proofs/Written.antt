@@ -12,7 +12,7 @@ use Rattle.rules.specs.Tables.{Table}
 use Rattle.rules.specs.Sound.{sound}
 use Rattle.rules.specs.Choice.{Result}
 use Rattle.table.specs.Columns.{guestWide, waitingWide, flightWide}
-use Rattle.table.specs.View.{guestForm, requestForm, flightForm, tableOf, gateOf, countable, identified, zeroed, soundNumbers}
+use Rattle.table.specs.View.{guestForm, requestForm, flightForm, gateOf, countable, identified, zeroed, soundNumbers}
 use Rattle.table.specs.ViewLaws.{request-exact, flight-exact}
 use Rattle.table.proofs.Lens.{Room, written-shown, written-known}
 use Rattle.sound.proofs.SoundKnown.{known-sound}

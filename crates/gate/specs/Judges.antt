@@ -1,4 +1,4 @@
--- What the functions of src/numbers.rt find before a call moves anything. Their own contracts, no promise of a public call.
+-- What crates/calling/src/numbers.rt and crates/opens/src/lib.rt find before a call moves anything. Contracts of their functions, no promise of a public call.
 use Prim.Native.Nat.{ℕ, _*_, _≤_}
 use mathlib.Core.Path.{_≡_}
 use mathlib.Core.List.{List}

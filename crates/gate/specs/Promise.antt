@@ -137,6 +137,7 @@ module _ (v : Lending) where
 abbrev pub Seen : Type 0
 Seen = SeenIn numbers
 
+-- of what a call handed back
 abbrev pub seen : HandedIn numbers → Seen
 seen = seenIn numbers
 

@@ -28,14 +28,16 @@ ghost use Rattle.trace.specs.Header.{body as bodyOf, settingsAt, headerShown, h
 ghost use Rattle.table.specs.Columns.{settingsWide};
 ghost use Rattle.table.specs.View.{settingsForm};
 
-// The versions that are read, the first and the last.
+// The first version that is read.
 const FIRST_VERSION: u64 = 1;
 
+// The last version that is read.
 const LAST_VERSION: u64 = 2;
 
-// Where limit, shares and credit stand in a guest's record.
+// Where the limit stands in a guest's record.
 const LIMIT_AT: usize = 4;
 
+// Where its shares stand.
 const SHARES_AT: usize = 8;
 
 // The header that stands at the front of the bytes, of which there may be any number, where the versions from one to another are taken.

@@ -10,6 +10,7 @@ use lib.Dec.{ltb, leb, eqb}
 use lib.ListN.{length, getD}
 use borrow.Author.Tests.{leb-true, le-leb, ltb-true, ltb-false, eqb-false, ne-eqb, not-true}
 use Rattle.lists.specs.Words.{below}
+use Rattle.lists.specs.Walks.{below-fails}
 use Rattle.lists.specs.WordsLaws.{both, join, either-fails, neither}
 use Rattle.rules.specs.Numbers.{mostDelta, within}
 use Rattle.rules.specs.Answers.{Printed, numberOf, shown, taken}
@@ -32,7 +33,6 @@ use Rattle.arrays.specs.Counters.{mostArrays, counterWide, DELTA, RHO, counterA
 use Rattle.arrays.specs.Phases.{goodPhase, inStep}
 use Rattle.arrays.specs.Promise.{shortAt, placeTests, askTests, handedOn, countedAt, askedBy, asked, openingTests, startedAt, begunBy, begun}
 use Rattle.houses.specs.Cases.{Several, Short, Astray, Stray, Wrong, placeCases, askCases, openingCases}
-use Rattle.arrays.proofs.Rows.{below-not}
 
 -- TESTS IN FRONT OF A CALL
 
@@ -102,7 +102,7 @@ some-below (suc n) f e =
     ⊎-elim (λ q. (n, omega arith, q)) (λ q. let (i, l, p) = some-below n f q in (i, omega arith, p)) (either-fails (f n) (below n f) e)
 
 some-fails : (n : ℕ) (f : ℕ → Bool) (P : ℕ → Type 0) → ((i : ℕ) → (f i ≡ false) ↔ P i) → (below n f ≡ false) ↔ ((i : ℕ) × (i < n) × P i)
-some-fails n f P x = (λ e. let (i, l, p) = some-below n f e in (i, l, x i .0 p), λ (i, l, p). below-not n f i l (x i .1 p))
+some-fails n f P x = (λ e. let (i, l, p) = some-below n f e in (i, l, x i .0 p), λ (i, l, p). below-fails f n i l (x i .1 p))
 
 -- a row of counters that is not good
 row-astray : (cs : List ℕ) (row : ℕ) → (goodRow cs row ≡ false) ↔ Astray cs row

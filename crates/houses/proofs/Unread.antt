@@ -10,7 +10,8 @@ use lib.Dec.{ltb, leb}
 use lib.ListN.{length, getD, set, take}
 use lib.Seq.{take-set-lt, getD-take, ext-getD, length-take-le}
 use borrow.Author.Tests.{le-ltb, ltb-false}
-use Rattle.lists.specs.Words.{if_then_else_, below}
+use Rattle.lists.specs.Words.{if_then_else_}
+use Rattle.lists.specs.Walks.{below-ext}
 use Rattle.lists.specs.Tab.{tab-ext, removeAt}
 use Rattle.lists.specs.RowsLaws.{length-rows}
 use Rattle.lists.specs.AlikeLaws.{alike-at, alike-short, alike-fewer, alike-rows}
@@ -44,11 +45,6 @@ use Rattle.arrays.proofs.Rows.{row-among}
 use Rattle.houses.proofs.CounterLaws.{pairAt}
 use Rattle.arrays.proofs.Places.{over-at, length-over, flies-most}
 use Rattle.arrays.proofs.PhaseLaws.{place-holds}
-
--- two functions that agree below n pass there alike
-below-ext : (n : ℕ) (f g : ℕ → Bool) → ((i : ℕ) → i < n → f i ≡ g i) → below n f ≡ below n g
-below-ext zero f g h = refl
-below-ext (suc n) f g h = let i = below-ext n f g (λ j l. h j (omega arith)) in let e = h n (omega arith) in λ t. e t && i t
 
 -- COUNTERS that are alike in so many rows
 

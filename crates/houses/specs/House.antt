@@ -76,6 +76,7 @@ narrowAsk (Arrives a now) = ltb (a .id) 4294967296
 narrowAsk (Completes f now) = true
 narrowAsk (Ticks now) = true
 
+-- the same of a call at an array
 abbrev pub narrowDeed : Deed → Bool
 narrowDeed d = narrowAsk (d .ask)
 

@@ -36,9 +36,10 @@ unfoldable pub acceptedFrom : (m n : ℕ) (ss : List ℕ) (a : ℕ) → List Len
 acceptedFrom m n ss a [] cs = true
 acceptedFrom m n ss a (l ∷ ls) cs = taken (opensAt m n ss a l cs .0 .answer) && acceptedFrom m n ss (suc a) ls (opensAt m n ss a l cs .4)
 
--- all arrays
+-- the house after the openings of all its arrays
 abbrev pub openedAll : (n : ℕ) (ss : List ℕ) → List Lent → (cs : List ℕ) → House
 openedAll n ss ls cs = openedFrom (length ls) n ss 0 ls cs
 
+-- all of those are accepted
 abbrev pub acceptedAll : (n : ℕ) (ss : List ℕ) → List Lent → (cs : List ℕ) → Bool
 acceptedAll n ss ls cs = acceptedFrom (length ls) n ss 0 ls cs

@@ -11,9 +11,10 @@ ghost use lib.ListN.{length};
 ghost use Rattle.trace.specs.Little.{eight as eightOf};
 ghost use Rattle.trace.specs.Event.{readShown, kindIn, upperIn, eventByte, eventFrom, eventOf};
 
-// How far the upper part of an event's first byte stands in version 2, and the bits of the kind below it.
+// How far up the upper part of an event's first byte stands in version 2.
 const UPPER: u8 = 2;
 
+// The bits of the kind, below the upper part.
 const KIND: u8 = 3;
 
 // The kind of an event, from its first byte: the low two bits in version 2, the byte in version 1.

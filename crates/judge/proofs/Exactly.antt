@@ -8,26 +8,18 @@ use mathlib.Core.Logic.{_↔_}
 use native.Mathlib.Omega.{arith}
 use lib.ListN.{length, take, drop}
 use Rattle.lists.specs.Words.{if_then_else_}
-use Rattle.lists.specs.Tab.{length-tab}
 use Rattle.rules.specs.Tables.{Table}
-use Rattle.rules.specs.Sound.{sound}
 use Rattle.rules.specs.Choice.{Result}
-use Rattle.rules.specs.Refusals.{accept, judged, openTests}
-use Rattle.rules.specs.Run.{fresh}
-use Rattle.rules.proofs.Opening.{fresh-sound}
 use Rattle.gate.specs.Replies.{Four, fourOf}
 use Rattle.lines.specs.Line.{lineOf}
-use Rattle.trace.specs.Header.{guestsOf, versionOf, settingsAt, settingsIn, headerOf}
+use Rattle.trace.specs.Header.{headerOf}
 use Rattle.trace.specs.Printed.{linesFrom}
 use Rattle.trace.specs.Answers.{opening}
-use Rattle.trace.specs.declared.Header.{Header}
-use Rattle.trace.specs.declared.Header.the-variants.{Opened, Refused as Unopened}
-use Rattle.trace.proofs.HeaderLaws.{opened}
-use Rattle.judge.specs.Acceptable.{Asked, May, ours, asked, askedBy, headLine, Stands, linesOf, Acceptable, lastOf, noneDue, headDue, Amiss, FirstWrong, heading, later}
+use Rattle.judge.specs.Acceptable.{Asked, May, ours, asked, headLine, Stands, linesOf, Acceptable, lastOf, noneDue, headDue, Amiss, FirstWrong, heading, later}
 use Rattle.judge.specs.Judging.{begins, Heard, follows, wrong, heard, wrongAt, accepted, ended, onward, judgedFrom, judgedOf}
 use Rattle.judge.specs.declared.Judged.{Judged}
 use Rattle.judge.proofs.Bytes.{begins-is, is-begins, behind-begin, begins-with, begins-not}
-use Rattle.judge.proofs.Follows.{heard-may, may-heard, may-sound}
+use Rattle.judge.proofs.Follows.{never, heard-may, may-heard}
 
 -- FROM A TABLE ON, where n events stand before
 
@@ -54,10 +46,6 @@ data Says (n : ℕ) (t : Table) (xs : List Asked) (ls : List ℕ) (j : Judged) :
 -- something is not nothing
 some : {b : ℕ} {l : List ℕ} → b ∷ l ≡ [] → ⊥
 some e = omega (arith, ap length e)
-
--- to follow is not to be wrong
-never : {r : Result} → wrong ≡ follows r → ⊥
-never e = let z : _≡_ {A = ℕ} 0 1 = cc in omega arith
 
 -- no line is heard yet: what is amiss is amiss here
 wrong-here : (n : ℕ) (t : Table) (xs : List Asked) (ls : List ℕ) (d : Four) → Amiss t (n + 1) xs ls d → WrongFrom n t xs ls (n + 2) d
@@ -93,109 +81,76 @@ module _ (n : ℕ) (t : Table) (x : Asked) (xs : List Asked) (ls : List ℕ) (r 
   says-more j (wrongly m d k e) = wrongly m d (wrong-more m d k) e
 
 -- WHAT IS JUDGED SAYS SO
-judged-says : (xs : List Asked) (n : ℕ) (t : Table) → sound t ≡ true → (ls : List ℕ) → Says n t xs ls (judgedFrom n t xs ls)
+judged-says : (xs : List Asked) (n : ℕ) (t : Table) (ls : List ℕ) → Says n t xs ls (judgedFrom n t xs ls)
 unfolding judgedFrom linesFrom
-judged-says [] n t firm [] = right (record { results = []; stand = tt; lines = refl }) refl
-judged-says [] n t firm (b ∷ ls) = wrongly (n + 2) noneDue (wrong-here n t [] (b ∷ ls) noneDue (some, refl)) refl
-judged-says (x ∷ xs) n t firm ls = go (heard (n + 1) ls t x) refl (λ u f k. judged-says xs (n + 1) u f k)
+judged-says [] n t [] = right (record { results = []; stand = tt; lines = refl }) refl
+judged-says [] n t (b ∷ ls) = wrongly (n + 2) noneDue (wrong-here n t [] (b ∷ ls) noneDue (some, refl)) refl
+judged-says (x ∷ xs) n t ls = go (heard (n + 1) ls t x) refl (judged-says xs (n + 1))
   where
-    go : (h : Heard) → heard (n + 1) ls t x ≡ h → ((u : Table) → sound u ≡ true → (k : List ℕ) → Says (n + 1) u xs k (judgedFrom (n + 1) u xs k))
+    go : (h : Heard) → heard (n + 1) ls t x ≡ h → ((u : Table) (k : List ℕ) → Says (n + 1) u xs k (judgedFrom (n + 1) u xs k))
         → Says n t (x ∷ xs) ls (onward (λ r. judgedFrom (n + 1) (r .table) xs (drop (length (lineOf (n + 1) (r .answer))) ls)) (wrongAt (n + 2) (fourOf (ours t x .answer))) h)
     go (follows r) e i =
-        let m = heard-may (n + 1) ls t firm x r e in
-        says-more n t x xs ls r (m .0) (m .1) _ (i (r .table) (may-sound t firm x r (m .0)) (drop (length (lineOf (n + 1) (r .answer))) ls))
+        let m = heard-may (n + 1) ls t x r e in
+        says-more n t x xs ls r (m .0) (m .1) _ (i (r .table) (drop (length (lineOf (n + 1) (r .answer))) ls))
     go wrong e i =
         wrongly (n + 2) (fourOf (ours t x .answer))
         (wrong-here n t (x ∷ xs) ls (fourOf (ours t x .answer))
-        (λ r m b. never (sym e ∙ may-heard (n + 1) ls t firm x r m (ap (begins (lineOf (n + 1) (r .answer))) (b .split) ∙ is-begins (lineOf (n + 1) (r .answer)) (b .rest))), refl))
+        (λ r m b. never (sym e ∙ may-heard (n + 1) ls t x r m (ap (begins (lineOf (n + 1) (r .answer))) (b .split) ∙ is-begins (lineOf (n + 1) (r .answer)) (b .rest))), refl))
         refl
 
 -- AND WHAT SAYS SO IS JUDGED
 
 -- a line that may stand, and is there, is followed
-stands-on : (n : ℕ) (t : Table) → sound t ≡ true → (x : Asked) (xs : List Asked) (r : Result) → May t x r → (ls rest : List ℕ) → ls ≡ lineOf (n + 1) (r .answer) ++ rest
+stands-on : (n : ℕ) (t : Table) (x : Asked) (xs : List Asked) (r : Result) → May t x r → (ls rest : List ℕ) → ls ≡ lineOf (n + 1) (r .answer) ++ rest
     → judgedFrom n t (x ∷ xs) ls ≡ judgedFrom (n + 1) (r .table) xs rest
 unfolding judgedFrom
-stands-on n t firm x xs r m ls rest e =
+stands-on n t x xs r m ls rest e =
     let line = lineOf (n + 1) (r .answer) in
-    let h = may-heard (n + 1) ls t firm x r m (ap (begins line) e ∙ is-begins line rest) in
+    let h = may-heard (n + 1) ls t x r m (ap (begins line) e ∙ is-begins line rest) in
     ap (onward (λ q. judgedFrom (n + 1) (q .table) xs (drop (length (lineOf (n + 1) (q .answer))) ls)) (wrongAt (n + 2) (fourOf (ours t x .answer)))) h
     ∙ ap (judgedFrom (n + 1) (r .table) xs) (ap (drop (length line)) e ∙ behind-begin line rest)
 
-right-judged : (rs : List Result) (xs : List Asked) (n : ℕ) (t : Table) → sound t ≡ true → Stands t xs rs → (ls : List ℕ) → ls ≡ linesFrom n (map Result.answer rs) → judgedFrom n t xs ls ≡ accepted
+right-judged : (rs : List Result) (xs : List Asked) (n : ℕ) (t : Table) → Stands t xs rs → (ls : List ℕ) → ls ≡ linesFrom n (map Result.answer rs) → judgedFrom n t xs ls ≡ accepted
 unfolding judgedFrom linesFrom
-right-judged [] [] n t firm s ls e = ap (ended (n + 2)) e
-right-judged [] (x ∷ xs) n t firm s ls e = absurd s
-right-judged (r ∷ rs) [] n t firm s ls e = absurd s
-right-judged (r ∷ rs) (x ∷ xs) n t firm s ls e =
-    stands-on n t firm x xs r (s .0) ls (linesFrom (n + 1) (map Result.answer rs)) e
-    ∙ right-judged rs xs (n + 1) (r .table) (may-sound t firm x r (s .0)) (s .1) (linesFrom (n + 1) (map Result.answer rs)) refl
+right-judged [] [] n t s ls e = ap (ended (n + 2)) e
+right-judged [] (x ∷ xs) n t s ls e = absurd s
+right-judged (r ∷ rs) [] n t s ls e = absurd s
+right-judged (r ∷ rs) (x ∷ xs) n t s ls e =
+    stands-on n t x xs r (s .0) ls (linesFrom (n + 1) (map Result.answer rs)) e
+    ∙ right-judged rs xs (n + 1) (r .table) (s .1) (linesFrom (n + 1) (map Result.answer rs)) refl
 
 -- what is amiss here is judged wrong here
-amiss-judged : (xs : List Asked) (n : ℕ) (t : Table) → sound t ≡ true → (ls : List ℕ) (d : Four) → Amiss t (n + 1) xs ls d → judgedFrom n t xs ls ≡ wrongAt (n + 2) d
+amiss-judged : (xs : List Asked) (n : ℕ) (t : Table) (ls : List ℕ) (d : Four) → Amiss t (n + 1) xs ls d → judgedFrom n t xs ls ≡ wrongAt (n + 2) d
 unfolding judgedFrom
-amiss-judged [] n t firm [] d a = absurd (a .0 refl)
-amiss-judged [] n t firm (b ∷ ls) d a = ap (wrongAt (n + 2)) (sym (a .1))
-amiss-judged (x ∷ xs) n t firm ls d a = go (heard (n + 1) ls t x) refl ∙ ap (wrongAt (n + 2)) (sym (a .1))
+amiss-judged [] n t [] d a = absurd (a .0 refl)
+amiss-judged [] n t (b ∷ ls) d a = ap (wrongAt (n + 2)) (sym (a .1))
+amiss-judged (x ∷ xs) n t ls d a = go (heard (n + 1) ls t x) refl ∙ ap (wrongAt (n + 2)) (sym (a .1))
   where
     go : (h : Heard) → heard (n + 1) ls t x ≡ h
         → onward (λ r. judgedFrom (n + 1) (r .table) xs (drop (length (lineOf (n + 1) (r .answer))) ls)) (wrongAt (n + 2) (fourOf (ours t x .answer))) h ≡ wrongAt (n + 2) (fourOf (ours t x .answer))
-    go (follows r) e = let m = heard-may (n + 1) ls t firm x r e in absurd (a .0 r (m .0) (begins-with (lineOf (n + 1) (r .answer)) ls (m .1)))
+    go (follows r) e = let m = heard-may (n + 1) ls t x r e in absurd (a .0 r (m .0) (begins-with (lineOf (n + 1) (r .answer)) ls (m .1)))
     go wrong e = refl
 
-wrong-judged : (rs : List Result) (xs : List Asked) (n : ℕ) (t : Table) → sound t ≡ true → Stands t (take (length rs) xs) rs → (ls rest : List ℕ) → ls ≡ linesFrom n (map Result.answer rs) ++ rest
+wrong-judged : (rs : List Result) (xs : List Asked) (n : ℕ) (t : Table) → Stands t (take (length rs) xs) rs → (ls rest : List ℕ) → ls ≡ linesFrom n (map Result.answer rs) ++ rest
     → (d : Four) → Amiss (lastOf t rs) (n + length rs + 1) (drop (length rs) xs) rest d → judgedFrom n t xs ls ≡ wrongAt (n + length rs + 2) d
 unfolding linesFrom
-wrong-judged [] xs n t firm s ls rest e d a =
+wrong-judged [] xs n t s ls rest e d a =
     let f : n + 0 + 1 ≡ n + 1 = omega arith in
     let g : n + 2 ≡ n + 0 + 2 = omega arith in
-    ap (judgedFrom n t xs) e ∙ amiss-judged xs n t firm rest d (subst (λ (k : ℕ). Amiss t k xs rest d) f a) ∙ ap (λ (k : ℕ). wrongAt k d) g
-wrong-judged (r ∷ rs) [] n t firm s ls rest e d a = absurd s
-wrong-judged (r ∷ rs) (x ∷ xs) n t firm s ls rest e d a =
+    ap (judgedFrom n t xs) e ∙ amiss-judged xs n t rest d (subst (λ (k : ℕ). Amiss t k xs rest d) f a) ∙ ap (λ (k : ℕ). wrongAt k d) g
+wrong-judged (r ∷ rs) [] n t s ls rest e d a = absurd s
+wrong-judged (r ∷ rs) (x ∷ xs) n t s ls rest e d a =
     let line = lineOf (n + 1) (r .answer) in
     let others = linesFrom (n + 1) (map Result.answer rs) in
     let f : n + length (r ∷ rs) + 1 ≡ n + 1 + length rs + 1 = omega arith in
     let g : n + 1 + length rs + 2 ≡ n + length (r ∷ rs) + 2 = omega arith in
-    stands-on n t firm x xs r (s .0) ls (others ++ rest) (e ∙ append-assoc line others rest)
-    ∙ wrong-judged rs xs (n + 1) (r .table) (may-sound t firm x r (s .0)) (s .1) (others ++ rest) rest refl d (subst (λ (k : ℕ). Amiss (lastOf (r .table) rs) k (drop (length rs) xs) rest d) f a)
+    stands-on n t x xs r (s .0) ls (others ++ rest) (e ∙ append-assoc line others rest)
+    ∙ wrong-judged rs xs (n + 1) (r .table) (s .1) (others ++ rest) rest refl d (subst (λ (k : ℕ). Amiss (lastOf (r .table) rs) k (drop (length rs) xs) rest d) f a)
     ∙ ap (λ (k : ℕ). wrongAt k d) g
 
 -- A WHOLE TRACE
 
--- a good header opens a sound table
-pub opening-sound : (bs : List ℕ) (v d n c r : ℕ) → headerOf bs ≡ Opened v d n c r → sound (opening bs) ≡ true
-unfolding openTests
-opening-sound bs v d n c r e =
-    let o = opened bs v d n c r e in
-    let ok : judged (openTests false d n c r (settingsIn bs)) ≡ accept = rw (o .counts, o .rules, o .settings) refl in
-    (λ i. sound (fresh (sym (o .depthIs) i) (sym (o .capacityIs) i) (sym (o .ruleIs) i) (settingsIn bs)))
-    ∙ fresh-sound false d n c r (settingsIn bs) ok (length-tab (guestsOf bs) (settingsAt (versionOf bs) bs) ∙ sym (o .guestsIs))
-
--- WHERE NOTHING ASKS no table is looked at
-
-none-says : (t : Table) (ls : List ℕ) → Says 0 t [] ls (judgedFrom 0 t [] ls)
-unfolding judgedFrom linesFrom
-none-says t [] = right (record { results = []; stand = tt; lines = refl }) refl
-none-says t (b ∷ ls) = wrongly 2 noneDue (wrong-here 0 t [] (b ∷ ls) noneDue (some, refl)) refl
-
-none-right : (t : Table) (rs : List Result) → Stands t [] rs → judgedFrom 0 t [] (linesOf rs) ≡ accepted
-unfolding judgedFrom linesFrom
-none-right t [] s = refl
-none-right t (r ∷ rs) s = absurd s
-
-none-wrong : (t : Table) (rs : List Result) (rest : List ℕ) (n : ℕ) (d : Four) → n ≡ length rs + 2 → Stands t (take (length rs) []) rs → Amiss (lastOf t rs) (length rs + 1) (drop (length rs) []) rest d
-    → judgedFrom 0 t [] (linesOf rs ++ rest) ≡ wrongAt n d
-unfolding judgedFrom linesFrom
-none-wrong t [] [] n d m s a = absurd (a .0 refl)
-none-wrong t [] (b ∷ l) n d m s a = λ i. wrongAt (sym m i) (sym (a .1) i)
-none-wrong t (r ∷ rs) l n d m s a = absurd s
-
 module _ (bs ls : List ℕ) where
-  -- what may be said of a trace by its header: behind a bad one nothing asks
-  by-header : (h : Header) → headerOf bs ≡ h → (P : List Asked → Type 0) → P [] → (sound (opening bs) ≡ true → P (asked bs)) → P (asked bs)
-  by-header (Unopened r) e P none some = subst (λ (h : Header). P (askedBy h bs)) (sym e) none
-  by-header (Opened v d n c r) e P none some = some (opening-sound bs v d n c r e)
-
   -- the verdict on a whole trace
   data Verdict (j : Judged) : Type 0 where
     stands : Acceptable bs ls → j ≡ accepted → Verdict j
@@ -204,15 +159,13 @@ module _ (bs ls : List ℕ) where
   abbrev behind : List ℕ
   behind = drop (length (headLine bs)) ls
 
-  whole : (xs : List Asked) → xs ≡ asked bs → begins (headLine bs) ls ≡ true → (j : Judged) → Says 0 (opening bs) xs behind j → Verdict j
-  whole xs e b j (right k q) =
-      stands (record { results = k .results; stand = subst (λ (l : List Asked). Stands (opening bs) l (k .results)) e (k .stand); lines = begins-is (headLine bs) ls b ∙ ap (λ (l : List ℕ). headLine bs ++ l) (k .lines) }) q
-  whole xs e b j (wrongly m d k q) =
+  whole : (j : Judged) → begins (headLine bs) ls ≡ true → Says 0 (opening bs) (asked bs) behind j → Verdict j
+  whole j b (right k q) = stands (record { results = k .results; stand = k .stand; lines = begins-is (headLine bs) ls b ∙ ap (λ (l : List ℕ). headLine bs ++ l) (k .lines) }) q
+  whole j b (wrongly m d k q) =
       let f : 0 + length (k .results) + 1 ≡ length (k .results) + 1 = omega arith in
       falls m d
-      (later (k .results) (k .rest) (omega (arith, k .numbered)) (subst (λ (l : List Asked). Stands (opening bs) (take (length (k .results)) l) (k .results)) e (k .stand))
-      (begins-is (headLine bs) ls b ∙ ap (λ (l : List ℕ). headLine bs ++ l) (k .lines))
-      (subst (λ (y : ℕ × List Asked). Amiss (lastOf (opening bs) (k .results)) (y .0) (drop (length (k .results)) (y .1)) (k .rest) d) (λ i. (f i, e i)) (k .amiss)))
+      (later (k .results) (k .rest) (omega (arith, k .numbered)) (k .stand) (begins-is (headLine bs) ls b ∙ ap (λ (l : List ℕ). headLine bs ++ l) (k .lines))
+      (subst (λ (y : ℕ). Amiss (lastOf (opening bs) (k .results)) y (drop (length (k .results)) (asked bs)) (k .rest) d) f (k .amiss)))
       q
 
   verdict : Verdict (judgedOf bs ls)
@@ -220,9 +173,7 @@ module _ (bs ls : List ℕ) where
   verdict = go (begins (headLine bs) ls) refl
     where
       go : (b : Bool) → begins (headLine bs) ls ≡ b → Verdict (if b then judgedFrom 0 (opening bs) (asked bs) behind else wrongAt 1 (headDue (headerOf bs)))
-      go true b =
-          whole (asked bs) refl b (judgedFrom 0 (opening bs) (asked bs) behind)
-          (by-header (headerOf bs) refl (λ xs. Says 0 (opening bs) xs behind (judgedFrom 0 (opening bs) xs behind)) (none-says (opening bs) behind) (λ firm. judged-says (asked bs) 0 (opening bs) firm behind))
+      go true b = whole (judgedFrom 0 (opening bs) (asked bs) behind) b (judged-says (asked bs) 0 (opening bs) behind)
       go false b = falls 1 (headDue (headerOf bs)) (heading refl (begins-not (headLine bs) ls b) refl) refl
 
   -- AND BACK
@@ -233,10 +184,7 @@ module _ (bs ls : List ℕ) where
   headed rest e = rw (ap (begins (headLine bs)) e ∙ is-begins (headLine bs) rest) (ap (judgedFrom 0 (opening bs) (asked bs)) (ap (drop (length (headLine bs))) e ∙ behind-begin (headLine bs) rest))
 
   pub acceptable-judged : Acceptable bs ls → judgedOf bs ls ≡ accepted
-  acceptable-judged a =
-      headed (linesOf (a .results)) (a .lines)
-      ∙ by-header (headerOf bs) refl (λ xs. Stands (opening bs) xs (a .results) → judgedFrom 0 (opening bs) xs (linesOf (a .results)) ≡ accepted) (none-right (opening bs) (a .results))
-      (λ firm s. right-judged (a .results) (asked bs) 0 (opening bs) firm s (linesOf (a .results)) refl) (a .stand)
+  acceptable-judged a = headed (linesOf (a .results)) (a .lines) ∙ right-judged (a .results) (asked bs) 0 (opening bs) (a .stand) (linesOf (a .results)) refl
 
   wrong-is : (n : ℕ) (d : Four) → FirstWrong bs ls n d → judgedOf bs ls ≡ wrongAt n d
   unfolding judgedOf
@@ -249,12 +197,8 @@ module _ (bs ls : List ℕ) where
       let f : length rs + 1 ≡ 0 + length rs + 1 = omega arith in
       let g : 0 + length rs + 2 ≡ n = omega (arith, m) in
       headed (linesOf rs ++ rest) e
-      ∙ by-header (headerOf bs) refl
-      (λ xs. Stands (opening bs) (take (length rs) xs) rs → Amiss (lastOf (opening bs) rs) (length rs + 1) (drop (length rs) xs) rest d → judgedFrom 0 (opening bs) xs (linesOf rs ++ rest) ≡ wrongAt n d)
-      (none-wrong (opening bs) rs rest n d m)
-      (λ firm s a.
-      wrong-judged rs (asked bs) 0 (opening bs) firm s (linesOf rs ++ rest) rest refl d (subst (λ (k : ℕ). Amiss (lastOf (opening bs) rs) k (drop (length rs) (asked bs)) rest d) f a) ∙ ap (λ (k : ℕ). wrongAt k d) g)
-      s a
+      ∙ wrong-judged rs (asked bs) 0 (opening bs) s (linesOf rs ++ rest) rest refl d (subst (λ (k : ℕ). Amiss (lastOf (opening bs) rs) k (drop (length rs) (asked bs)) rest d) f a)
+      ∙ ap (λ (k : ℕ). wrongAt k d) g
 
   -- THE THEOREMS
 

@@ -11,7 +11,6 @@ use borrow.Author.Tests.{ltb-true, ltb-false, lt-ltb, le-ltb, eq-eqb, eqb-true}
 use Rattle.lists.specs.Words.{if_then_else_}
 use Rattle.lists.specs.WordsLaws.{both, join}
 use Rattle.rules.specs.Tables.{Request, Table, name}
-use Rattle.rules.specs.Sound.{sound}
 use Rattle.rules.specs.Choice.{Result, Pick, nobody, picked, least, due, open?, room}
 use Rattle.rules.specs.Chosen.{at, Foremost, NoneIs, unsent}
 use Rattle.rules.specs.Events.{enter}
@@ -22,7 +21,7 @@ use Rattle.rules.specs.declared.Phase.the-variants.{Reservation, Weight}
 use Rattle.rules.specs.declared.Refusal.the-variants.{BadEvent, EventCut}
 use Rattle.rules.specs.declared.Answer.{Answer}
 use Rattle.rules.specs.declared.Answer.the-variants.{Sent}
-use Rattle.rules.proofs.Facts.{Sound, is-sound}
+use Rattle.rules.proofs.Facts.{Sound}
 use Rattle.rules.proofs.EnterSound.{enter-sound}
 use Rattle.rules.proofs.Places.{Says as Picked, least-place, least-none}
 use Rattle.walks.specs.declared.Found.{Found}
@@ -33,13 +32,12 @@ use Rattle.judge.specs.Acceptable.{MayGo, MayChoose, full, reservation, 
 use Rattle.judge.specs.Judging.{begins, follows, wrong, told, okIn, tagIn, sentAt, ties, named, placeFrom, leads, sentIn, heardIn, heardWeight, heardReservation, heardChoice, heardBy, heard}
 use Rattle.judge.proofs.Bytes.{begins-is, line-once}
 use Rattle.judge.proofs.Places.{Says, place-says, place-found}
-use Rattle.judge.proofs.Tied.{leads-first, first-leads, first-of}
+use Rattle.judge.proofs.Tied.{leads-first, first-leads}
 use Rattle.judge.proofs.Ties.{one-place}
-use Rattle.judge.proofs.Sent.{sent-sound}
 use Rattle.judge.proofs.Heard.{sent-answer}
 
 -- to follow is not to be wrong
-never : {r : Result} → wrong ≡ follows r → ⊥
+pub never : {r : Result} → wrong ≡ follows r → ⊥
 never e = let z : _≡_ {A = ℕ} 0 1 = cc in omega arith
 
 -- the result that is followed
@@ -179,7 +177,7 @@ module _ (n : ℕ) (ls : List ℕ) where
 
   -- EACH THAT ASKS
 
-  module _ (t : Table) (firm : sound t ≡ true) where
+  module _ (t : Table) where
     entered : (e : Event) → verdict t e ≡ accept → Sound (enter t e)
     entered e v = enter-sound t e (ap isAccept v)
 
@@ -202,23 +200,3 @@ module _ (n : ℕ) (ls : List ℕ) where
         go (refuse why) k m = told-heard (refusing t why) r m h
     may-heard (entire Bad) r m h = told-heard (refusing t BadEvent) r m h
     may-heard cutOff r m h = told-heard (refusing t EventCut) r m h
-
--- WHAT MAY STAND LEAVES A SOUND TABLE
-
-choose-sound : (t : Table) → Sound t → (r : Result) → MayChoose t r → Sound (r .table)
-unfolding room
-choose-sound t s r (full x e) = subst (λ (y : Result). Sound (y .table)) (sym e) s
-choose-sound t s r (reservation i x g e) =
-    subst (λ (y : Result). Sound (y .table)) (sym e) (sent-sound t i (g .inside) (first-of (t .waiting) i (g .inside) (g .first)) s (lt-ltb (length (t .flight)) (t .setup .depth) x) Reservation)
-choose-sound t s r (weight i x nd g e) =
-    subst (λ (y : Result). Sound (y .table)) (sym e) (sent-sound t i (g .inside) (first-of (t .waiting) i (g .inside) (g .first)) s (lt-ltb (length (t .flight)) (t .setup .depth) x) Weight)
-choose-sound t s r (nothing x nd none e) = subst (λ (y : Result). Sound (y .table)) (sym e) s
-
-pub may-sound : (t : Table) → sound t ≡ true → (x : Asked) (r : Result) → May t x r → sound (r .table) ≡ true
-may-sound t firm (entire (Good e)) r m = go (verdict t e) refl m
-  where
-    go : (v : Verdict) → verdict t e ≡ v → MayDecide v t e r → sound (r .table) ≡ true
-    go accept k m = is-sound (r .table) (choose-sound (enter t e) (enter-sound t e (ap isAccept k)) r m)
-    go (refuse why) k m = ap (λ (y : Result). sound (y .table)) m ∙ firm
-may-sound t firm (entire Bad) r m = ap (λ (y : Result). sound (y .table)) m ∙ firm
-may-sound t firm cutOff r m = ap (λ (y : Result). sound (y .table)) m ∙ firm

@@ -1,5 +1,5 @@
 -- All that asks for a line, one after the other: what the functions over a whole trace know at their ends. Assumes nothing.
-use Prim.Native.Nat.{ℕ, zero, suc, _+_, _-_, _*_, _≤_, _<_}
+use Prim.Native.Nat.{ℕ, suc, _+_, _-_, _*_, _≤_, _<_}
 use mathlib.Core.Path.{_≡_, refl, sym, ap, _∙_, subst}
 use mathlib.Core.Bool.{Bool, true, false}
 use mathlib.Core.List.{List, [], _∷_, _++_, map}
@@ -67,12 +67,8 @@ module _ (n : ℕ) (t : Table) (ls : List ℕ) where
     unfolding judgedFrom
     rest-right z e = go rest some
       where
-        some-long : (x : ℕ) → (x ≡ 0 → ⊥) → 0 < x
-        some-long zero s = absurd (s refl)
-        some-long (suc x) s = omega arith
-
         stands : begins cutLine ls ≡ true
-        stands = size-some (begins cutLine ls) (n + 1) (Refused EventCut) (omega (arith, some-long long z, size))
+        stands = size-some (begins cutLine ls) (n + 1) (Refused EventCut) (omega (arith, z, size))
 
         is-long : long ≡ length cutLine
         is-long = size ∙ ap (λ (c : Bool). sizeIf c cutLine) stands
@@ -154,7 +150,7 @@ module _ (v : ℕ) (g₀ : Gate) (gs₀ ws₀ fs₀ bs ls : List ℕ) where
       f = k .goes some
 
       spoken : begins (lineOf (i + 1) (f .result .answer)) (drop at ls) ≡ true
-      spoken = heard-may (i + 1) (drop at ls) t (r .known .isSound) x (f .result) (f .says) .1
+      spoken = heard-may (i + 1) (drop at ls) t x (f .result) (f .says) .1
 
       pub reached-fits : at + s .long ≤ length ls
       reached-fits =

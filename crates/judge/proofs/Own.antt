@@ -1,11 +1,9 @@
 -- "Our own lines are always accepted", for every trace; and what a line's number counts. Assumes nothing. Words in quotes are K10's.
-use Prim.Native.Nat.{ℕ, _+_, _*_}
+use Prim.Native.Nat.{ℕ, _*_}
 use mathlib.Core.Path.{_≡_, refl, sym, ap, _∙_}
-use mathlib.Core.Bool.{true}
 use mathlib.Core.List.{List, [], _∷_, _++_, map, append-nil}
 use lib.ListN.{drop}
 use Rattle.rules.specs.Tables.{Table}
-use Rattle.rules.specs.Sound.{sound}
 use Rattle.rules.specs.Choice.{Result, choice}
 use Rattle.rules.specs.Chosen.{Foremost, Chosen, full, reservation, weight, nothing}
 use Rattle.rules.specs.Events.{enter}
@@ -30,8 +28,7 @@ use Rattle.trace.proofs.Answers.{printed-lines}
 use Rattle.judge.specs.Acceptable.{MayGo, MayChoose, full as fullToo, reservation as reservationToo, weight as weightToo, nothing as nothingToo, Asked, entire, cutOff, MayDecide, May, ours, cutAsked, askedBy, headBy, Stands, linesOf, Acceptable}
 use Rattle.judge.specs.Judging.{okIn, tagIn, accepted, judgedOf}
 use Rattle.judge.proofs.Tied.{foremost-first}
-use Rattle.judge.proofs.Follows.{may-sound}
-use Rattle.judge.proofs.Exactly.{opening-sound, acceptable-judged}
+use Rattle.judge.proofs.Exactly.{acceptable-judged}
 
 -- OUR CHOICE MAY STAND
 
@@ -46,24 +43,24 @@ module _ (t : Table) (s : Sound t) where
   chosen-may r (weight i x nd f e) = weightToo i x nd (foremost-may Weight i f) e
   chosen-may r (nothing x nd none e) = nothingToo x nd none e
 
-ours-may : (t : Table) → sound t ≡ true → (x : Asked) → May t x (ours t x)
+ours-may : (t : Table) (x : Asked) → May t x (ours t x)
 unfolding answered step decided
-ours-may t firm (entire (Good e)) = go (verdict t e) refl
+ours-may t (entire (Good e)) = go (verdict t e) refl
   where
     go : (v : Verdict) → verdict t e ≡ v → MayDecide v t e (decided v t e)
     go accept k = chosen-may (enter t e) (enter-sound t e (ap isAccept k)) (choice (enter t e)) (chosen (enter t e))
     go (refuse why) k = refl
-ours-may t firm (entire Bad) = refl
-ours-may t firm cutOff = refl
+ours-may t (entire Bad) = refl
+ours-may t cutOff = refl
 
 -- what our rules come to, one after the other
 abbrev oursFrom : Table → List Asked → List Result
 oursFrom t [] = []
 oursFrom t (x ∷ xs) = ours t x ∷ oursFrom (ours t x .table) xs
 
-ours-stand : (xs : List Asked) (t : Table) → sound t ≡ true → Stands t xs (oursFrom t xs)
-ours-stand [] t firm = tt
-ours-stand (x ∷ xs) t firm = let m = ours-may t firm x in (m, ours-stand xs (ours t x .table) (may-sound t firm x (ours t x) m))
+ours-stand : (xs : List Asked) (t : Table) → Stands t xs (oursFrom t xs)
+ours-stand [] t = tt
+ours-stand (x ∷ xs) t = (ours-may t x, ours-stand xs (ours t x .table))
 
 -- OUR LINES
 
@@ -89,11 +86,10 @@ own-acceptable bs (refuse r) e =
     }
 own-acceptable bs accept e =
     let h : headerOf bs ≡ headerBy accept bs = ap (λ (v : Verdict). headerBy v bs) e in
-    let firm = opening-sound bs _ _ _ _ _ h in
     let xs = askedBy (headerBy accept bs) bs in
     record {
       results = oursFrom (opening bs) xs;
-      stand = rw h (ours-stand xs (opening bs) firm);
+      stand = rw h (ours-stand xs (opening bs));
       lines = printed-lines bs e
           ∙ ap (λ (l : List Answer). titleLine ++ linesFrom 0 l) (sym (ours-answers (readsOf (versionOf bs) (eventBytes bs)) (opening bs) (drop (whole (eventBytes bs) * 14) (eventBytes bs))))
           ∙ ap (λ (x : Header). headBy x ++ linesOf (oursFrom (opening bs) xs)) (sym h);

@@ -66,9 +66,9 @@ module _ (t : Table) (i : ℕ) (inside : i < length (t .waiting)) (h : FirstOf (
       record { setup = a .setup ∙ b .setup; settings = a .settings ∙ b .settings }
 
   -- and so do its names
-  sent-all : (f : Flight → Bool) → Sound t → all f (names t) ≡ true → (p : Phase) → all f (names (sentAt p t i .table)) ≡ true
-  sent-all f s e Reservation = sending-all f t q v (first-goes t i inside h .split) e
-  sent-all f s e Weight = ap (all f) (dropped-names q (sending t q v)) ∙ sending-all f t q v (first-goes t i inside h .split) e
+  sent-all : (f : Flight → Bool) → all f (names t) ≡ true → (p : Phase) → all f (names (sentAt p t i .table)) ≡ true
+  sent-all f e Reservation = sending-all f t q v (first-goes t i inside h .split) e
+  sent-all f e Weight = ap (all f) (dropped-names q (sending t q v)) ∙ sending-all f t q v (first-goes t i inside h .split) e
 
 -- over lent numbers
 pub send-left : (g : Gate) (gs ws fs : List ℕ) (k : Known g gs ws fs) → g .flight < g .setup .depth → (i : ℕ) → i < g .waiting → FirstOf (tableOf g gs ws fs .waiting) i
@@ -84,5 +84,5 @@ send-left g gs ws fs k free i here h x p c d hs vs es l =
     subst (λ (y : Phase). Sends (sentAt y t i) (d .gate) hs vs es) (sym c)
     (record {
       shows = left-shown g gs ws fs k {f = λ t. sentAt p t i} d hs vs es l same firm;
-      known = left-known g gs ws fs k {f = λ t. sentAt p t i} d hs vs es l same firm (sent-all t i inside h narrow s (k .isIdentified) p);
+      known = left-known g gs ws fs k {f = λ t. sentAt p t i} d hs vs es l same firm (sent-all t i inside h narrow (k .isIdentified) p);
     })

@@ -153,15 +153,11 @@ module _ (g : Gate) (gs ws fs : List ℕ) (k : Known g gs ws fs) (place : ℕ) (
   tied-reservation p latest m e f u h r =
       let late : latest ≡ latestIn Reservation g = f ∙ ap (λ (x : Phase). latestIn x g) e in
       let timely : m ≤ g .time = subst (λ (x : Phase). Timely x m g) e u in
-      let has : reserved (settingsOf (t .guests) q) ≡ true = lt-ltb 0 (settingsOf (t .guests) q .reservation) (omega (arith, some (guestAt gs n RESERVATION) r, reservation-there)) in
+      let has : reserved (settingsOf (t .guests) q) ≡ true = lt-ltb 0 (settingsOf (t .guests) q .reservation) (omega (arith, r, reservation-there)) in
       let passing : passes t q ≡ true = passes-by-tag g gs ws fs k place inside ∙ le-leb (q .ltag) (latestIn Reservation g) (omega (arith, limit-there)) in
       let z : ties Reservation t m q ≡ eqb (waitingAt ws place RTAG) m = rw (has, passing) (go (leb (q .rtag) (g .time)) refl (eqb (q .rtag) m) refl timely ∙ ap (λ (x : ℕ). eqb x m) (tag-there Reservation)) in
       sym (ap (λ (x : Phase). ties x t m q) e ∙ z)
     where
-      some : (x : ℕ) → (x ≡ 0 → ⊥) → 0 < x
-      some zero z = absurd (z refl)
-      some (suc x) z = omega arith
-
       go : (a : Bool) → leb (q .rtag) (g .time) ≡ a → (b : Bool) → eqb (q .rtag) m ≡ b → m ≤ g .time → (a && true) && b ≡ b
       go true x b y z = refl
       go false x false y z = refl

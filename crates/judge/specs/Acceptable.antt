@@ -79,19 +79,21 @@ cutAsked (b ∷ bs) = cutOff ∷ []
 abbrev pub askedFrom : (version : ℕ) → List ℕ → List Asked
 askedFrom v bs = map entire (readsOf v bs) ++ cutAsked (drop (whole bs * 14) bs)
 
--- all that asks for a line in a trace, behind the header line; behind a bad header nothing does
+-- all that asks for a line in a trace with this header, behind the header line; behind a bad header nothing does
 abbrev pub askedBy : Header → List ℕ → List Asked
 askedBy (Unopened r) bs = []
 askedBy (Opened v d n c r) bs = askedFrom (versionOf bs) (eventBytes bs)
 
+-- all that asks for a line in a trace
 abbrev pub asked : List ℕ → List Asked
 asked bs = askedBy (headerOf bs) bs
 
--- the header line, or the one line of a bad header
+-- the first line of a trace with this header: the header line, or the one line of a bad header
 abbrev pub headBy : Header → List ℕ
 headBy (Unopened r) = refusalLine r
 headBy (Opened v d n c r) = titleLine
 
+-- the first line of a trace
 abbrev pub headLine : List ℕ → List ℕ
 headLine bs = headBy (headerOf bs)
 

@@ -1,4 +1,4 @@
--- What the functions within the crate tell each other.
+-- What the functions of crates/ties and crates/hears tell each other.
 use Prim.Native.Nat.{ℕ, _≤_, _<_}
 use mathlib.Core.Path.{_≡_}
 use mathlib.Core.Bool.{Bool, true}

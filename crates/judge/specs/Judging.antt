@@ -87,19 +87,23 @@ heardIn n ls p t m = sentIn p t (placeFrom (named n ls p t m) 0 (t .waiting))
 
 -- THE CHOICE, as document 01 has it
 
+-- by weight, where that picks a request; else nothing is sent
 abbrev pub heardWeight : (n : ℕ) (ls : List ℕ) → Table → Pick → Heard
 heardWeight n ls t nobody = told n ls (unsent t)
 heardWeight n ls t (picked q w) = heardIn n ls Weight t (tagIn Weight q)
 
+-- by reservation, where that picks a request; else by weight
 abbrev pub heardReservation : (n : ℕ) (ls : List ℕ) → Table → Pick → Heard
 heardReservation n ls t nobody = heardWeight n ls t (least (open? t) Request.stag (t .waiting))
 heardReservation n ls t (picked q w) = heardIn n ls Reservation t (tagIn Reservation q)
 
+-- at a table with a place free the phases in turn; at a full one nothing is sent
 unfoldable pub heardChoice : (n : ℕ) (ls : List ℕ) → Table → Heard
 heardChoice n ls t = if room t then heardReservation n ls t (least (due t) Request.rtag (t .waiting)) else told n ls (unsent t)
 
 -- EACH THAT ASKS
 
+-- by the verdict on an event: it enters, and the choice is made, or only its refusal may stand
 abbrev pub heardBy : (n : ℕ) (ls : List ℕ) → Verdict → Table → Event → Heard
 heardBy n ls accept t e = heardChoice n ls (enter t e)
 heardBy n ls (refuse why) t e = told n ls (refusing t why)

@@ -2,5 +2,5 @@
 pub mod Acceptable
 -- The same as a definition that computes.
 pub mod Judging
--- What the functions within the crate tell each other.
+-- What the functions of crates/ties and crates/hears tell each other.
 pub mod Hearing

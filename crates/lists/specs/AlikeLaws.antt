@@ -31,6 +31,7 @@ over-beyond s cap some ls xs =
     (λ i l. getD-drop (cap * s) (over s cap ls xs) i 0 ∙ over-past s cap some ls xs (cap * s + i) (omega arith) ∙ sym (getD-drop (cap * s) xs i 0))
 
 module _ (n : ℕ) (xs ys : List ℕ) (e : take n xs ≡ take n ys) where
+  -- the first n numbers of both are as many
   alike-length : min n (length xs) ≡ min n (length ys)
   alike-length = sym (length-take n xs) ∙ ap length e ∙ length-take n ys
 
@@ -46,6 +47,7 @@ module _ (n : ℕ) (xs ys : List ℕ) (e : take n xs ≡ take n ys) where
       (λ h. le-ltb (length xs) n h ∙ sym (le-ltb (length ys) n (omega (arith, alike-length))))
       (lt-or-le (length xs) n)
 
+  -- both are as long as each other, or neither is shorter than n
   sizes : (length xs ≡ length ys) ⊎ ((n ≤ length xs) × (n ≤ length ys))
   sizes = ⊎-elim (λ h. inl (omega (arith, alike-length))) (λ h. inr (h, omega (arith, alike-length))) (lt-or-le (length xs) n)
 

@@ -18,23 +18,29 @@ use Rattle.lists.specs.RowsLaws.{map-snoc}
 
 -- n lines stand in front, and the next one is stored
 module _ (s n : ℕ) (some : 0 < s) (ls : List (List ℕ)) (size : length ls ≡ n) (v : List ℕ) (wide : length v ≡ s) (xs : List ℕ) (room : suc n * s ≤ length xs) where
+  -- the list with the n lines in front
   before : List ℕ
   before = over s n ls xs
 
+  -- and with the next line stored behind them
   after : List ℕ
   after = stores (λ j. n * s + j) (λ j. getD v j 0) s before
 
+  -- where the next line ends
   past : suc n * s ≡ n * s + s
   past = suc-mul n s
 
+  -- the lines in front change no length
   long : length before ≡ length xs
   unfolding before
   long = length-over s n some ls xs
 
+  -- outside the next line the store changes nothing
   other : (i : ℕ) → ((j : ℕ) → j < s → i ≡ n * s + j → ⊥) → getD after i 0 ≡ getD before i 0
   unfolding after
   other i h = stores-other (λ j. n * s + j) (λ j. getD v j 0) before s i h
 
+  -- each number of the first n + 1 lines stands where the lines have it
   line : (k j : ℕ) → k < suc n → j < s → getD after (k * s + j) 0 ≡ getD (getD (ls ++ (v ∷ [])) k []) j 0
   unfolding before after
   line k j h l =

@@ -18,6 +18,7 @@ module _ {A : Type 0} (f : A → Bool) (l : List A) (z : A) where
   pub all-start : (n : ℕ) → length l ≤ n → all f (drop n l) ≡ true
   all-start n h = rw (drop-of-length-le l {i = n} h)
 
+  -- the entry at place k passes, and so do all behind it: all from k on do
   step : (k : ℕ) → k < length l → f (getD l k z) ≡ true → all f (drop (suc k) l) ≡ true → all f (drop k l) ≡ true
   step k h e s = rw (drop-cons l k z h, e) s
 

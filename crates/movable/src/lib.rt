@@ -10,7 +10,6 @@ use trace::Header;
 use trace::Read;
 ghost use mathlib.Core.Path.{_≡_};
 ghost use Prim.Native.Nat.{_+_, _≤_, _<_};
-ghost use lib.Dec.{eqb};
 ghost use lib.ListN.{length};
 ghost use Rattle.lists.specs.Words.{all};
 ghost use Rattle.lists.specs.Tab.{tab};

@@ -1,19 +1,18 @@
 -- The bytes of a trace in another version: where each record stands there, what it says, and that the events are behind the last. Assumes nothing.
-use Prim.Native.Nat.{ℕ, zero, suc, _+_, _*_, _-_, _≤_, _<_}
+use Prim.Native.Nat.{ℕ, zero, suc, _+_, _-_, _≤_, _<_}
 use mathlib.Core.Path.{_≡_, refl, sym, ap, _∙_}
-use mathlib.Core.List.{List, [], _∷_, _++_, append-assoc, append-nil}
+use mathlib.Core.List.{List, _∷_, _++_, append-assoc, append-nil}
 use native.Mathlib.Omega.{arith}
 use native.Mathlib.Nat.{add-zero, zero-add}
 use lib.ListN.{length, take, drop, length-append, length-drop, List·getD-append}
-use lib.Seq.{length-take-le, take-append-le, take-at, take-take, drop-at, drop-append-le, drop-drop, getD-take, getD-drop, getD-append-add}
+use lib.Seq.{length-take-le, take-at, drop-at, getD-take, getD-drop, getD-append-add}
 use borrow.Author.Tests.{eq-eqb, ne-eqb}
 use Rattle.lists.specs.Words.{if_then_else_}
-use Rattle.rules.specs.declared.Settings.{Settings}
 use Rattle.trace.specs.Little.{byteAt, twoAt, fourAt}
 use Rattle.trace.specs.Header.{isTwo, body, versionOf, guestsOf, ruleIn, ruleOf, creditAt, settingsAt}
 use Rattle.trace.specs.Answers.{eventBytes}
 use Rattle.trace.proofs.HeaderLaws.{by-version, body-one, body-two, body-grows, record-fits}
-use Rattle.moved.specs.Result.{ruleBytes, creditBytes, headTo, recordTo, recordsTo, movedTo}
+use Rattle.moved.specs.Result.{creditBytes, headTo, recordTo, recordsTo, movedTo}
 
 -- HOW LONG
 

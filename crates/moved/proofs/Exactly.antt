@@ -1,34 +1,32 @@
 -- Each number of a move is given exactly where its condition holds and none before it does, and the event that is named with it is the first of its kind.
 -- Assumes nothing.
-use Prim.Native.Nat.{ℕ, zero, suc, _+_, _*_, _%_, _≤_, _<_}
+use Prim.Native.Nat.{ℕ, zero, suc, _+_, _*_, _<_}
 use mathlib.Core.Path.{_≡_, refl, sym, ap, _∙_, subst}
-use mathlib.Core.Bool.{Bool, true, false, not, _&&_, false≢true, true≢false}
-use mathlib.Core.List.{List, [], _∷_, _++_, List·Memᴰ}
+use mathlib.Core.Bool.{Bool, true, false, not, false≢true, true≢false}
+use mathlib.Core.List.{List, _++_}
 use mathlib.Core.Logic.{_↔_}
 use native.Mathlib.Omega.{arith}
 use lib.Dec.{eqb, ltb}
 use lib.ListN.{length, getD, drop}
 use lib.Seq.{drop-drop}
-use borrow.Author.Tests.{eqb-true, eqb-false, eq-eqb, ne-eqb, ltb-true, ltb-false, lt-ltb, le-ltb, not-true, not-false}
+use borrow.Author.Tests.{eqb-true, eq-eqb, ne-eqb, ltb-true, ltb-false}
 use Rattle.lists.specs.Words.{if_then_else_, all}
 use Rattle.lists.specs.WordsLaws.{both, join, all-each, each-all}
-use Rattle.rules.specs.declared.Settings.{Settings}
-use Rattle.rules.specs.Answers.{numberOf}
-use Rattle.rules.specs.Refusals.{Test, Verdict, accept, refuse, judged, isAccept}
+use Rattle.rules.specs.Refusals.{Test, Verdict, accept, refuse, judged}
 use Rattle.rules.specs.Refused.{Case, RefusedExactly}
-use Rattle.rules.proofs.Judged.{Tested, end, unless, _and_, numberOf-some}
+use Rattle.rules.proofs.Judged.{Tested, end, unless, _and_}
 use Rattle.rules.proofs.Conditions.{less, negated, means}
-use Rattle.rules.proofs.Refused.{Tells, exactly}
+use Rattle.rules.proofs.Refused.{exactly, Numbers, number-tells}
 use Rattle.trace.specs.Little.{byteAt, fourAt, eightAt}
-use Rattle.trace.specs.Header.{versionOf, ruleOf, settingsIn, headerTestsFor}
+use Rattle.trace.specs.Header.{versionOf, ruleOf, settingsIn}
 use Rattle.trace.specs.Event.{kindIn, upperIn, eventFrom, eventOf, eventsOf, whole}
 use Rattle.trace.specs.Answers.{eventBytes, bytesAt}
-use Rattle.trace.specs.Cases.{headerCasesFor, Faulty}
+use Rattle.trace.specs.Cases.{Faulty}
 use Rattle.trace.specs.declared.Read.{Read}
 use Rattle.trace.proofs.HeaderExactly.{header-tested}
 use Rattle.trace.proofs.LineExactly.{faulty-is}
 use Rattle.moved.specs.Result.{movedTo}
-use Rattle.moved.specs.Moves.{isBad, isDear, firstThat, badIn, dearIn, cutIn, creditless, plainlySet, plain, bodyTests, moveTests, eventIn, movedShown, answerBy, answerTo}
+use Rattle.moved.specs.Moves.{isBad, isDear, firstThat, badIn, dearIn, cutIn, creditless, plainlySet, plain, bodyTests, moveTests, movedShown, answerBy, answerTo}
 use Rattle.moved.specs.Cases.{Dear, Sayable, bodyCases, moveCases, FirstEvent}
 use Rattle.moved.proofs.First.{none-tells, none-told}
 
@@ -174,19 +172,13 @@ module _ (bs : List ℕ) where
 abbrev pub refusalIn : List ℕ → ℕ
 refusalIn l = getD l 0 0
 
-move-tells : (v : Verdict) (to : ℕ) (bs : List ℕ) → Tells v (λ n. (0 < n) × (refusalIn (movedShown (answerBy v to bs)) ≡ n)) (refusalIn (movedShown (answerBy v to bs)) ≡ 0)
-move-tells accept to bs = record { number = λ n. (λ p. absurd (omega (arith, p .0, p .1)), λ g. absurd g); accepting = (λ p. refl, λ p. refl) }
-move-tells (refuse r) to bs =
-    record {
-      number = λ n. (λ p. p .1, λ g. (some n g, g));
-      accepting = (λ p. absurd (numberOf-some r p), λ p. absurd (false≢true (ap isAccept p)));
-    }
-  where
-    some : (n : ℕ) → numberOf r ≡ n → 0 < n
-    some zero g = absurd (numberOf-some r g)
-    some (suc n) g = omega arith
+-- the number is the verdict's
+move-number : (v : Verdict) (to : ℕ) (bs : List ℕ) → Numbers v (refusalIn (movedShown (answerBy v to bs)))
+move-number accept to bs = refl
+move-number (refuse r) to bs = refl
 
 -- a refusal number is given exactly where its condition holds and none before it does; a move is accepted exactly where none holds
 pub move-exactly : (from to : ℕ) (bs : List ℕ) (room : ℕ)
     → RefusedExactly (moveCases from to bs room) (λ n. (0 < n) × (refusalIn (movedShown (answerTo from to bs room)) ≡ n)) (refusalIn (movedShown (answerTo from to bs room)) ≡ 0)
-move-exactly from to bs room = exactly (move-tested bs from to room) (move-tells (judged (moveTests from to bs room)) to bs)
+move-exactly from to bs room =
+    exactly (move-tested bs from to room) (number-tells (judged (moveTests from to bs room)) _ (move-number (judged (moveTests from to bs room)) to bs))

@@ -1,26 +1,25 @@
 -- A trace that can be moved, in facts: what its tests say, that no test refuses it, and that its move is one too, in the other version. Assumes nothing.
-use Prim.Native.Nat.{ℕ, zero, suc, _+_, _*_, _%_, _≤_, _<_}
+use Prim.Native.Nat.{ℕ, _%_, _≤_, _<_}
 use mathlib.Core.Path.{_≡_, refl, sym, ap, _∙_, subst}
-use mathlib.Core.Bool.{Bool, true, false, not, _&&_}
-use mathlib.Core.List.{List, [], _∷_, _++_}
+use mathlib.Core.Bool.{true, false, _&&_}
+use mathlib.Core.List.{List}
 use native.Mathlib.Omega.{arith}
 use lib.Dec.{eqb, ltb, leb}
-use lib.ListN.{length, getD, take, drop}
+use lib.ListN.{length, take}
 use borrow.Author.Tests.{eqb-true, eq-eqb, ltb-false, le-ltb, le-leb, leb-true, not-false}
-use Rattle.lists.specs.Words.{if_then_else_, all}
-use Rattle.lists.specs.WordsLaws.{both, join, places-all, all-at}
+use Rattle.lists.specs.Words.{all}
+use Rattle.lists.specs.WordsLaws.{both, join, all-at}
 use Rattle.lists.specs.Tab.{tab, tab-ext, length-tab, getD-tab}
 use Rattle.rules.specs.Tables.{nobodys}
 use Rattle.rules.specs.Numbers.{within}
 use Rattle.rules.specs.Sound.{counted, ruled, settled}
-use Rattle.rules.specs.declared.Settings.{Settings}
-use Rattle.rules.specs.Refusals.{Test, Verdict, accept, judged, isAccept}
-use Rattle.rules.proofs.Judged.{passed, passed-behind}
+use Rattle.rules.specs.Refusals.{accept, judged, isAccept}
+use Rattle.rules.proofs.Judged.{passed, passed-behind, judged-accept}
 use Rattle.rules.proofs.Conditions.{counted-means}
-use Rattle.trace.specs.Header.{mark, same, body, versionOf, depthOf, guestsOf, capacityOf, ruleIn, ruleOf, creditAt, settingsAt, settingsIn, headerTestsFor}
-use Rattle.trace.specs.Event.{eventsOf, whole}
+use Rattle.rules.proofs.Spacings.{zero-is}
+use Rattle.trace.specs.Header.{mark, body, versionOf, depthOf, guestsOf, capacityOf, ruleIn, ruleOf, creditAt, settingsAt, settingsIn, headerTestsFor}
+use Rattle.trace.specs.Event.{whole}
 use Rattle.trace.specs.Answers.{eventBytes, readsOf}
-use Rattle.trace.specs.declared.Read.{Read}
 use Rattle.trace.proofs.HeaderLaws.{same-is, body-least, body-grows}
 use Rattle.moved.specs.Result.{movedTo}
 use Rattle.moved.specs.Moves.{isBad, isDear, firstThat, readsIn, badIn, dearIn, cutIn, creditless, plainlySet, plain, bodyTests, moveTests}
@@ -28,7 +27,6 @@ use Rattle.moved.specs.Judging.{AllBare, Fit}
 use Rattle.moved.proofs.Plain.{all-bare, events-alike}
 use Rattle.moved.proofs.Bytes.{length-moved, same-settings, version-there, guests-there, rule-there, same-events}
 use Rattle.moved.proofs.Returning.{again, itself}
-use Rattle.moved.proofs.Verdicts.{judged-accept}
 
 -- what is so of a trace of version v that can be moved
 pub record Movable (v : ℕ) (bs : List ℕ) : Type 0 where
@@ -42,10 +40,6 @@ pub record Movable (v : ℕ) (bs : List ℕ) : Type 0 where
   pub good : badIn bs ≡ 0
   pub uncut : cutIn bs ≡ 0
   pub cheap : dearIn bs ≡ 0
-
--- a number that does not lie above 0
-zero-of : (n : ℕ) → ltb 0 n ≡ false → n ≡ 0
-zero-of n e = omega (arith, ltb-false 0 n e)
 
 -- A TRACE THAT NO TEST REFUSES is one, and has room
 module _ (from to : ℕ) (bs : List ℕ) (room : ℕ) (e : judged (moveTests from to bs room) ≡ accept) where
@@ -69,8 +63,8 @@ module _ (from to : ℕ) (bs : List ℕ) (room : ℕ) (e : judged (moveTests fro
         fits = ltb-false (length bs) (body (versionOf bs) (guestsOf bs)) (behind-counts 13);
         settings = not-false _ (behind-counts 1);
         credits = set .1;
-        good = zero-of (badIn bs) (no 14);
-        uncut = zero-of (cutIn bs) (no 15);
+        good = zero-is (badIn bs) (no 14);
+        uncut = zero-is (cutIn bs) (no 15);
         cheap = eqb-true (dearIn bs) 0 (says .1);
       }
 

@@ -1,10 +1,10 @@
 -- Parts of a slice as the checker has them, `take (from + n - from) (drop from bs)`, and the few bytes that a put writes. Assumes nothing.
-use Prim.Native.Nat.{ℕ, suc, _+_, _-_, _*_, _≤_, _<_}
-use mathlib.Core.Path.{_≡_, refl, sym, ap, _∙_}
+use Prim.Native.Nat.{ℕ, suc, _+_, _-_, _*_, _≤_}
+use mathlib.Core.Path.{_≡_, sym, ap, _∙_}
 use mathlib.Core.List.{List, [], _∷_}
 use native.Mathlib.Omega.{arith}
 use lib.ListN.{length, take, drop, length-drop}
-use lib.Seq.{length-take-le, drop-cons, take-add}
+use lib.Seq.{length-take-le, drop-cons}
 use Rattle.trace.specs.Little.{byteAt}
 
 -- a part of n bytes

@@ -1,18 +1,18 @@
 -- The bytes come back: a trace is its own move to its own version, and a move behind another is the second alone. Assumes nothing.
-use Prim.Native.Nat.{ℕ, zero, suc, _+_, _*_, _-_, _≤_, _<_}
+use Prim.Native.Nat.{ℕ, zero, suc, _+_, _≤_, _<_}
 use mathlib.Core.Path.{_≡_, refl, sym, ap, _∙_}
-use mathlib.Core.List.{List, [], _∷_, _++_, append-assoc}
+use mathlib.Core.List.{List, _∷_, _++_, append-assoc}
 use native.Mathlib.Omega.{arith}
 use native.Mathlib.Nat.{add-zero, zero-add}
-use lib.ListN.{length, take, drop, length-drop, take-append-drop}
+use lib.ListN.{length, take, drop, take-append-drop}
 use lib.Seq.{drop-cons, drop-drop}
 use borrow.Author.Tests.{eq-eqb, ne-eqb}
 use Rattle.trace.specs.Little.{byteAt, twoAt}
-use Rattle.trace.specs.Header.{mark, body, versionOf, guestsOf, ruleIn, ruleOf, creditAt}
+use Rattle.trace.specs.Header.{mark, body, versionOf, guestsOf, ruleIn, creditAt}
 use Rattle.trace.specs.Answers.{eventBytes}
-use Rattle.trace.proofs.HeaderLaws.{by-version, body-one, body-two, body-grows, body-least, record-fits}
+use Rattle.trace.proofs.HeaderLaws.{by-version, body-one, body-two, body-grows, body-least}
 use Rattle.moved.specs.Result.{ruleBytes, creditBytes, headTo, recordTo, recordsTo, movedTo}
-use Rattle.moved.proofs.Bytes.{records-split, same-twelve, same-events, version-there}
+use Rattle.moved.proofs.Bytes.{same-twelve, same-events, version-there}
 
 -- A MOVE BEHIND A MOVE
 

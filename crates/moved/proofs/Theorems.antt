@@ -1,27 +1,23 @@
 -- THE MOVES: there and back gives the same bytes; a well-formed trace of version 1 goes up; the printed decisions stay; each answer and room is one only, and
 -- room past the result is unchanged. Assumes nothing.
-use Prim.Native.Nat.{ℕ, _+_, _*_, _%_, _≤_, _<_}
-use mathlib.Core.Path.{_≡_, refl, sym, ap, _∙_, subst}
-use mathlib.Core.Bool.{true}
+use Prim.Native.Nat.{ℕ, _+_, _*_, _≤_, _<_}
+use mathlib.Core.Path.{_≡_, refl, sym, ap, _∙_}
 use mathlib.Core.List.{List, [], _∷_, _++_}
 use native.Mathlib.Omega.{arith}
-use lib.ListN.{length, getD, take, drop}
-use lib.Seq.{sets, sets-eq, length-sets, take-append-seam, drop-append-seam}
-use Rattle.rules.specs.Tables.{Table}
-use Rattle.rules.specs.Answers.{numberOf}
+use lib.ListN.{length, getD, drop}
+use lib.Seq.{sets, sets-eq, length-sets, drop-append-seam}
 use Rattle.rules.specs.Refusals.{Verdict, accept, refuse, judged}
 use Rattle.rules.specs.Run.{fresh}
 use Rattle.rules.specs.declared.Answer.{Answer}
-use Rattle.rules.specs.declared.Settings.{Settings}
-use Rattle.rules.proofs.Judged.{numberOf-once, numberOf-some, judged-none}
+use Rattle.rules.proofs.Judged.{numberOf-once, numberOf-some}
 use Rattle.lines.specs.Line.{titleLine}
-use Rattle.trace.specs.Header.{firstVersion, lastVersion, body, versionOf, depthOf, guestsOf, capacityOf, ruleOf, settingsIn, headerTestsFor}
+use Rattle.trace.specs.Header.{firstVersion, lastVersion, depthOf, capacityOf}
 use Rattle.trace.specs.Event.{whole}
 use Rattle.trace.specs.Printed.{answersTo, linesFrom, printed}
-use Rattle.trace.specs.Answers.{eventBytes, opening, cutAnswer, answersOf}
+use Rattle.trace.specs.Answers.{opening, cutAnswer, answersOf}
 use Rattle.trace.proofs.Answers.{printed-lines}
 use Rattle.moved.specs.Result.{movedTo}
-use Rattle.moved.specs.Moves.{readsIn, moveTests, movedShown, answerBy, roomBy, moves}
+use Rattle.moved.specs.Moves.{moveTests, movedShown, answerBy, roomBy, moves}
 use Rattle.moved.specs.declared.Moved.{Moved}
 use Rattle.moved.specs.declared.Moved.the-variants.{Written, Refused}
 use Rattle.moved.proofs.Bytes.{rule-there, same-events}

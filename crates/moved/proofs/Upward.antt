@@ -2,7 +2,7 @@
 use Prim.Native.Nat.{ℕ, _≤_, _<_}
 use mathlib.Core.Path.{_≡_, refl, ap, _∙_, subst}
 use mathlib.Core.Bool.{true}
-use mathlib.Core.List.{List, [], _∷_, _++_, List·Memᴰ}
+use mathlib.Core.List.{List, [], _∷_, _++_}
 use native.Mathlib.Omega.{arith}
 use lib.ListN.{length}
 use borrow.Author.Tests.{eqb-true, leb-true}
@@ -22,7 +22,7 @@ use Rattle.trace.proofs.HeaderLaws.{opened-for}
 use Rattle.trace.proofs.HeaderExactly.{header-tested}
 use Rattle.moved.specs.Result.{movedTo}
 use Rattle.moved.specs.Moves.{creditless, moveTests}
-use Rattle.moved.specs.Cases.{Dear, Sayable, bodyCases, WellFormed}
+use Rattle.moved.specs.Cases.{Sayable, bodyCases, WellFormed}
 use Rattle.moved.proofs.Exactly.{move-tested}
 
 -- no condition of two lists holds

@@ -1,51 +1,31 @@
 -- The verdict on a move, test by test, and what it makes of the answer and the room. Assumes nothing.
-use Prim.Native.Nat.{ℕ, _+_, _*_, _-_, _%_, _≤_, _<_}
+use Prim.Native.Nat.{ℕ, _+_, _-_, _<_}
 use mathlib.Core.Path.{_≡_, refl, sym, ap, _∙_}
-use mathlib.Core.Bool.{Bool, true, false, not, _&&_, false≢true}
-use mathlib.Core.List.{List, [], _∷_, _++_}
+use mathlib.Core.Bool.{Bool, true, false, false≢true}
+use mathlib.Core.List.{List, [], _∷_}
 use native.Mathlib.Omega.{arith}
-use lib.Dec.{eqb, ltb}
+use lib.Dec.{ltb}
 use lib.ListN.{length, getD, take, drop, length-drop}
 use lib.Seq.{take-all}
-use borrow.Author.Tests.{lt-ltb, le-ltb, ltb-true, ltb-false, ne-eqb}
+use borrow.Author.Tests.{lt-ltb, le-ltb, ltb-true, ne-eqb}
 use Rattle.lists.specs.Words.{if_then_else_, all}
 use Rattle.lists.specs.WordsLaws.{both}
 use Rattle.rules.specs.Answers.{numberOf}
 use Rattle.rules.specs.declared.Refusal.{Refusal}
 use Rattle.rules.specs.declared.Refusal.the-variants.{BadEvent, EventCut, NoWayBack, RoomShort}
 use Rattle.rules.specs.Refusals.{Test, Verdict, accept, refuse, judged, isAccept}
-use Rattle.rules.proofs.Judged.{numberOf-some}
+use Rattle.rules.proofs.Judged.{numberOf-some, judged-refuse, judged-accept}
 use Rattle.rules.proofs.Conditions.{counted-means}
-use Rattle.trace.specs.Header.{body, versionOf, guestsOf, headerTestsFor, headerBy, headerFor}
-use Rattle.trace.specs.Event.{whole}
+use Rattle.trace.specs.Header.{body, headerTestsFor, headerBy, headerFor}
 use Rattle.trace.specs.Answers.{eventBytes, readsOf}
 use Rattle.trace.specs.declared.Header.the-variants.{Opened, Refused as Unopened}
 use Rattle.trace.proofs.HeaderLaws.{opened-for}
 use Rattle.moved.specs.Result.{movedTo}
 use Rattle.moved.specs.Moves.{firstThat, isBad, isDear, badIn, dearIn, cutIn, plain, bodyTests, moveTests, eventIn, movedShown, roomFor, answerBy, roomBy}
 use Rattle.moved.specs.Judging.{Surveyed, Headed}
-use Rattle.moved.specs.declared.Moved.{Moved}
 use Rattle.moved.specs.declared.Moved.the-variants.{Written, Refused}
 
 -- TESTS BEHIND TESTS
-
-pub judged-refuse : (xs ys : List Test) (r : Refusal) → judged xs ≡ refuse r → judged (xs ++ ys) ≡ refuse r
-judged-refuse [] ys r e = absurd (false≢true (sym (ap isAccept e)))
-judged-refuse (x ∷ xs) ys r e = go (x .holds) (judged-refuse xs ys r) e
-  where
-    go : (b : Bool) → (judged xs ≡ refuse r → judged (xs ++ ys) ≡ refuse r)
-        → (if b then refuse (x .refusal) else judged xs) ≡ refuse r → (if b then refuse (x .refusal) else judged (xs ++ ys)) ≡ refuse r
-    go true i e = e
-    go false i e = i e
-
-pub judged-accept : (xs ys : List Test) → judged xs ≡ accept → judged (xs ++ ys) ≡ judged ys
-judged-accept [] ys e = refl
-judged-accept (x ∷ xs) ys e = go (x .holds) (judged-accept xs ys) e
-  where
-    go : (b : Bool) → (judged xs ≡ accept → judged (xs ++ ys) ≡ judged ys)
-        → (if b then refuse (x .refusal) else judged xs) ≡ accept → (if b then refuse (x .refusal) else judged (xs ++ ys)) ≡ judged ys
-    go true i e = absurd (false≢true (ap isAccept e))
-    go false i e = i e
 
 -- what is so of the refusals of all tests is so of the one that is given
 of-all : (p : Refusal → Bool) (cs : List Test) → all (λ c. p (c .refusal)) cs ≡ true → (r : Refusal) → judged cs ≡ refuse r → p r ≡ true

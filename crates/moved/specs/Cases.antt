@@ -1,6 +1,6 @@
 -- Which number refuses a move when, in plain facts about the bytes, beside the tests of Moves.antt: a list of cases, as crates/trace/specs/Cases.antt has
 -- them for the lines; and which event is named with it. Words in quotes are K9's.
-use Prim.Native.Nat.{ℕ, _+_, _*_, _%_, _<_}
+use Prim.Native.Nat.{ℕ, _+_, _%_, _<_}
 use mathlib.Core.Path.{_≡_}
 use mathlib.Core.List.{List, [], _∷_, _++_, List·Memᴰ}
 use lib.ListN.{length}
@@ -33,6 +33,7 @@ bodyCases to bs room =
     ∷ record { number = 21; condition = room < length (movedTo to bs) }
     ∷ []
 
+-- the whole list of them: the header's, with one version alone taken, and then these
 abbrev pub moveCases : (from to : ℕ) → List ℕ → (room : ℕ) → List Case
 moveCases from to bs room = headerCasesFor from from bs ++ bodyCases to bs room
 

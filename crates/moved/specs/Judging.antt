@@ -2,13 +2,12 @@
 use Prim.Native.Nat.{ℕ, _+_, _*_, _≤_, _<_}
 use mathlib.Core.Path.{_≡_}
 use mathlib.Core.List.{List}
-use lib.ListN.{length, drop}
+use lib.ListN.{length}
 use Rattle.trace.specs.Little.{byteAt}
 use Rattle.trace.specs.Header.{body, versionOf, guestsOf, ruleOf}
 use Rattle.trace.specs.Event.{kindIn, whole}
 use Rattle.trace.specs.Answers.{eventBytes}
 use Rattle.trace.specs.declared.Read.{Read}
-use Rattle.moved.specs.Result.{movedTo}
 use Rattle.moved.specs.Moves.{isBad, isDear, firstThat}
 
 -- the events were looked at: the first bad one, and where there is none, the first arrival of another cost

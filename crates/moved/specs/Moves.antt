@@ -49,10 +49,11 @@ sooner found here number = if ltb 0 found then found else if here then number el
 abbrev pub readsIn : List ℕ → List Read
 readsIn bs = readsOf (versionOf bs) (eventBytes bs)
 
--- the number of the first bad event, and of the first arrival of another cost
+-- the number of the first bad event
 abbrev pub badIn : List ℕ → ℕ
 badIn bs = firstThat isBad 0 (readsIn bs)
 
+-- the number of the first arrival of another cost than 1
 abbrev pub dearIn : List ℕ → ℕ
 dearIn bs = firstThat isDear 0 (readsIn bs)
 

@@ -6,13 +6,12 @@ use items::kind_in;
 use lines::put;
 use lines::put_all;
 ghost use mathlib.Core.Path.{_≡_};
-ghost use mathlib.Core.List.{List};
 ghost use Prim.Native.Nat.{_+_, _*_, _≤_, _<_};
 ghost use lib.ListN.{length, take, drop};
 ghost use lib.Seq.{sets};
 ghost use Rattle.lines.specs.Put.{Put};
 ghost use Rattle.trace.specs.Little.{byteAt};
-ghost use Rattle.trace.specs.Header.{body as bodyOf, guestsOf};
+ghost use Rattle.trace.specs.Header.{body as bodyOf};
 ghost use Rattle.moved.specs.Result.{headTo, recordTo, recordsTo, movedTo};
 ghost use Rattle.moved.specs.Judging.{Bare, AllBare, Fit};
 

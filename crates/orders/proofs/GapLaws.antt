@@ -1,29 +1,18 @@
 -- The gaps between tags of one kind: none too large, 0 just where the guest lacks the kind, and those of the guests with something waiting in a list. Assumes nothing.
-use Prim.Native.Nat.{ℕ, _+_, _-_, _≤_, _<_}
+use Prim.Native.Nat.{ℕ, _≤_, _<_}
 use mathlib.Core.Path.{_≡_, refl, sym, ap, _∙_}
 use mathlib.Core.Bool.{Bool, true, false}
 use mathlib.Core.List.{List}
 use native.Mathlib.Omega.{arith}
-use native.Mathlib.Nat.{le-div-iff-mul-le}
 use lib.Dec.{eqb}
 use lib.ListN.{length, getD, set, replicate, length-set, length-replicate, getD-replicate}
 use lib.Seq.{getD-set-same, getD-set-other}
 use borrow.Author.Tests.{eqb-true, eqb-false, ne-eqb, le-ltb}
 use Rattle.lists.specs.Words.{if_then_else_}
 use Rattle.rules.specs.Numbers.{second, down, up}
-use Rattle.rules.proofs.Spacings.{down-le, up-le, no-down, no-up}
+use Rattle.rules.proofs.Spacings.{down-le, up-le, no-down, no-up, down-some, up-some}
 use Rattle.table.specs.Columns.{mostGuests}
 use Rattle.entries.specs.Kinds.{gapOf, nearOf, Gaps}
-
--- a setting in range has a spacing
-pub down-some : (n : ℕ) → 0 < n → n ≤ 1000000 → 0 < down n
-unfolding down
-down-some n h l = le-div-iff-mul-le {k = n} {x = 1} {y = second} h .1 (omega arith)
-
--- and so has a limit
-pub up-some : (n : ℕ) → 0 < n → 0 < up n
-unfolding up
-up-some n h = le-div-iff-mul-le {k = n} {x = 1} {y = second + n - 1} h .1 (omega arith)
 
 -- no gap is above a second
 pub gap-low : (kind n : ℕ) → gapOf kind n ≤ second

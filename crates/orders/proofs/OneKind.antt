@@ -15,13 +15,13 @@ use Rattle.rules.specs.Numbers.{second, mostCost, idleBound, down, up}
 use Rattle.rules.specs.Tables.{Request, owner, of, mine}
 use Rattle.rules.specs.declared.Guest.{Guest}
 use Rattle.rules.specs.Sound.{lawful, priced, kept, orderly}
-use Rattle.rules.proofs.Spacings.{no-down, no-up, cost-le}
+use Rattle.rules.proofs.Spacings.{no-down, no-up, cost-le, down-some, up-some}
 use Rattle.table.specs.Columns.{RESERVATION, LIMIT, SHARES, GUEST, COST, RTAG, mostGuests, guestAt, waitingAt}
 use Rattle.table.specs.View.{guestForm, requestForm, guestsOf, waitingOf}
 use Rattle.entries.specs.Kinds.{passes, ends, gapOf, nearOf, gapAt, nextAt, endsAt, keptOf, keptAll, Tested}
 use Rattle.orders.proofs.Chains.{gap, run, run-has, run-lacks}
 use Rattle.orders.proofs.Floors.{whole, Floors, floors-start, floors-fail, floors-next, floors-end}
-use Rattle.orders.proofs.GapLaws.{down-some, up-some, gap-low, gap-none}
+use Rattle.orders.proofs.GapLaws.{gap-low, gap-none}
 use Rattle.orders.proofs.RowFacts.{tagOf, tag-is, owner-is, cost-is, in-range, guest-known, setting-low, cost-low}
 
 -- the order of every guest is that of each kind

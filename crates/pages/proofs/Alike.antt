@@ -3,13 +3,8 @@ use Prim.Native.Nat.{ℕ, _≤_}
 use mathlib.Core.Path.{_≡_, sym, ap, _∙_}
 use mathlib.Core.List.{List}
 use native.Mathlib.Omega.{arith}
-use lib.ListN.{drop}
-use Rattle.rules.specs.declared.Settings.{Settings}
 use Rattle.rules.specs.Refusals.{Verdict, accept, judged}
-use Rattle.trace.specs.Header.{firstVersion, lastVersion, body, versionOf, depthOf, guestsOf, capacityOf, ruleOf, settingsIn, headerBy, headerOf}
-use Rattle.trace.specs.Answers.{readsOf}
-use Rattle.trace.specs.declared.Header.the-variants.{Opened}
-use Rattle.trace.specs.declared.Read.{Read}
+use Rattle.trace.specs.Header.{firstVersion, lastVersion, versionOf, depthOf, guestsOf, capacityOf, ruleOf, settingsIn, headerBy}
 use Rattle.trace.proofs.Runs.{run}
 use Rattle.book.proofs.Balance.{pageFor}
 use Rattle.moved.specs.Result.{movedTo}

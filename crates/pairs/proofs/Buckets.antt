@@ -1,8 +1,7 @@
 -- Earlier requests of one bucket, linked from the latest to the first: what the two arrays hold, and what a walk along a chain has passed.
 -- Assumes nothing.
 use Prim.Native.Nat.{ℕ, zero, suc, _+_, _≤_, _<_}
-use mathlib.Core.Path.{_≡_, refl, sym, ap, _∙_}
-use mathlib.Core.Bool.{Bool, true, false, true≢false}
+use mathlib.Core.Path.{_≡_, sym, ap, _∙_}
 use mathlib.Core.List.{List}
 use mathlib.Core.Logic.{⊎-elim, _⊎_, inl, inr}
 use native.Mathlib.Nat.{not-suc-le-zero, le-of-suc-le-suc, eq-or-lt-of-le}
@@ -11,8 +10,8 @@ use native.Mathlib.Omega.{arith}
 use lib.ListN.{length, getD, set, length-set, replicate, length-replicate, getD-replicate}
 use lib.Seq.{getD-set-same, getD-set-other}
 use lib.Dec.{eqb}
-use borrow.Author.Tests.{eq-eqb, ne-eqb, eqb-true}
-use Rattle.lists.specs.Tab.{lt-or-le}
+use borrow.Author.Tests.{eq-eqb, ne-eqb}
+use Rattle.lists.specs.Tab.{lt-or-le, eq-or-not}
 use Rattle.lists.specs.Lines.{whether}
 use Rattle.table.specs.Columns.{mostDepth, mostCapacity}
 use Rattle.pairs.specs.Names.{bucketOf}
@@ -21,14 +20,6 @@ use Rattle.pairs.specs.Names.{bucketOf}
 unfoldable pub lastBefore : (ℕ → ℕ) → ℕ → ℕ → ℕ
 lastBefore at b zero = zero
 lastBefore at b (suc i) = whether (eqb (at i) b) (suc i) (lastBefore at b i)
-
--- two numbers are equal or not: to go by cases
-eq-or-not : (a b : ℕ) → (a ≡ b) ⊎ (a ≡ b → ⊥)
-eq-or-not a b = go (eqb a b) refl
-  where
-    go : (x : Bool) → eqb a b ≡ x → (a ≡ b) ⊎ (a ≡ b → ⊥)
-    go true e = inl (eqb-true a b e)
-    go false e = inr (λ h. true≢false (sym (eq-eqb a b h) ∙ e))
 
 -- of two different numbers one is below the other
 other : (k j : ℕ) → (k ≡ j → ⊥) → (k < j) ⊎ (j < k)

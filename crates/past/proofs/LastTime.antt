@@ -8,14 +8,13 @@ use mathlib.Core.List.{List, [], _∷_, _++_, map, append-nil, List·Memᴰ, Lis
 use mathlib.Core.Logic.{_↔_, _⊎_, inl, inr, ⊎-elim}
 use Prim.Native.Nat.{ℕ, suc, _+_, _-_, _≤_, _<_, max, min}
 use native.Mathlib.Omega.{arith}
-use native.Mathlib.Nat.{div-lt-iff-lt-mul}
 use lib.Dec.{leb, eqb}
 use lib.ListN.{length, getD, drop, length-append, List·getD-eq-default}
 use borrow.Author.Tests.{leb-true, leb-false, le-leb, ltb-true, lt-ltb, eqb-true, eq-eqb, not-true, not-false}
 use Rattle.lists.specs.Words.{if_then_else_, all, empty}
 use Rattle.lists.specs.WordsLaws.{both, join, all-append, all-map, all-mid, all-at, all-same, all-each}
 use Rattle.lists.specs.Tab.{lt-or-le}
-use Rattle.rules.specs.Numbers.{ceiling, second, down, up, raisedBy}
+use Rattle.rules.specs.Numbers.{ceiling, raisedBy}
 use Rattle.rules.specs.Tables.{Request, Table, reserved, limited, rplain, lplain, splain, nobodys, owner, settingsOf, of, mine, idle, name, names}
 use Rattle.rules.specs.declared.Settings.{Settings}
 use Rattle.rules.specs.declared.Guest.{Guest}
@@ -35,7 +34,7 @@ use Rattle.rules.specs.Arrived.{Idle, Busy, Smallest, Back, Arrived, arrivesAt,
 use Rattle.rules.specs.declared.Answer.{Answer}
 use Rattle.rules.specs.declared.Answer.the-variants.{Nothing, Sent, Refused}
 use Rattle.rules.proofs.Judged.{passed}
-use Rattle.rules.proofs.Spacings.{cost-some}
+use Rattle.rules.proofs.Spacings.{cost-some, down-some, up-some}
 use Rattle.rules.proofs.Conditions.{settled-good}
 use Rattle.rules.proofs.SameSettings.{same-count, same-owner, choice-settings, enter-settings, step-settings}
 use Rattle.rules.proofs.Facts.{Sound, is-sound, lawful-is}
@@ -85,19 +84,6 @@ pub record MayCome (u : Table) (b : Arriving) : Type 0 where
   pub some-rho : 1 ≤ b .rho
   pub new-id : List·Memᴰ (calledBy b) (names u) → ⊥
   pub room-to-wait : length (u .waiting) < u .setup .capacity
-
--- SPACINGS
-
--- a spacing that a guest has is not 0
-down-some : (n : ℕ) → 0 < n → n ≤ 1000000 → 0 < down n
-unfolding down
-down-some n h k =
-    ⊎-elim (λ l. l) (λ l. absurd (omega (arith, div-lt-iff-lt-mul {k = n} {x = second} {y = 1} h .0 (omega arith)))) (lt-or-le 0 (down n))
-
-up-some : (n : ℕ) → 0 < n → 0 < up n
-unfolding up
-up-some n h =
-    ⊎-elim (λ l. l) (λ l. absurd (omega (arith, div-lt-iff-lt-mul {k = n} {x = second + n - 1} {y = 1} h .0 (omega arith)))) (lt-or-le 0 (up n))
 
 -- the settings of a guest of a sound table are good
 good-own : (t : Table) → Sound t → (g : ℕ) → g < length (t .guests) → Good ((owner (t .guests) g) .settings)

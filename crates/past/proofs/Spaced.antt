@@ -8,7 +8,7 @@ use native.Mathlib.Omega.{arith}
 use lib.Dec.{ltb, leb, eqb}
 use lib.ListN.{length}
 use borrow.Author.Tests.{leb-true, le-leb, ltb-true, ltb-false, eqb-true}
-use Rattle.lists.specs.Words.{if_then_else_, all, empty, below}
+use Rattle.lists.specs.Words.{if_then_else_, all, empty}
 use Rattle.lists.specs.WordsLaws.{both, join, below-at, at-below, all-append, all-filter, filter-map, filter-append}
 use Rattle.rules.specs.Tables.{Request, Table, reserved, rplain, rspacing, owner, of, mine, idle, names}
 use Rattle.rules.specs.declared.Settings.{Settings}

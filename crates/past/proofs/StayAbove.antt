@@ -13,7 +13,7 @@ use Rattle.lists.specs.WordsLaws.{all-mid, all-at, all-map}
 use Rattle.rules.specs.declared.Phase.{Phase}
 use Rattle.rules.specs.declared.Refusal.{Refusal}
 use Rattle.rules.specs.declared.Phase.the-variants.{Reservation, Weight}
-use Rattle.rules.specs.declared.Answer.the-variants.{Nothing, Sent, Refused}
+use Rattle.rules.specs.declared.Answer.the-variants.{Sent, Refused}
 use Rattle.rules.specs.Tables.{Request, Table, reserved, rspacing, owner, settingsOf, mine}
 use Rattle.rules.specs.Choice.{Result, nobody, picked, least, dueAt, due, open?, sending, earlier, renewed, dropOf, nextOf, dropped, choice}
 use Rattle.rules.specs.Chosen.{blank, at}
@@ -32,6 +32,7 @@ use Rattle.rules.proofs.ChoiceSound.{sent-known, sent-first}
 use Rattle.rules.proofs.EnterSound.{enter-time, enter-sound}
 use Rattle.past.proofs.Spaced.{Spaced, single-is, single-own, next-drops, enter-spaced, run-spaced}
 use Rattle.rules.proofs.Cases.{choice-by}
+use Rattle.rules.proofs.Answered.{nothing-sent}
 
 -- every reservation tag that waits of guest g, and its next reservation number, are above now
 pub record Above (now g : ℕ) (u : Table) : Type 0 where
@@ -95,11 +96,7 @@ module _ (t : Table) (s : Sound t) (apt : Spaced t) (p : Request) (v : List Requ
 
 -- THE CHOICE
 
--- an answer that sends is not "nothing"
-nothing-sent : {p : Phase} {g i : ℕ} → Nothing ≡ Sent p g i → ⊥
-nothing-sent e = let z : _≡_ {A = ℕ} 0 1 = cc in omega arith
-
--- nor a refusal
+-- an answer that sends is no refusal
 refused-sent : {r : Refusal} {p : Phase} {g i : ℕ} → Refused r ≡ Sent p g i → ⊥
 refused-sent e = let z : _≡_ {A = ℕ} 0 1 = cc in omega arith
 

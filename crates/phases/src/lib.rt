@@ -16,9 +16,10 @@ ghost use Rattle.table.specs.View.{flightsOf};
 ghost use Rattle.arrays.specs.Phases.{phaseNumber, goodPhase, inStep, placeOf, phasesOver};
 ghost use Rattle.arrays.specs.Steps.{nameAt, closed, noted, Placed};
 
-// The numbers of the phases; 0 stands at a place that is not used.
+// The number of a request that was sent by reservation; 0 stands at a place that is not used.
 pub const BY_RESERVATION: u64 = 1;
 
+// The number of one that was sent by weight.
 pub const BY_WEIGHT: u64 = 2;
 
 // The number of a place is good, where a request flies there or not.

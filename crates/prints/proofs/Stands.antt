@@ -1,7 +1,7 @@
 -- What is printed, by what was read and written so far: at the header, over a turn, over a read, and at the end. Assumes nothing.
 use Prim.Native.Nat.{ℕ, _+_, _*_, _≤_, _<_}
 use mathlib.Core.Path.{_≡_, refl, sym, ap, _∙_}
-use mathlib.Core.Bool.{Bool, true, false}
+use mathlib.Core.Bool.{true, false, false≢true}
 use mathlib.Core.List.{List, [], _∷_, _++_, append-assoc, append-nil}
 use mathlib.Core.Logic.{_⊎_, inl, inr, ⊎-elim}
 use native.Mathlib.Omega.{arith}
@@ -67,9 +67,6 @@ opened-stands n bs f v d g c r e later may =
 
 -- A PLACE
 
-differ : _≡_ {A = Bool} false true → ⊥
-differ e = let z : _≡_ {A = ℕ} 0 1 = cc in omega arith
-
 -- where no whole event is left, only the line of a cut one is
 finished-few : (p : Place) → length (p .bytes) < 14 → finished p ≡ cut (p .number) (p .bytes)
 unfolding finished lines left eventsOf answersTo linesFrom
@@ -98,12 +95,12 @@ module _ (t : Tape) (p : Place) (s : Stands t p) where
   pub stands-more : t .ended ≡ false → (k : ℕ) (bs : List ℕ) → Stands (brought (Bytes k) bs t) (more p (take k bs))
   stands-more o k bs later may =
       ap printed (append-assoc (t .read) (take k bs) later)
-      ∙ s (take k bs ++ later) (λ e. absurd (differ (sym o ∙ e)))
+      ∙ s (take k bs ++ later) (λ e. absurd (false≢true (sym o ∙ e)))
       ∙ ap (λ (l : List ℕ). t .wrote ++ finished (record { version = p .version; bytes = l; table = p .table; number = p .number })) (sym (append-assoc (p .bytes) (take k bs) later))
 
   -- or there are no more
   pub stands-none : t .ended ≡ false → (bs : List ℕ) → Stands (brought Nothing bs t) p
-  stands-none o bs later may = s later (λ e. absurd (differ (sym o ∙ e)))
+  stands-none o bs later may = s later (λ e. absurd (false≢true (sym o ∙ e)))
 
   -- at the end the line of a cut event is all that is missing
   pub stands-last : t .ended ≡ true → length (p .bytes) < 14 → Lacks printed (cut (p .number) (p .bytes)) t

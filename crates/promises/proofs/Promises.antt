@@ -51,11 +51,10 @@ use Rattle.table.specs.Columns.{settingsWide}
 use Rattle.gate.specs.Promise.{Lending, numbers, HandedIn, tableIn, seenIn, shortIn, soundIn, unchangedIn, calledIn, settingsIn, openShortIn, unopened, openedIn, opened}
 use Rattle.gate.specs.Needs.{Beyond, Alike, Same}
 use Rattle.gate.specs.Calls.{Host, holds, shows, firm, narrow, finds, call, held, replies, took, freeReplies}
-use Rattle.gate.proofs.Lending.{Lawful}
+use Rattle.gate.proofs.Lending.{Lawful, numbers-lawful}
 use Rattle.gate.proofs.Runs.{Runs}
 use Rattle.records.specs.Promise.{records}
 use Rattle.records.proofs.Lawful.{records-lawful}
-use Rattle.gate.proofs.Lending.{numbers-lawful}
 use Rattle.gate.specs.Replies.{Four, fourOf, never, fifthOf}
 use Rattle.hands.specs.Host.{gateIn, hosted}
 use Rattle.hands.specs.Calls.{Lent, inside, shownBy, through, kept, heldBy, fours, Refuses, Takes, freeFours}

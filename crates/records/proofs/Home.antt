@@ -26,8 +26,7 @@ use Rattle.rules.specs.declared.Refusal.the-variants.{ShortTable, Unsound}
 use Rattle.table.specs.Columns.{guestWide, settingsWide, waitingWide, flightWide, mostGuests}
 use Rattle.rules.specs.Waking.{unsaid}
 use Rattle.table.specs.View.{outcomeOf, guestsOf, waitingOf, flightsOf, countable, identified, zeroed}
-use Rattle.gate.specs.Promise.{numbers, tableIn, HandedIn, handedIn, SeenIn, seenIn, shortIn, soundIn, unchangedIn, followedIn, judgedIn, calledIn}
-use Rattle.gate.specs.Promise.{settingsIn, unopened, openShortIn, openedByIn, openingIn, openedIn}
+use Rattle.gate.specs.Promise.{numbers, tableIn, HandedIn, handedIn, SeenIn, seenIn, shortIn, soundIn, unchangedIn, followedIn, judgedIn, calledIn, settingsIn, unopened, openShortIn, openedByIn, openingIn, openedIn}
 use Rattle.gate.proofs.Lending.{numbers-lawful, uncounted-in, short-refused-in, unsound-refused-in, accepted-open, open-roomy}
 use Rattle.gate.proofs.Beyond.{chosen-sized, fresh-sized}
 use Rattle.packs.specs.Records.{inPart}

@@ -1,7 +1,7 @@
 -- Where the program stands after a turn and after a read, and how it ends there. Assumes nothing.
 use Prim.Native.Nat.{ℕ, _+_, _-_, _≤_, _<_}
 use mathlib.Core.Path.{_≡_, refl, sym, ap, _∙_, subst}
-use mathlib.Core.Bool.{Bool, true, false}
+use mathlib.Core.Bool.{Bool, true, false, false≢true}
 use mathlib.Core.List.{List, [], _++_, append-assoc, append-nil}
 use native.Mathlib.Omega.{arith}
 use lib.ListN.{length, take, length-append}
@@ -19,9 +19,6 @@ use Rattle.pages.specs.Sheet.{figuresLines, Stand, onward, closing, sheetOf}
 use Rattle.pages.specs.Standing.{Listed, standOf, Firm, more, Standing, Closes}
 use Rattle.pages.proofs.Splitting.{closing-onward, closing-few}
 use Rattle.pages.proofs.Fairness.{fair-onward, fair-owing}
-
-differ : _≡_ {A = Bool} false true → ⊥
-differ e = let z : _≡_ {A = ℕ} 0 1 = cc in omega arith
 
 -- nothing is written, which is a beginning of any sheet
 pub unwritten : (t : Tape) → t .wrote ≡ [] → Right sheetOf t
@@ -75,7 +72,7 @@ module _ (n m : ℕ) (s : Stand) (w : Moved) (bs : List ℕ) (g : Goes (brought 
         wrote = a .wrote;
         stands = λ later may.
             ap sheetOf (append-assoc (a .tape .read) (take k bs) later)
-            ∙ a .stands (take k bs ++ later) (λ x. absurd (differ (sym (a .mark) ∙ x)))
+            ∙ a .stands (take k bs ++ later) (λ x. absurd (false≢true (sym (a .mark) ∙ x)))
             ∙ ap (λ (l : List ℕ). closing (record { version = s .version; bytes = l; page = s .page })) (sym (append-assoc (s .bytes) (take k bs) later));
         fair = a .fair;
       }
@@ -88,7 +85,7 @@ module _ (n m : ℕ) (s : Stand) (w : Moved) (bs : List ℕ) (g : Goes (brought 
         held = subst (λ (x : Moved). Holds m (brought x bs (a .tape))) e (g (a .tape) (a .held));
         mark = refl;
         wrote = a .wrote;
-        stands = λ later may. a .stands later (λ x. absurd (differ (sym (a .mark) ∙ x)));
+        stands = λ later may. a .stands later (λ x. absurd (false≢true (sym (a .mark) ∙ x)));
         fair = a .fair;
       }
 

@@ -18,6 +18,7 @@ use Rattle.rules.specs.Run.{decided, step}
 use Rattle.rules.specs.declared.Phase.the-variants.{Reservation, Weight}
 use Rattle.rules.specs.declared.Answer.{Answer}
 use Rattle.rules.specs.declared.Answer.the-variants.{Nothing, Sent, Refused}
+use Rattle.rules.specs.declared.Phase.{Phase}
 use Rattle.rules.proofs.Trials.{X}
 use Rattle.rules.proofs.Refused.{Tells, exactly, call-tested}
 use Rattle.rules.proofs.Cases.{choice-by}
@@ -35,6 +36,10 @@ no-number Nothing t n h = omega (arith, ap Printed.letter h)
 no-number (Sent Reservation g i) t n h = omega (arith, ap Printed.letter h)
 no-number (Sent Weight g i) t n h = omega (arith, ap Printed.letter h)
 no-number (Refused r) t n h = false≢true t
+
+-- an answer that sends is not "nothing"
+pub nothing-sent : {p : Phase} {g i : ℕ} → Nothing ≡ Sent p g i → ⊥
+nothing-sent e = let z : _≡_ {A = ℕ} 0 1 = cc in omega arith
 
 -- then what is shown of it tells the verdict
 pub shown-tells : (v : Verdict) (a : Answer) → Follows v a → Tells v (λ n. shown a ≡ X n) (taken a ≡ true)

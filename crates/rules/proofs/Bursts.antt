@@ -1,7 +1,7 @@
 -- Readings of document 02, K6, as one table under a single statement: what a credit gives, where it ends, and who does not read it.
 -- Words in quotes are K6's. Assumes nothing.
 use mathlib.Core.Path.{_≡_, refl}
-use mathlib.Core.Bool.{Bool, true, false}
+use mathlib.Core.Bool.{true, false}
 use mathlib.Core.List.{List, [], _∷_, map}
 use Prim.Native.Nat.{ℕ}
 use Rattle.rules.specs.Numbers.{ceiling}

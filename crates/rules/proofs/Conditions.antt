@@ -2,7 +2,7 @@
 use mathlib.Core.Path.{_≡_, refl, sym, ap, _∙_}
 use mathlib.Core.Bool.{Bool, true, false, not, _&&_, _||_, true≢false, false≢true, or-true}
 use mathlib.Core.List.{List, List·Memᴰ, Memᴰ·cast}
-use mathlib.Core.Logic.{_↔_, inl, inr, ⊎-elim}
+use mathlib.Core.Logic.{_↔_, _⊎_, inl, inr, ⊎-elim}
 use Prim.Native.Nat.{ℕ, _+_, _-_, _≤_, _<_}
 use lib.Dec.{ltb, leb, eqb}
 use borrow.Author.Tests.{ltb-true, ltb-false, lt-ltb, le-ltb, leb-true, leb-false, le-leb, lt-leb, eqb-true, eqb-false, eq-eqb, ne-eqb, not-true, not-false}
@@ -36,6 +36,15 @@ means-not : {b : Bool} {P : Type 0} → (b ≡ false) ↔ P → Means b (P → �
 means-not {b = true} h = record { holds = (λ e p. true≢false (h .1 p), λ n. refl); fails = h }
 means-not {b = false} h = record { holds = (λ e. absurd (false≢true e), λ n. absurd (n (h .0 refl))); fails = h }
 
+-- both of two conditions hold
+pub both-mean : {a b : Bool} {P Q : Type 0} → (a ≡ true) ↔ P → (b ≡ true) ↔ Q → (a && b ≡ true) ↔ (P × Q)
+both-mean {a} {b} f g = (λ h. (f .0 (both a b h .0), g .0 (both a b h .1)), λ p. join (f .1 (p .0)) (g .1 (p .1)))
+
+-- one of two holds
+pub either-means : {a b : Bool} {P Q : Type 0} → (a ≡ true) ↔ P → (b ≡ true) ↔ Q → (a || b ≡ true) ↔ (P ⊎ Q)
+either-means {a = true} f g = (λ e. inl (f .0 refl), λ p. refl)
+either-means {a = false} f g = (λ e. inr (g .0 e), λ p. ⊎-elim (λ q. absurd (false≢true (f .1 q))) (λ q. g .1 q) p)
+
 -- NUMBERS
 
 pub at-most : (a b : ℕ) → Means (leb a b) (a ≤ b) (b < a)
@@ -54,7 +63,8 @@ same-is a b h =
     let p = both (eqb (a .guest) (b .guest)) (eqb (a .id) (b .id)) h in
     λ i. record { guest = eqb-true (a .guest) (b .guest) (p .0) i; id = eqb-true (a .id) (b .id) (p .1) i }
 
-is-same : (a b : Flight) → a ≡ b → same a b ≡ true
+-- and equal names have the same guest and id
+pub is-same : (a b : Flight) → a ≡ b → same a b ≡ true
 is-same a b e = join (eq-eqb (a .guest) (b .guest) (ap Flight.guest e)) (eq-eqb (a .id) (b .id) (ap Flight.id e))
 
 -- no entry of a list has a name, or one has it
@@ -121,9 +131,8 @@ passing-means idle now a t fine = means (to idle, back idle)
 -- SETTINGS
 
 -- a number in a range
-within-means : (a b n : ℕ) → (within a b n ≡ true) ↔ ((a ≤ n) × (n ≤ b))
-within-means a b n =
-    (λ h. let p = both (leb a n) (leb n b) h in (leb-true a n (p .0), leb-true n b (p .1)), λ p. join (le-leb a n (p .0)) (le-leb n b (p .1)))
+pub within-means : (a b n : ℕ) → (within a b n ≡ true) ↔ ((a ≤ n) × (n ≤ b))
+within-means a b n = both-mean (at-most a n .holds) (at-most n b .holds)
 
 -- depth, guests and capacity in their ranges
 pub counted-means : (d n c : ℕ) → Means (counted d n c) (Countable d n c) (Countable d n c → ⊥)

@@ -1,7 +1,6 @@
 -- Readings of document 02, K8: what a cost does to tags, next numbers, the drop and soundness, and when it is refused. Words in quotes are K8's.
 -- Assumes nothing.
 use mathlib.Core.Path.{_≡_}
-use mathlib.Core.Bool.{true, false}
 use mathlib.Core.List.{List, [], _∷_, map}
 use Prim.Native.Nat.{ℕ}
 use Rattle.rules.specs.Tables.{Guest, Request, Table}

@@ -1,9 +1,9 @@
 -- Document 02, K6, in plain facts: how far back a share tag may lie, where it may not, and that credit 0 is the rule of K3. Words in quotes are K6's.
 -- Assumes nothing.
-use mathlib.Core.Path.{_≡_, refl, sym, ap, _∙_}
+use mathlib.Core.Path.{_≡_, sym, ap, _∙_}
 use mathlib.Core.Bool.{Bool, true, false}
 use mathlib.Core.Logic.{⊎-elim}
-use Prim.Native.Nat.{ℕ, _+_, _*_, _≤_}
+use Prim.Native.Nat.{ℕ, _*_, _≤_}
 use native.Mathlib.Omega.{arith}
 use native.Mathlib.Nat.{zero-mul, mul-le-mul-left, mul-le-mul-right}
 use Rattle.lists.specs.Words.{if_then_else_}

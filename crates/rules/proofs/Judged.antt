@@ -2,7 +2,7 @@
 -- first case whose condition holds. Facts of a list that is accepted are read by their numbers. Assumes nothing.
 use mathlib.Core.Path.{_≡_, refl, sym, ap, _∙_}
 use mathlib.Core.Bool.{Bool, true, false, false≢true}
-use mathlib.Core.List.{List, [], _∷_, map, List·Memᴰ, List·Memᴰ·head, List·Memᴰ·tail}
+use mathlib.Core.List.{List, [], _∷_, _++_, map, List·Memᴰ, List·Memᴰ·head, List·Memᴰ·tail}
 use mathlib.Core.Logic.{_↔_, inl, inr, ⊎-elim}
 use Prim.Native.Nat.{ℕ}
 use native.Mathlib.Omega.{arith}
@@ -109,6 +109,26 @@ passed-behind cs h m n = passed (behind m cs) (still cs h) n
         go false e k =
             let here : isAccept (judged cs) ≡ true = rw e at h in
             elim (eqb (numberOf (c .refusal)) m) as (λ b. isAccept (judged (if b then cs else behind m cs)) ≡ true) [ true ↦ here | false ↦ k here ]
+
+-- of two lists of tests, one behind the other: what the first refuses is refused
+pub judged-refuse : (xs ys : List Test) (r : Refusal) → judged xs ≡ refuse r → judged (xs ++ ys) ≡ refuse r
+judged-refuse [] ys r e = absurd (false≢true (sym (ap isAccept e)))
+judged-refuse (x ∷ xs) ys r e = go (x .holds) (judged-refuse xs ys r) e
+  where
+    go : (b : Bool) → (judged xs ≡ refuse r → judged (xs ++ ys) ≡ refuse r)
+        → (if b then refuse (x .refusal) else judged xs) ≡ refuse r → (if b then refuse (x .refusal) else judged (xs ++ ys)) ≡ refuse r
+    go true i e = e
+    go false i e = i e
+
+-- what it accepts is left to the second
+pub judged-accept : (xs ys : List Test) → judged xs ≡ accept → judged (xs ++ ys) ≡ judged ys
+judged-accept [] ys e = refl
+judged-accept (x ∷ xs) ys e = go (x .holds) (judged-accept xs ys) e
+  where
+    go : (b : Bool) → (judged xs ≡ accept → judged (xs ++ ys) ≡ judged ys)
+        → (if b then refuse (x .refusal) else judged xs) ≡ accept → (if b then refuse (x .refusal) else judged (xs ++ ys)) ≡ judged ys
+    go true i e = absurd (false≢true (ap isAccept e))
+    go false i e = i e
 
 -- A LIST OF TESTS AND A LIST OF CASES
 

@@ -1,18 +1,20 @@
 -- Each refusal number is given exactly where its condition holds and none before it does: of each call, the test that computes each condition, in
 -- the order of its list. Assumes nothing.
-use mathlib.Core.Path.{_≡_, refl}
-use mathlib.Core.Bool.{Bool, true, false}
+use mathlib.Core.Path.{_≡_, refl, sym, ap, _∙_}
+use mathlib.Core.Bool.{Bool, true, false, false≢true}
 use mathlib.Core.List.{List, [], _∷_}
 use mathlib.Core.Logic.{_↔_, Iff·rfl, Iff·trans}
-use Prim.Native.Nat.{ℕ}
+use Prim.Native.Nat.{ℕ, zero, suc, _<_}
+use native.Mathlib.Omega.{arith}
 use lib.ListN.{length}
 use Rattle.rules.specs.Numbers.{ceiling}
 use Rattle.rules.specs.Tables.{Settings, Flight, Table, idle, names}
 use Rattle.rules.specs.Sound.{sound}
 use Rattle.rules.specs.Events.{Arriving, Event, Arrival, Completion, Tick, calledBy}
-use Rattle.rules.specs.Refusals.{Test, Verdict, accept, judged, timeTests, guestTests, eventTests, tests, openTests}
+use Rattle.rules.specs.Refusals.{Test, Verdict, accept, refuse, judged, isAccept, timeTests, guestTests, eventTests, tests, openTests}
 use Rattle.rules.specs.Refused.{Case, RefusedExactly, timeCases, guestCases, eventCases, callCases, openCases}
-use Rattle.rules.proofs.Judged.{Gives, numbers, Tested, end, unless, _and_, judged-first, judged-none}
+use Rattle.rules.specs.Answers.{numberOf}
+use Rattle.rules.proofs.Judged.{numberOf-some, Gives, numbers, Tested, end, unless, _and_, judged-first, judged-none}
 use Rattle.rules.proofs.Facts.{sound-is}
 use Rattle.rules.proofs.Conditions.{at-most, less, equal, negated, lacking, passing-means, counted-means, ruled-means, settled-means, fair-means, spread-means}
 
@@ -25,6 +27,24 @@ pub record Tells (v : Verdict) (gives : ℕ → Type 0) (accepts : Type 0) : Typ
 pub exactly : {cs : List Test} {ks : List Case} {gives : ℕ → Type 0} {accepts : Type 0}
     → Tested cs ks → Tells (judged cs) gives accepts → RefusedExactly ks gives accepts
 exactly h tells = record { number = λ n. Iff·trans (tells .number n) (judged-first h n); no-number = Iff·trans (tells .accepting) (judged-none h) }
+
+-- a number that is the refusal's, and 0 where there is none
+abbrev pub Numbers : Verdict → ℕ → Type 0
+Numbers accept x = x ≡ 0
+Numbers (refuse r) x = x ≡ numberOf r
+
+-- tells the verdict
+pub number-tells : (v : Verdict) (x : ℕ) → Numbers v x → Tells v (λ n. (0 < n) × (x ≡ n)) (x ≡ 0)
+number-tells accept x e = record { number = λ n. (λ p. absurd (omega (arith, p .0, p .1)), λ g. absurd g); accepting = (λ p. refl, λ p. e) }
+number-tells (refuse r) x e =
+    record {
+      number = λ n. (λ p. sym e ∙ p .1, λ g. (some n g, e ∙ g));
+      accepting = (λ p. absurd (numberOf-some r (sym e ∙ p)), λ p. absurd (false≢true (ap isAccept p)));
+    }
+  where
+    some : (n : ℕ) → numberOf r ≡ n → 0 < n
+    some zero g = absurd (numberOf-some r g)
+    some (suc n) g = omega arith
 
 -- THE TESTS OF EACH CALL
 

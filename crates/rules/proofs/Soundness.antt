@@ -17,6 +17,7 @@ use Rattle.rules.specs.Refused.{Countable, Ruled, Good, Fair}
 use Rattle.rules.specs.Chosen.{blank, at}
 use Rattle.rules.proofs.Facts.{Sound, sound-is, is-sound, Orderly, orderly-is, is-orderly, lawful-is, is-lawful}
 use Rattle.rules.proofs.Conditions.{counted-means, ruled-means, settled-means, fair-means, lacking}
+use Rattle.rules.proofs.Chains.{apart-tail}
 
 -- one kind of tag of what waits of a guest, l, and its next number: the guest has this kind, or lacks it
 pub record Kept (has : Bool) (tag gap spacing : Request → ℕ) (l : List Request) (next : ℕ) : Type 0 where
@@ -72,16 +73,11 @@ module _ (tag gap spacing : Request → ℕ) where
       let c = both (leb (tag q + gap q) (tag p)) (apart tag gap (p ∷ l)) a in
       omega (arith, leb-true (tag q + gap q) (tag p) (c .0), later p l (c .1) j (omega arith))
 
-  -- without its first a list is still apart
-  rest : (q : Request) (l : List Request) → apart tag gap (q ∷ l) ≡ true → apart tag gap l ≡ true
-  rest q [] a = refl
-  rest q (p ∷ l) a = both (leb (tag q + gap q) (tag p)) (apart tag gap (p ∷ l)) a .1
-
   apart-is : (l : List Request) → apart tag gap l ≡ true → (i j : ℕ) → i < j → j < length l → tag (at l i) + gap (at l i) ≤ tag (at l j)
   apart-is [] a i j h k = omega arith
   apart-is (q ∷ l) a i zero h k = omega arith
   apart-is (q ∷ l) a zero (suc j) h k = later q l a j (omega arith)
-  apart-is (q ∷ l) a (suc i) (suc j) h k = apart-is l (rest q l a) i j (omega arith) (omega arith)
+  apart-is (q ∷ l) a (suc i) (suc j) h k = apart-is l (apart-tail tag gap spacing q l a) i j (omega arith) (omega arith)
 
   is-apart : (l : List Request) → ((i j : ℕ) → i < j → j < length l → tag (at l i) + gap (at l i) ≤ tag (at l j)) → apart tag gap l ≡ true
   is-apart [] s = refl

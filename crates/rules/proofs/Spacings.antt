@@ -3,7 +3,7 @@ use mathlib.Core.Path.{_≡_}
 use mathlib.Core.Bool.{true, false}
 use Prim.Native.Nat.{ℕ, zero, suc, _≤_, _<_, _+_, _-_, _*_}
 use native.Mathlib.Omega.{arith}
-use native.Mathlib.Nat.{div-le-self, div-lt-iff-lt-mul, mul-le-mul, mul-zero}
+use native.Mathlib.Nat.{div-le-self, le-div-iff-mul-le, div-lt-iff-lt-mul, mul-le-mul, mul-zero}
 use lib.Dec.{ltb, leb}
 use borrow.Author.Tests.{ltb-false, leb-true}
 use Rattle.lists.specs.WordsLaws.{both}
@@ -22,8 +22,18 @@ up-le zero = omega arith
 up-le (suc n) = omega (arith, div-lt-iff-lt-mul {k = suc n} {x = second + suc n - 1} {y = suc second} (omega arith) .1 (omega arith))
 
 -- what is not above 0 is 0
-zero-is : (n : ℕ) → ltb 0 n ≡ false → n ≡ 0
+pub zero-is : (n : ℕ) → ltb 0 n ≡ false → n ≡ 0
 zero-is n e = omega (arith, ltb-false 0 n e)
+
+-- a spacing that a guest has is not 0
+pub down-some : (n : ℕ) → 0 < n → n ≤ 1000000 → 0 < down n
+unfolding down
+down-some n h l = le-div-iff-mul-le {k = n} {x = 1} {y = second} h .1 (omega arith)
+
+-- and neither is the one rounded up
+pub up-some : (n : ℕ) → 0 < n → 0 < up n
+unfolding up
+up-some n h = le-div-iff-mul-le {k = n} {x = 1} {y = second + n - 1} h .1 (omega arith)
 
 -- a spacing that a guest lacks is 0
 pub no-down : (n : ℕ) → ltb 0 n ≡ false → down n ≡ 0

@@ -1,6 +1,6 @@
 -- Document 02, K2: "With each accepted event we want the earliest time, now or later, at which a tick alone would send something, or a plain none
 -- when no place is free or nothing waits." Words in quotes are K2's. What it is in plain facts is in Woken.antt.
-use mathlib.Core.Bool.{Bool, true, false, not, _&&_}
+use mathlib.Core.Bool.{not, _&&_}
 use mathlib.Core.List.{List, [], _∷_, map}
 use Prim.Native.Nat.{ℕ, max, min}
 use lib.Dec.{eqb}

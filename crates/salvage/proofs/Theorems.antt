@@ -12,13 +12,12 @@ use Rattle.lists.specs.WordsLaws.{both, neither}
 use Rattle.lists.specs.Tab.{tab}
 use Rattle.rules.specs.Refusals.{Verdict, accept, refuse, judged, isAccept}
 use Rattle.rules.specs.Refused.{NoneHolds}
-use Rattle.rules.proofs.Judged.{numberOf-once, numberOf-some, judged-none, passed}
+use Rattle.rules.proofs.Judged.{numberOf-once, numberOf-some, judged-none, passed, judged-accept}
 use Rattle.trace.specs.Header.{firstVersion, lastVersion, body, versionOf, guestsOf, headerTestsFor, headerTests}
 use Rattle.trace.specs.Answers.{eventBytes}
 use Rattle.trace.specs.Cases.{headerCases}
 use Rattle.trace.proofs.HeaderExactly.{header-tested, header-good}
 use Rattle.moved.specs.Cases.{WellFormed}
-use Rattle.moved.proofs.Verdicts.{judged-accept}
 use Rattle.salvage.specs.Result.{keptOf, rowsOf, eventCount, keptIn, rowsIn, salvaged, flat, listOf}
 use Rattle.salvage.specs.Salvages.{roomTests, salvageTests, salvagedShown, leavesBy, salvages}
 use Rattle.salvage.specs.Cases.{eventsIn, reasonAt, pieces, dropCases, Clean, Untouched, InOrder}

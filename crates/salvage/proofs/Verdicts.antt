@@ -9,12 +9,12 @@ use borrow.Author.Tests.{lt-ltb, le-ltb, not-false}
 use Rattle.rules.specs.Refusals.{accept, refuse, judged, isAccept}
 use Rattle.rules.specs.declared.Refusal.{Refusal}
 use Rattle.rules.specs.declared.Refusal.the-variants.{RoomShort}
-use Rattle.rules.proofs.Judged.{passed}
+use Rattle.rules.proofs.Judged.{passed, judged-refuse, judged-accept}
 use Rattle.rules.proofs.Conditions.{counted-means}
 use Rattle.trace.specs.Header.{mark, firstVersion, lastVersion, body, headerTestsFor, headerTests, headerOf}
 use Rattle.trace.specs.declared.Header.the-variants.{Opened, Refused as Unopened}
 use Rattle.trace.proofs.HeaderLaws.{same-is, body-least, opened}
-use Rattle.moved.proofs.Verdicts.{judged-refuse, judged-accept, header-verdict, header-accepts}
+use Rattle.moved.proofs.Verdicts.{header-verdict, header-accepts}
 use Rattle.salvage.specs.Result.{salvaged, listOf}
 use Rattle.salvage.specs.Salvages.{roomTests, salvageTests}
 use Rattle.salvage.specs.Judging.{Begun}

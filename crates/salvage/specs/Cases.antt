@@ -70,15 +70,17 @@ Clean bs = (k : ℕ) → k < eventsIn bs → NoneHolds (dropCases (λ i. 0) bs k
 unfoldable pub roomCases : List ℕ → (room list : ℕ) → List Case
 roomCases bs room list = record { number = 21; condition = (room < length (salvaged bs)) ⊎ (list < length (listOf bs)) } ∷ []
 
+-- the whole list of them: the header's, and then this
 abbrev pub salvageCases : List ℕ → (room list : ℕ) → List Case
 salvageCases bs room list = headerCases bs ++ roomCases bs room list
 
 -- WHAT IS LEFT of the answer, the room and the list
 
--- the bytes and the rows that an answer says are written
+-- the bytes that an answer says are written
 abbrev pub bytesWritten : List ℕ × List ℕ × List ℕ → ℕ
 bytesWritten x = getD (x .0) 1 0
 
+-- the rows that it says are written
 abbrev pub rowsWritten : List ℕ × List ℕ × List ℕ → ℕ
 rowsWritten x = getD (x .0) 2 0
 

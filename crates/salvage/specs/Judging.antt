@@ -8,20 +8,22 @@ use Rattle.salvage.specs.Result.{keptOf, rowsOf, eventCount, salvaged, l
 use Rattle.salvage.specs.declared.Fate.{Fate}
 use Rattle.salvage.specs.declared.Fate.the-variants.{Kept, Dropped}
 
--- how many bytes a kept event has, and how many rows a dropped one
+-- how many bytes of the result an event has: none where it is dropped
 abbrev pub bytesFor : Fate → ℕ
 bytesFor (Kept t) = 14
 bytesFor (Dropped r) = 0
 
+-- how many rows of the list it has: one where it is dropped
 abbrev pub rowsFor : Fate → ℕ
 rowsFor (Kept t) = 0
 rowsFor (Dropped r) = 1
 
--- what has to be so where an event is kept, and where it is dropped
+-- what has to be so where an event is kept
 abbrev pub IfKept : Fate → Type 0 → Type 0
 IfKept (Kept t) P = P
 IfKept (Dropped r) P = Unit {0}
 
+-- what has to be so where it is dropped
 abbrev pub IfDropped : Fate → Type 0 → Type 0
 IfDropped (Kept t) P = Unit {0}
 IfDropped (Dropped r) P = P

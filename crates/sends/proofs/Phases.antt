@@ -25,7 +25,7 @@ use Rattle.rules.specs.declared.Gate.{Gate}
 use Rattle.table.specs.Columns.{guestWide, waitingWide, flightWide, mostGuests, mostCapacity, mostDepth, RESERVATION, guestAt}
 use Rattle.table.specs.View.{guestForm, requestForm, guestsOf, tableOf, Known}
 use Rattle.walks.specs.LeastLaws.{least-ext, open-by-tag}
-use Rattle.moves.specs.Moves.{Lawful, Unreserved}
+use Rattle.moves.specs.Moves.{Lawful, Unreserved, gone}
 use Rattle.walks.specs.Walks.{Picks, Owned, Rising, SharesFit}
 use Rattle.walks.specs.declared.Found.{Found}
 use Rattle.table.proofs.Facts.{Facts, facts, rows-ask, row-is, guest-is}
@@ -33,7 +33,7 @@ use Rattle.sends.specs.Firsts.{FirstOf}
 use Rattle.sends.proofs.Rising.{rising-rows}
 use Rattle.sends.proofs.Firsts.{first-goes}
 use Rattle.sends.proofs.Sends.{goes, stay, goesGuest, goesCost, guest-goes, cost-goes, length-stay}
-use Rattle.sends.proofs.WeightSend.{left, left-rows, left-room}
+use Rattle.sends.proofs.WeightSend.{left-rows, left-room}
 
 module _ (g : Gate) (gs ws fs : List ℕ) (k : Known g gs ws fs) where
   abbrev t : Table
@@ -115,23 +115,23 @@ module _ (g : Gate) (gs ws fs : List ℕ) (k : Known g gs ws fs) where
     sent-asks = (omega arith, free, f .counts .depths .1)
 
     abbrev n : ℕ
-    n = goesGuest g gs ws fs k free place here
+    n = goesGuest ws place
 
     abbrev c : ℕ
-    c = goesCost g gs ws fs k free place here
+    c = goesCost ws place
 
     abbrev ws1 : List ℕ
-    ws1 = left g gs ws fs k free place here
+    ws1 = gone place (g .waiting) ws
 
     -- its cost is in range
     cost-most : c ≤ mostCost
     cost-most =
-        let q = goes g gs ws fs k free place here in
+        let q = goes t place in
         let fits = fair-is (q .cost) (all-at priced (t .waiting) blank (f .firm .costs-fit) place (omega (arith, length-rows requestForm ws (g .waiting)))) in
         omega (arith, fits .1, cost-goes g gs ws fs k free place here)
 
     -- the rows that stay, as their numbers
-    row-stays : (j : ℕ) → j < g .waiting - 1 → (j < length (stay g gs ws fs k free place here)) × (at (stay g gs ws fs k free place here) j ≡ requestForm .read (lineAt waitingWide ws1 j))
+    row-stays : (j : ℕ) → j < g .waiting - 1 → (j < length (stay t place)) × (at (stay t place) j ≡ requestForm .read (lineAt waitingWide ws1 j))
     row-stays j l = (
       omega (arith, length-stay g gs ws fs k free place here),
       ap (λ (x : List Request). at x j) (sym (left-rows g gs ws fs k free place here)) ∙ row-at requestForm ws1 (g .waiting - 1) j l,
@@ -139,10 +139,10 @@ module _ (g : Gate) (gs ws fs : List ℕ) (k : Known g gs ws fs) where
 
     module _ (h : FirstOf (t .waiting) place) where
       abbrev q : Request
-      q = goes g gs ws fs k free place here
+      q = goes t place
 
       abbrev v : List Request
-      v = stay g gs ws fs k free place here
+      v = stay t place
 
       -- it may go
       first : Goes t q v

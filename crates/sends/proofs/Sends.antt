@@ -25,6 +25,26 @@ use Rattle.walks.specs.declared.Found.the-variants.{At, Nothing as NoPlace}
 use Rattle.table.specs.Does.{written, Leaves, weightPhase, reservationPhase, sentGate}
 use Rattle.table.proofs.Facts.{facts, row-is}
 
+-- the request at a place, which goes
+abbrev pub goes : Table → ℕ → Request
+goes t place = at (t .waiting) place
+
+-- and those that stay
+abbrev pub stay : Table → ℕ → List Request
+stay t place = removeAt place (t .waiting)
+
+-- its guest, as a number
+abbrev pub goesGuest : List ℕ → ℕ → ℕ
+goesGuest ws place = getD ws (place * waitingWide + GUEST) 0
+
+-- its id
+abbrev pub goesId : List ℕ → ℕ → ℕ
+goesId ws place = getD ws (place * waitingWide + ID) 0
+
+-- and its cost
+abbrev pub goesCost : List ℕ → ℕ → ℕ
+goesCost ws place = getD ws (place * waitingWide + COST) 0
+
 module _ (g : Gate) (gs ws fs : List ℕ) (k : Known g gs ws fs) where
   abbrev t : Table
   t = tableOf g gs ws fs
@@ -56,48 +76,32 @@ module _ (g : Gate) (gs ws fs : List ℕ) (k : Known g gs ws fs) where
       (q, omega (arith, q .inside, length-rows requestForm ws (g .waiting)))
 
   module _ (free : g .flight < g .setup .depth) (place : ℕ) (here : place < g .waiting) where
-    -- the request that goes, and those that stay
-    abbrev pub goes : Request
-    goes = at (t .waiting) place
-
-    abbrev pub stay : List Request
-    stay = removeAt place (t .waiting)
-
-    -- its guest, its id and its cost, as numbers
-    abbrev pub goesGuest : ℕ
-    goesGuest = getD ws (place * waitingWide + GUEST) 0
-
-    abbrev pub goesId : ℕ
-    goesId = getD ws (place * waitingWide + ID) 0
-
-    abbrev pub goesCost : ℕ
-    goesCost = getD ws (place * waitingWide + COST) 0
-
-    pub guest-goes : goes .guest ≡ goesGuest
+    -- the numbers are the request's
+    pub guest-goes : (goes t place) .guest ≡ goesGuest ws place
     guest-goes = ap Request.guest (row-is g gs ws fs k place here)
 
-    pub id-goes : goes .id ≡ goesId
+    pub id-goes : (goes t place) .id ≡ goesId ws place
     id-goes = ap Request.id (row-is g gs ws fs k place here)
 
-    pub cost-goes : goes .cost ≡ goesCost
+    pub cost-goes : (goes t place) .cost ≡ goesCost ws place
     cost-goes = ap Request.cost (row-is g gs ws fs k place here)
 
-    pub length-stay : length stay ≡ g .waiting - 1
+    pub length-stay : length (stay t place) ≡ g .waiting - 1
     length-stay =
         length-removeAt place (t .waiting) (omega (arith, length-rows requestForm ws (g .waiting))) ∙ ap (λ (m : ℕ). m - 1) (length-rows requestForm ws (g .waiting))
 
     -- the numbers once it has gone show the table that it is sent from
-    pub sent-written : (sentGate g, gs, gone place (g .waiting) ws, joined place (g .flight) ws fs) ≡ written gs ws fs (sending t goes stay)
+    pub sent-written : (sentGate g, gs, gone place (g .waiting) ws, joined place (g .flight) ws fs) ≡ written gs ws fs (sending t (goes t place) (stay t place))
     unfolding sending
     sent-written =
         let f = facts g gs ws fs k in
         let eg = length-rows guestForm gs (g .guests) in
-        let ef : length (t .flight ++ (name goes ∷ [])) ≡ g .flight + 1 = length-append (t .flight) (name goes ∷ []) ∙ ap (λ (m : ℕ). m + 1) (length-rows flightForm fs (g .flight)) in
+        let ef : length (t .flight ++ (name (goes t place) ∷ [])) ≡ g .flight + 1 = length-append (t .flight) (name (goes t place) ∷ []) ∙ ap (λ (m : ℕ). m + 1) (length-rows flightForm fs (g .flight)) in
         let pg = ap (λ (n : ℕ). overRows guestForm n (t .guests) gs) eg ∙ over-same guestForm guest-exact (g .guests) (g .guests) gs (all-used guestForm guest-exact (g .guests) gs) in
         let pw = gone-is (g .setup .capacity) (g .waiting) ws (k .waitingRoom) (k .whole .waitingUnused) (f .waits) place here in
         let pf = joined-is (g .setup .depth) (g .flight) fs (k .flightRoom) (k .whole .flightUnused) free ws (g .waiting) place here in
         sym (λ i. (gateAt (g .setup) (eg i) (g .time) (length-stay i) (ef i), pg i, sym pw i, sym pf i))
 
     -- a send by reservation
-    pub reservation-sent : Leaves (λ t. sentByReservationAt t place) g gs ws fs (decisionOf (sentGate g) (Sent Reservation goesGuest goesId)) gs (gone place (g .waiting) ws) (joined place (g .flight) ws fs)
+    pub reservation-sent : Leaves (λ t. sentByReservationAt t place) g gs ws fs (decisionOf (sentGate g) (Sent Reservation (goesGuest ws place) (goesId ws place))) gs (gone place (g .waiting) ws) (joined place (g .flight) ws fs)
     reservation-sent = record { shows = sent-written; answers = λ i. Sent Reservation (sym guest-goes i) (sym id-goes i) }

@@ -28,27 +28,30 @@ module _ (g : Gate) (gs ws fs : List ℕ) (k : Known g gs ws fs) (free : g .flig
   t = tableOf g gs ws fs
 
   abbrev q : Request
-  q = goes g gs ws fs k free place here
+  q = goes t place
 
   abbrev v : List Request
-  v = stay g gs ws fs k free place here
+  v = stay t place
 
   abbrev n : ℕ
-  n = goesGuest g gs ws fs k free place here
+  n = goesGuest ws place
 
   abbrev c : ℕ
-  c = goesCost g gs ws fs k free place here
+  c = goesCost ws place
 
   -- the waiting table once the request has gone
-  abbrev pub left : List ℕ
+  abbrev left : List ℕ
   left = gone place (g .waiting) ws
 
+  -- those that stay have room
   fit : length v ≤ g .setup .capacity
   fit = omega (arith, length-stay g gs ws fs k free place here, facts g gs ws fs k .waits)
 
+  -- it shows those that stay,
   pub left-is : left ≡ overRows requestForm (g .setup .capacity) v ws
   left-is = gone-is (g .setup .capacity) (g .waiting) ws (k .waitingRoom) (k .whole .waitingUnused) (facts g gs ws fs k .waits) place here
 
+  -- and they can be read off it
   pub left-rows : waitingOf left (g .waiting - 1) ≡ v
   left-rows =
       ap (λ (m : ℕ). waitingOf left m) (sym (length-stay g gs ws fs k free place here))
@@ -86,7 +89,7 @@ module _ (g : Gate) (gs ws fs : List ℕ) (k : Known g gs ws fs) (free : g .flig
       λ i. (gateAt (g .setup) (sym eg i) (g .time) (sym ew i) (ef i), pg i, pw i, w i .3)
 
   -- a send by weight
-  pub weight-sent : Leaves (λ t. sentByWeightAt t place) g gs ws fs (decisionOf (sentGate g) (Sent Weight n (goesId g gs ws fs k free place here))) (nextDropped n c (g .waiting - 1) left gs) (tagsDropped n (fallOf n c gs) left (g .waiting - 1)) (joined place (g .flight) ws fs)
+  pub weight-sent : Leaves (λ t. sentByWeightAt t place) g gs ws fs (decisionOf (sentGate g) (Sent Weight n (goesId ws place))) (nextDropped n c (g .waiting - 1) left gs) (tagsDropped n (fallOf n c gs) left (g .waiting - 1)) (joined place (g .flight) ws fs)
   weight-sent =
       record {
         shows = weight-written;

@@ -7,21 +7,28 @@ ghost use mathlib.Core.Path.{_≡_};
 ghost use Prim.Native.Nat.{_<_};
 ghost use Rattle.batch.specs.Rows.{countOf, eventFrom, eventAt};
 
-// How many numbers a row has, and where each stands in it.
+// How many numbers a row has.
 pub const EVENT_WIDE: usize = 7;
 
+// Where the kind stands in a row.
 pub const EVENT_KIND: usize = 0;
 
+// Where the guest stands.
 pub const EVENT_GUEST: usize = 1;
 
+// Where the id stands.
 pub const EVENT_ID: usize = 2;
 
+// Where the time stands.
 pub const EVENT_TIME: usize = 3;
 
+// Where an arrival's cost stands.
 pub const EVENT_COST: usize = 4;
 
+// Where its delta stands.
 pub const EVENT_DELTA: usize = 5;
 
+// Where its rho stands.
 pub const EVENT_RHO: usize = 6;
 
 // The most events of one call.

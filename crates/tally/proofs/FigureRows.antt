@@ -10,7 +10,7 @@ use lib.Dec.{lit<, lit≤}
 use lib.ListN.{length, getD, length-set}
 use lib.Seq.{getD-set-same, getD-set-other}
 use Rattle.lists.specs.Words.{if_then_else_}
-use Rattle.lists.specs.Tab.{length-tab, getD-tab, is-tab, lt-or-le}
+use Rattle.lists.specs.Tab.{length-tab, getD-tab, is-tab, lt-or-le, eq-or-not}
 use Rattle.lists.specs.Stores.{length-stores, stores-other, stores-at}
 use Rattle.rules.specs.declared.Phase.{Phase}
 use Rattle.rules.specs.declared.Phase.the-variants.{Reservation, Weight}
@@ -18,15 +18,6 @@ use Rattle.book.specs.Figures.{Figures, unseen, figuresAt, change, arrived, com
 use Rattle.tally.specs.Columns.{ARRIVALS, COMPLETIONS, RESERVED, WEIGHED, AHEAD, UPPER, LOWER, LONGEST, figuresWide, figureAt}
 use Rattle.tally.specs.Kept.{figuresIn, figuresOf}
 use Rattle.tally.specs.Notes.{oneMore, sendLine, sentAt, sentFor}
-
--- two numbers are the same, or not: to go by cases
-pub same-or-not : (k g : ℕ) → (k ≡ g) ⊎ (k ≡ g → ⊥)
-same-or-not k g = go (lt-or-le k g) (lt-or-le g k)
-  where
-    go : (k < g) ⊎ (g ≤ k) → (g < k) ⊎ (k ≤ g) → (k ≡ g) ⊎ (k ≡ g → ⊥)
-    go (inl h) l = inr (λ e. omega arith)
-    go (inr h) (inl l) = inr (λ e. omega arith)
-    go (inr h) (inr l) = inl (omega arith)
 
 -- one row has changed by c, and the others are as they were: so have the figures
 module _ (n g : ℕ) (fg hg : List ℕ) (c : Figures → Figures) (known : g < n) (here : figuresIn hg g ≡ c (figuresIn fg g))
@@ -46,7 +37,7 @@ module _ (n g : ℕ) (fg hg : List ℕ) (c : Figures → Figures) (known : g < n
   pub changed : figuresOf hg n ≡ change g c (figuresOf fg n)
   changed =
       is-tab unseen n (figuresIn hg) (change g c (figuresOf fg n)) (length-set (figuresOf fg n) g (c (figuresAt (figuresOf fg n) g)) ∙ length-tab n (figuresIn fg))
-      (λ k l. one k l (same-or-not k g))
+      (λ k l. one k l (eq-or-not k g))
     where
       one : (k : ℕ) → k < n → (k ≡ g) ⊎ (k ≡ g → ⊥) → figuresIn hg k ≡ figuresAt (change g c (figuresOf fg n)) k
       one k l (inl e) =
@@ -223,7 +214,7 @@ module _ (n m g r w a wait : ℕ) (fg : List ℕ) (known : g < m) (room : m * fi
   grown (suc (suc (suc (suc i)))) l = absurd (omega arith)
 
   pub few-sent : (k j : ℕ) → k < m → j ≤ UPPER → figureAt (sentAt g r w a wait fg) k j ≤ n + 1
-  few-sent k j h l = go (same-or-not k g) (lt-or-le j RESERVED)
+  few-sent k j h l = go (eq-or-not k g) (lt-or-le j RESERVED)
     where
       go : (k ≡ g) ⊎ (k ≡ g → ⊥) → (j < RESERVED) ⊎ (RESERVED ≤ j) → figureAt (sentAt g r w a wait fg) k j ≤ n + 1
       go (inl e) (inl b) = rw e (omega (arith, sent-beside g r w a wait fg its-row j b, few g j known l))

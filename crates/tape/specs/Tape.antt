@@ -27,6 +27,7 @@ moved t = length (t .read) + length (t .wrote)
 pub Holds : ℕ → Tape → Type 0
 Holds n t = n ≡ moved t % 2 ^ 64
 
+-- 0 is the count of a tape on which nothing is yet
 pub started : Holds 0 blank
 unfolding Holds
 started = refl

@@ -1,6 +1,6 @@
 -- A first read that holds any header whole, of either version. What comes behind it makes no difference to the header.
 -- Assumes nothing.
-use Prim.Native.Nat.{ℕ, _+_, _*_, _≤_, _<_}
+use Prim.Native.Nat.{ℕ, _+_, _≤_, _<_}
 use mathlib.Core.Path.{_≡_, refl, sym, ap, _∙_}
 use mathlib.Core.Bool.{Bool, true, false, _&&_}
 use mathlib.Core.List.{List, _++_}
@@ -20,7 +20,7 @@ use Rattle.trace.specs.Header.{mark, same, firstVersion, lastVersion, is
 use Rattle.trace.specs.declared.Header.the-variants.{Opened}
 use Rattle.rules.proofs.Conditions.{counted-means}
 use Rattle.table.specs.Columns.{mostGuests}
-use Rattle.trace.proofs.HeaderLaws.{by-version, body-grows, body-least, body-most, record-fits, credit-fits}
+use Rattle.trace.proofs.HeaderLaws.{by-version, body-most, record-fits, credit-fits}
 
 -- the most bytes of a header
 abbrev pub longest : ℕ

@@ -1,20 +1,16 @@
 -- Each number of a bad header is printed exactly where its condition holds and none before it does; where none holds, the header line and the lines
 -- of the events are. Assumes nothing.
-use Prim.Native.Nat.{ℕ, _≤_}
+use Prim.Native.Nat.{ℕ}
 use mathlib.Core.Path.{_≡_, refl, sym, ap, _∙_}
-use mathlib.Core.Bool.{Bool, true, _&&_, false≢true}
-use mathlib.Core.Logic.{_↔_}
+use mathlib.Core.Bool.{false≢true}
 use mathlib.Core.List.{List, _++_}
 use native.Mathlib.Omega.{arith}
 use lib.ListN.{length, getD, take}
-use borrow.Author.Tests.{leb-true, le-leb}
-use Rattle.lists.specs.WordsLaws.{both, join}
-use Rattle.rules.specs.Numbers.{within}
 use Rattle.rules.specs.Answers.{numberOf}
 use Rattle.rules.specs.Refusals.{Verdict, accept, refuse, judged, isAccept}
 use Rattle.rules.specs.Refused.{RefusedExactly, NoneHolds}
 use Rattle.rules.proofs.Judged.{Tested, end, _and_, judged-none}
-use Rattle.rules.proofs.Conditions.{less, negated, means, counted-means, ruled-means, settled-means}
+use Rattle.rules.proofs.Conditions.{less, negated, means, counted-means, ruled-means, settled-means, both-mean, within-means}
 use Rattle.rules.proofs.Refused.{Tells, exactly}
 use Rattle.lines.specs.Line.{titleLine, refusedWith, refusalLine}
 use Rattle.lines.proofs.Decimal.{refused-once}
@@ -25,21 +21,13 @@ use Rattle.trace.specs.Cases.{headerCasesFor, headerCases}
 use Rattle.trace.proofs.HeaderLaws.{same-is}
 use Rattle.trace.proofs.Answers.{printed-lines}
 
--- both of two tests hold
-both-mean : {a b : Bool} {P Q : Type 0} → (a ≡ true) ↔ P → (b ≡ true) ↔ Q → (a && b ≡ true) ↔ (P × Q)
-both-mean {a} {b} f g = (λ h. (f .0 (both a b h .0), g .0 (both a b h .1)), λ p. join (f .1 (p .0)) (g .1 (p .1)))
-
--- a number lies from one to another
-lies : (from to n : ℕ) → (within from to n ≡ true) ↔ ((from ≤ n) × (n ≤ to))
-lies from to n = both-mean (leb-true from n, le-leb from n) (leb-true n to, le-leb n to)
-
 -- the tests of a header
 pub header-tested : (from to : ℕ) (bs : List ℕ) → Tested (headerTestsFor from to bs) (headerCasesFor from to bs)
 unfolding headerTestsFor headerCasesFor
 header-tested from to bs =
     less (length bs) 9 .holds
     and negated (means (same-is (take 3 bs) mark)) .holds
-    and negated (means (lies from to (versionOf bs))) .holds
+    and negated (means (within-means from to (versionOf bs))) .holds
     and less (length bs) (body (versionOf bs) 0) .holds
     and negated (means (both-mean (counted-means (depthOf bs) (guestsOf bs) (capacityOf bs) .holds) (ruled-means (ruleOf bs) .holds))) .holds
     and less (length bs) (body (versionOf bs) (guestsOf bs)) .holds

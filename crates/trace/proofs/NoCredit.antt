@@ -12,7 +12,6 @@ use Rattle.rules.specs.Run.{newcomer, fresh}
 use Rattle.rules.proofs.SameSettings.{SameSettings, run-settings, same-owner}
 use Rattle.trace.specs.Header.{versionOf, guestsOf, creditAt, settingsAt, settingsIn}
 use Rattle.trace.specs.Event.{eventsOf}
-use Rattle.trace.specs.Printed.{tableAfter}
 use Rattle.trace.specs.Answers.{eventBytes, opening, tableAt}
 use Rattle.trace.proofs.Runs.{run, table-run}
 

@@ -1,7 +1,7 @@
 -- The rule for limits of a trace: every table that its events find has the rule that its header says; that of version 1 is rule 1, document 01's. Assumes
 -- nothing.
 use Prim.Native.Nat.{ℕ}
-use mathlib.Core.Path.{_≡_, refl, sym, ap, _∙_, subst}
+use mathlib.Core.Path.{_≡_, sym, ap, _∙_, subst}
 use mathlib.Core.List.{List}
 use Rattle.rules.specs.Tables.{Table}
 use Rattle.rules.specs.declared.Setup.{Setup}

@@ -32,10 +32,11 @@ same (x ∷ xs) (y ∷ ys) = eqb x y && same xs ys
 
 -- THE VERSIONS, of which a trace has one
 
--- the versions that there are, the first and the last, by K9: "Both versions must be read."
+-- the first of the versions that there are, by K9: "Both versions must be read."
 abbrev pub firstVersion : ℕ
 firstVersion = 1
 
+-- the last version
 abbrev pub lastVersion : ℕ
 lastVersion = 2
 
@@ -70,6 +71,7 @@ capacityOf bs = twoAt bs 7
 unfoldable pub ruleIn : (version : ℕ) → List ℕ → ℕ
 ruleIn v bs = if isTwo v then byteAt bs 9 else 1
 
+-- the same by the version that the trace itself has
 abbrev pub ruleOf : List ℕ → ℕ
 ruleOf bs = ruleIn (versionOf bs) bs
 

@@ -1,6 +1,6 @@
 -- The line: of the requests that a test R lets in, all of them in order of reservation tags, equal tags in order of acceptance. The choice
 -- takes the first in line that passes, and takes it out of the line. Assumes nothing.
-use mathlib.Core.Path.{_≡_, refl, sym, ap, _∙_}
+use mathlib.Core.Path.{_≡_, refl, ap, _∙_}
 use mathlib.Core.Bool.{Bool, true, false, _&&_}
 use mathlib.Core.List.{List, [], _∷_, _++_}
 use Prim.Native.Nat.{ℕ, _≤_, _<_}

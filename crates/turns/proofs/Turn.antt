@@ -13,7 +13,7 @@ use Rattle.lists.specs.WordsLaws.{join, map-append, map-same}
 use Rattle.rules.specs.Tables.{Request, Table, limited, settingsOf, idle, name}
 use Rattle.rules.specs.declared.Settings.{Settings}
 use Rattle.rules.specs.declared.Flight.{Flight}
-use Rattle.rules.specs.Choice.{Pick, picked, least, dueAt, openAt, passesAt, passes, due, sending, byReservation, room, choice}
+use Rattle.rules.specs.Choice.{picked, least, dueAt, openAt, passesAt, passes, due, sending, byReservation, room, choice}
 use Rattle.rules.specs.Events.{moment, smallest, shifted, adjusted, stamped, raised, stampedFor, placed, arriveAs, arrive, complete, wait, enter}
 use Rattle.rules.specs.declared.Arriving.{Arriving}
 use Rattle.rules.specs.declared.Event.{Event}

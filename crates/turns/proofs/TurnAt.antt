@@ -1,7 +1,7 @@
 -- Demand 3 by places: at the accepted events that find a place free a due request goes by reservation, under rule 1 after just those that stand before
 -- it, under rule 2 after none but those. Words in quotes are demand 3's. Assumes nothing.
 use mathlib.Core.Path.{_≡_, refl, sym, ap, subst, _∙_}
-use mathlib.Core.Bool.{Bool, true, false, _&&_, _||_, true≢false, false≢true, and-false, or-true, or-false}
+use mathlib.Core.Bool.{Bool, true, false, _&&_, true≢false, false≢true, and-false, or-true, or-false}
 use mathlib.Core.List.{List, [], _∷_, _++_, map}
 use mathlib.Core.Logic.{_⊎_, inl, inr, ⊎-elim}
 use Prim.Native.Nat.{ℕ, zero, suc, _+_, _≤_, _<_}
@@ -23,7 +23,7 @@ use Rattle.rules.specs.Refusals.{accepted}
 use Rattle.rules.specs.Run.{step}
 use Rattle.rules.specs.Chosen.{blank, at}
 use Rattle.turns.specs.Turn.{tagged, isDue, ahead, sorted, findsRoom, atFree, sentByReservation, byName, Drawn, ByTurn}
-use Rattle.turns.specs.TurnAt.{howMany, rtagAt, earlierTag, before, turnOf, DueAt, InTurnAt, ByTurnAt, TurnKept}
+use Rattle.turns.specs.TurnAt.{howMany, rtagAt, earlierTag, before, turnOf, DueAt, ByTurnAt, TurnKept}
 use Rattle.rules.specs.declared.Answer.the-variants.{Nothing}
 use Rattle.rules.proofs.StepSound.{accepted-step}
 use Rattle.rules.proofs.Chosen.{due-means}

@@ -1,5 +1,5 @@
 -- When to wake is what document 02 asks, in plain facts about ticks, and those fit one value only. Assumes nothing.
-use mathlib.Core.Path.{_≡_, refl, sym, ap, _∙_, subst}
+use mathlib.Core.Path.{_≡_, refl, sym, ap, _∙_}
 use mathlib.Core.Bool.{Bool, true, false, not, _&&_, _||_, and-true, true≢false}
 use mathlib.Core.List.{List, [], _∷_, map}
 use mathlib.Core.Logic.{_↔_, _⊎_, inl, inr, ⊎-elim}
@@ -14,8 +14,8 @@ use Rattle.rules.specs.Numbers.{ceiling}
 use Rattle.rules.specs.Tables.{Request, Table, reserved, limited, settingsOf}
 use Rattle.rules.specs.declared.Settings.{Settings}
 use Rattle.rules.specs.Sound.{lawful, sound}
-use Rattle.rules.specs.Choice.{Result, dueAt, openAt, passesAt, due, open?, room, choice}
-use Rattle.rules.specs.Chosen.{blank, at, NoneIs, Chosen, full, reservation, weight, nothing}
+use Rattle.rules.specs.Choice.{Result, dueAt, openAt, passesAt, room}
+use Rattle.rules.specs.Chosen.{blank, at, Chosen, full, reservation, weight, nothing}
 use Rattle.rules.specs.Events.{wait, enter}
 use Rattle.rules.specs.declared.Event.{Event}
 use Rattle.rules.specs.declared.Event.the-variants.{Tick}

@@ -6,7 +6,7 @@ use mathlib.Core.List.{List, map}
 use mathlib.Core.Logic.{_⊎_, inl, inr}
 use native.Mathlib.Omega.{arith}
 use lib.Dec.{ltb, eqb}
-use lib.ListN.{length, getD, set, replicate}
+use lib.ListN.{getD, set, replicate}
 use borrow.Author.Tests.{lt-ltb, le-ltb, eq-eqb, ne-eqb}
 use Rattle.lists.specs.Words.{if_then_else_, lowest}
 use Rattle.lists.specs.WordsLaws.{lowest-of, lowest-under}
@@ -83,9 +83,11 @@ pub record InReady (gs ws : List ℕ) (known count time rule : ℕ) (seen : List
   pub walk : Walk every (readyByTag rule (guestsOf gs known)) (waitingOf ws count) (ceiling + 1) count row place first
 
 module _ (gs ws : List ℕ) (known count time rule : ℕ) where
+  -- from when on a request could go
   abbrev tag : Request → ℕ
   tag = readyByTag rule (guestsOf gs known)
 
+  -- the waiting requests
   abbrev rows : List Request
   rows = waitingOf ws count
 
@@ -100,9 +102,11 @@ module _ (gs ws : List ℕ) (known count time rule : ℕ) where
   ready-start h = record { row = 0; begins = refl; inside = omega arith; marks = marks-start ws; ahead = omega arith; place = count; walk = walk-start }
 
   module _ {seen : List ℕ} {first from : ℕ} (l : InReady gs ws known count time rule seen first from) (more : from < count * waitingWide) (owned : Owned ws count known) where
+    -- the row is one of them
     here : l .row < count
     here = omega (arith, l .begins)
 
+    -- its first number is its guest
     guest-here : getD ws (from + GUEST) 0 ≡ waitingAt ws (l .row) GUEST
     guest-here = row-from ws (l .row) GUEST (l .begins)
 
@@ -112,6 +116,7 @@ module _ (gs ws : List ℕ) (known count time rule : ℕ) where
 
     -- from when on the row's request could go, as the code reads it
     module _ (r : ℕ) (read : r ≡ readyUnder rule (guestAt gs (getD ws (from + GUEST) 0) RESERVATION) (getD ws (from + RTAG) 0) (getD ws (from + LTAG) 0)) where
+      -- that is what the definition says of the request
       is-ready : tag (at rows (l .row)) ≡ r
       is-ready =
           ready-row owned (l .row) here

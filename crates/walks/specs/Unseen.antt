@@ -45,6 +45,7 @@ bit-or a b k = ap (λ (x : ℕ). x % 2) (or-shr a b k) ∙ or-mod (a / 2 ^ k) (b
 power-own : (g : ℕ) → bitOf (2 ^ g) g ≡ 1
 power-own g = ap (λ (x : ℕ). x % 2) (div-self (pow-pos g))
 
+-- a power of two has no other bit
 power-others : (g k : ℕ) → (k ≡ g → ⊥) → bitOf (2 ^ g) k ≡ 0
 power-others g k other = go (ltb g k) refl
   where

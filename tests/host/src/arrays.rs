@@ -7,6 +7,7 @@ use crate::calls::{
 };
 use crate::damage;
 use crate::fence;
+use crate::seeds::Seeds;
 use crate::tally::{Seen, Tally};
 use second::arrays::{self, COUNTER_NUMBERS, DELTA, MOST_ARRAYS, RHO};
 use second::sample::{any_counters, sound_house, spoil_house, Owned, OwnedHouse, Prng};
@@ -31,9 +32,9 @@ const NEVER: [Refusal; 4] = [
 
 const MS: u64 = 1_000_000;
 
-pub fn test(first: u64, fences: &mut Fences, tally: &mut Tally) {
-    damaged(first, fences, tally);
-    runs(first, fences, tally);
+pub fn test(seeds: Seeds, fences: &mut Fences, tally: &mut Tally) {
+    damaged(seeds, fences, tally);
+    runs(seeds, fences, tally);
 }
 
 // One call.
@@ -145,16 +146,16 @@ fn of_second(call: &Call, house: &mut OwnedHouse) -> raw::Answer {
 
 // Damaged houses.
 
-fn damaged(first: u64, fences: &mut Fences, tally: &mut Tally) {
+fn damaged(seeds: Seeds, fences: &mut Fences, tally: &mut Tally) {
     let mut seen = Seen::default();
-    for seed in (first..).take(SEEDS) {
+    for seed in seeds.of(SEEDS) {
         let result = four_calls(seed, fences, &mut seen);
         tally.add(&format!("house of seed {seed}"), result);
     }
-    println!("damaged houses: {SEEDS} seeds, {} calls", seen.calls);
+    println!("damaged houses: {} calls", seen.calls);
     seen.print();
-    let all = seen.all_seen(&all_but(&NEVER));
-    tally.add("damaged houses", all.and(seen.never_seen(&NEVER)));
+    tally.add_seen("damaged houses", seen.all_seen(&all_but(&NEVER)));
+    tally.add("refusals of damaged houses", seen.never_seen(&NEVER));
 }
 
 /// Each of the four calls on the same house.
@@ -199,10 +200,10 @@ struct Taken {
     none: u64,
 }
 
-fn runs(first: u64, fences: &mut Fences, tally: &mut Tally) {
+fn runs(seeds: Seeds, fences: &mut Fences, tally: &mut Tally) {
     let (mut seen, mut taken) = (Seen::default(), Taken::default());
     for (kind, count) in [(Kind::Small, RUNS), (Kind::Large, LARGE_RUNS)] {
-        for seed in (first..).take(count) {
+        for seed in seeds.of(count) {
             fence::playing(seed);
             let result = run(kind, seed, fences, &mut seen, &mut taken);
             tally.add(&format!("{kind:?} house, run of seed {seed}"), result);
@@ -220,8 +221,8 @@ fn runs(first: u64, fences: &mut Fences, tally: &mut Tally) {
     );
     let enough = [spread, between, none].iter().all(|&times| times > 500);
     let few = || "too few arrivals of one kind".to_string();
-    tally.add("runs of houses", enough.then_some(()).ok_or_else(few));
-    tally.add("answers in runs of houses", seen.all_seen(&[]));
+    tally.add_seen("runs of houses", enough.then_some(()).ok_or_else(few));
+    tally.add_seen("answers in runs of houses", seen.all_seen(&[]));
 }
 
 #[derive(Clone, Copy, Debug)]

@@ -2,6 +2,7 @@
 //! that are read at true instants.
 
 use crate::fence::{self, Fenced};
+use crate::seeds::Seeds;
 use crate::tally::Tally;
 use second::numbers::CEILING;
 use second::sample::Prng;
@@ -35,15 +36,15 @@ impl Met {
     }
 }
 
-pub fn test(first: u64, tally: &mut Tally) {
+pub fn test(seeds: Seeds, tally: &mut Tally) {
     let mut lent = Fenced::new();
     let mut met = Met::default();
-    for seed in (first..).take(SEEDS) {
+    for seed in seeds.of(SEEDS) {
         fence::playing(seed);
         let result = any_record(&mut Prng::new(seed), &mut lent, &mut met);
         tally.add(&format!("clock of seed {seed}"), result);
     }
-    for seed in (first..).take(BOARDS) {
+    for seed in seeds.of(BOARDS) {
         fence::playing(seed);
         let result = true_instants(&mut Prng::new(seed), &mut lent, &mut met);
         tally.add(&format!("board of seed {seed}"), result);
@@ -52,7 +53,7 @@ pub fn test(first: u64, tally: &mut Tally) {
         "clocks: {} readings, {} of them first, {} across the wrap, {} refused",
         met.readings, met.first, met.wraps, met.refused
     );
-    tally.add("clocks", met.all_seen());
+    tally.add_seen("clocks", met.all_seen());
 }
 
 /// A number of 32 bits, often near the wrap.

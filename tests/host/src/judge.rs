@@ -3,6 +3,7 @@
 //! rubbish. The traces are recorded at such gates, and well-formed and damaged ones of both versions.
 
 use crate::fence::{playing, Fenced};
+use crate::seeds::Seeds;
 use crate::tally::Tally;
 use second::judge::{lines_of, Ties};
 use second::kinds::{recorded, trace};
@@ -50,15 +51,15 @@ struct Seen {
     refusals: BTreeMap<u64, u64>,
 }
 
-pub fn judged(first: u64, tally: &mut Tally) {
+pub fn judged(seeds: Seeds, tally: &mut Tally) {
     let mut fences = Fences {
         trace: Fenced::new(),
         lines: Fenced::new(),
     };
     let mut seen = Seen::default();
-    for (kind, seeds) in KINDS {
+    for (kind, count) in KINDS {
         for kind in [kind.to_string(), format!("{kind}2")] {
-            for seed in (first..).take(seeds) {
+            for seed in seeds.of(count) {
                 playing(seed);
                 let result = of_seed(&kind, seed, &mut fences, &mut seen);
                 tally.add(&format!("lines of a {kind} trace, seed {seed}"), result);
@@ -66,7 +67,7 @@ pub fn judged(first: u64, tally: &mut Tally) {
         }
     }
     seen.print();
-    tally.add("judge", seen.all_seen());
+    tally.add_seen("judge", seen.all_seen());
 }
 
 /// All lines that are tried for a trace.

@@ -3,7 +3,7 @@
 //! and hands batches of events over sound and damaged tables; then calls the arrays of houses that have several; then moves
 //! traces from one version to the other, salvages torn ones, judges the lines of other gates, and reads short clocks.
 //!
-//!     host-tests [FIRST]     the seeds begin at FIRST, 1 where none is named
+//!     host-tests FRESH [FIRST]     the seeds from FRESH on, a few, and those from FIRST on, where it is named; see seeds.rs
 //!
 //! A failure names the seed, the call and what differs. Ends with 'N passed, M failed'.
 
@@ -17,12 +17,14 @@ mod fence;
 mod judge;
 mod moves;
 mod salvage;
+mod seeds;
 mod tally;
 
 use calls::{broken_rule, hold, Fences};
 use second::numbers::{MOST_COST, RULE_1, RULE_2};
 use second::sample::{Owned, Prng};
 use second::Rule;
+use seeds::Seeds;
 use sgq::Refusal;
 use std::process::ExitCode;
 use tally::{Seen, Tally};
@@ -58,34 +60,36 @@ const RUNS: [(&str, usize, usize); 5] = [
     ("large", 2, 3_000),
 ];
 
+/// The kinds whose runs take long: a fresh seed plays one of them, under one rule.
+const LONG: [&str; 2] = ["fixed", "large"];
+
 fn main() -> ExitCode {
-    let mut arguments = std::env::args().skip(1);
-    let first = arguments.next().unwrap_or("1".to_string());
-    let Ok(first) = first.parse() else {
-        eprintln!("host-tests takes one number, the first seed");
+    let words: Vec<String> = std::env::args().skip(1).collect();
+    let Some(seeds) = Seeds::from_words(&words) else {
+        eprintln!("host-tests takes the first fresh seed, and the first fixed one");
         return ExitCode::FAILURE;
     };
-    let mut tally = Tally::default();
+    let mut tally = Tally::new(seeds);
     let mut fences = Fences::new();
     fence::watch();
-    damaged(first, &mut fences, &mut tally);
-    clean(first, &mut fences, &mut tally);
-    batched(first, &mut fences, &mut tally);
-    arrays::test(first, &mut fences, &mut tally);
-    moves::moved(first, &mut tally);
-    salvage::salvaged(first, &mut tally);
-    judge::judged(first, &mut tally);
-    clocks::test(first, &mut tally);
+    damaged(seeds, &mut fences, &mut tally);
+    clean(seeds, &mut fences, &mut tally);
+    batched(seeds, &mut fences, &mut tally);
+    arrays::test(seeds, &mut fences, &mut tally);
+    moves::moved(seeds, &mut tally);
+    salvage::salvaged(seeds, &mut tally);
+    judge::judged(seeds, &mut tally);
+    clocks::test(seeds, &mut tally);
     println!("{} passed, {} failed", tally.passed, tally.failed);
     ExitCode::from(if tally.failed == 0 { 0 } else { 1 })
 }
 
 /// Small tables of every shape.
-fn damaged(first: u64, fences: &mut Fences, tally: &mut Tally) {
+fn damaged(seeds: Seeds, fences: &mut Fences, tally: &mut Tally) {
     let mut seen = Seen::default();
     let mut rules = Rules::default();
     let mut closer = 0;
-    for seed in (first..).take(SEEDS) {
+    for seed in seeds.of(SEEDS) {
         let mut rng = Prng::new(seed);
         let tables = damage::tables(&mut rng);
         rules.note(broken_rule(&tables));
@@ -93,17 +97,17 @@ fn damaged(first: u64, fences: &mut Fences, tally: &mut Tally) {
         let result = four_calls(seed, &mut rng, &tables, fences, &mut seen);
         tally.add(&format!("seed {seed}"), result);
     }
-    println!("damaged tables: {SEEDS} seeds, {} calls", seen.calls);
+    println!("damaged tables: {} calls", seen.calls);
     seen.print();
     rules.print();
     println!("  sound, and reservation tags closer than their spacing: {closer}");
     let all = seen.all_seen(&all_but(&NOT_SINGLE));
     let sound = || "no sound table has close reservation tags".to_string();
     let close = (closer > 0).then_some(()).ok_or_else(sound);
-    tally.add("damaged tables", all.and(rules.all_seen()).and(close));
+    tally.add_seen("damaged tables", all.and(rules.all_seen()).and(close));
     let enough = seen.calls >= LEAST_CALLS || tally.failed > 0;
     let too_few = || format!("only {} calls were made", seen.calls);
-    tally.add("calls", enough.then_some(()).ok_or_else(too_few));
+    tally.add_seen("calls", enough.then_some(()).ok_or_else(too_few));
 }
 
 /// Each of the four calls on the same tables.
@@ -123,41 +127,50 @@ fn four_calls(
     Ok(())
 }
 
-fn clean(first: u64, fences: &mut Fences, tally: &mut Tally) {
+fn clean(seeds: Seeds, fences: &mut Fences, tally: &mut Tally) {
     let (mut seen_1, mut seen_2) = (Seen::default(), Seen::default());
-    let mut last = clean_under(RULE_1, first, fences, &mut seen_1, tally);
-    last = last.and(clean_under(RULE_2, first, fences, &mut seen_2, tally));
+    let large_1 = clean_under(RULE_1, seeds, fences, &mut seen_1, tally);
+    let large_2 = clean_under(RULE_2, seeds, fences, &mut seen_2, tally);
     let same = || "both rules sent as many requests in each phase".to_string();
     let differ = seen_1.sends() != seen_2.sends();
-    tally.add("the two rules", differ.then_some(()).ok_or_else(same));
-    if let Some(large) = last {
-        tally.add("costs that wait in a large run", kept_costs(&large));
-        damaged_large(first, &large, fences, tally);
-        batched_large(first, &large, fences, tally);
+    tally.add_seen("the two rules", differ.then_some(()).ok_or_else(same));
+    if let Some(large) = large_2.or(large_1) {
+        tally.add_seen("costs that wait in a large run", kept_costs(&large));
+        damaged_large(seeds, &large, fences, tally);
+        batched_large(seeds, &large, fences, tally);
     }
 }
 
-/// The clean runs under one rule; gives the tables at the end of the last.
+/// The clean runs under one rule; gives the tables at the end of the last large one.
 fn clean_under(
     rule: u64,
-    first: u64,
+    seeds: Seeds,
     fences: &mut Fences,
     seen: &mut Seen,
     tally: &mut Tally,
 ) -> Option<Owned> {
-    let mut last = None;
+    let mut large = None;
     for (kind, runs, most) in RUNS {
-        for seed in (first..).take(runs) {
+        for seed in seeds_of_runs(seeds, kind, rule, runs) {
             fence::playing(seed);
             let played = clean::play(rule, kind, seed, most, fences, seen);
             let name = format!("{kind} trace of seed {seed}, rule {rule}");
             tally.add(&name, played.as_ref().map(|_| ()).map_err(String::clone));
-            last = played.ok();
+            if kind == "large" {
+                large = played.ok();
+            }
         }
     }
     println!("clean runs under rule {rule}: {} calls", seen.calls);
     seen.print();
-    last
+    large
+}
+
+fn seeds_of_runs(seeds: Seeds, kind: &str, rule: u64, runs: usize) -> Vec<u64> {
+    match (0..).zip(LONG).find(|&(_, long)| long == kind) {
+        Some((place, _)) => seeds.by_turns(2 * place + rule - RULE_1, 2 * LONG.len() as u64, runs),
+        None => seeds.of(runs),
+    }
 }
 
 /// Whether requests of the least cost, of the most and of one between wait in these tables.
@@ -180,9 +193,9 @@ fn kept_costs(tables: &Owned) -> Result<(), String> {
 }
 
 /// The tables at the end of a large run, each time with one damage.
-fn damaged_large(first: u64, large: &Owned, fences: &mut Fences, tally: &mut Tally) {
+fn damaged_large(seeds: Seeds, large: &Owned, fences: &mut Fences, tally: &mut Tally) {
     let mut seen = Seen::default();
-    for seed in (first..).take(LARGE_SEEDS) {
+    for seed in seeds.of(LARGE_SEEDS) {
         let mut rng = Prng::new(seed);
         let mut tables = large.clone();
         damage::damage(&mut rng, &mut tables);
@@ -198,9 +211,9 @@ fn damaged_large(first: u64, large: &Owned, fences: &mut Fences, tally: &mut Tal
 }
 
 /// Batches on small tables, some of them damaged.
-fn batched(first: u64, fences: &mut Fences, tally: &mut Tally) {
+fn batched(seeds: Seeds, fences: &mut Fences, tally: &mut Tally) {
     let mut seen = Seen::default();
-    for seed in (first..).take(BATCH_SEEDS) {
+    for seed in seeds.of(BATCH_SEEDS) {
         let mut rng = Prng::new(seed);
         let mut tables = damage::tables(&mut rng);
         let result = batches(seed, &mut rng, &mut tables, fences, &mut seen);
@@ -208,7 +221,7 @@ fn batched(first: u64, fences: &mut Fences, tally: &mut Tally) {
     }
     println!("batches: {} answers", seen.calls);
     seen.print();
-    tally.add("batches", seen.all_seen(&all_but(&NOT_BATCHED)));
+    tally.add_seen("batches", seen.all_seen(&all_but(&NOT_BATCHED)));
 }
 
 /// All refusals but these.
@@ -218,9 +231,9 @@ fn all_but(these: &[Refusal]) -> Vec<Refusal> {
 }
 
 /// Batches on the tables at the end of a large run, sound and with one damage.
-fn batched_large(first: u64, large: &Owned, fences: &mut Fences, tally: &mut Tally) {
+fn batched_large(seeds: Seeds, large: &Owned, fences: &mut Fences, tally: &mut Tally) {
     let mut seen = Seen::default();
-    for seed in (first..).take(LARGE_BATCH_SEEDS) {
+    for seed in seeds.of(LARGE_BATCH_SEEDS) {
         let mut rng = Prng::new(seed);
         let mut tables = large.clone();
         if seed % 4 == 0 {

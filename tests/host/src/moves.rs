@@ -3,6 +3,7 @@
 //! enough or longer.
 
 use crate::fence::{playing, Fenced};
+use crate::seeds::Seeds;
 use crate::tally::{Tally, OF_MOVES};
 use second::kinds::trace;
 use second::moves::Moved;
@@ -38,7 +39,7 @@ struct Fences {
 #[derive(Default)]
 struct Seen(BTreeMap<(u64, bool), u64>);
 
-pub fn moved(first: u64, tally: &mut Tally) {
+pub fn moved(seeds: Seeds, tally: &mut Tally) {
     let mut fences = Fences {
         trace: Fenced::new(),
         room: Fenced::new(),
@@ -48,7 +49,7 @@ pub fn moved(first: u64, tally: &mut Tally) {
         .iter()
         .flat_map(|kind| [kind.to_string(), format!("{kind}2")])
     {
-        for seed in (first..).take(SEEDS) {
+        for seed in seeds.of(SEEDS) {
             playing(seed);
             let result = of_seed(&kind, seed, &mut fences, &mut seen);
             tally.add(&format!("moves of a {kind} trace, seed {seed}"), result);
@@ -56,7 +57,7 @@ pub fn moved(first: u64, tally: &mut Tally) {
     }
     println!("moves: {} calls", seen.0.values().sum::<u64>());
     seen.print();
-    tally.add("moves", seen.all_seen());
+    tally.add_seen("moves", seen.all_seen());
 }
 
 /// Both moves of a trace, of what they make of it, and of the trace with a damage.

@@ -3,6 +3,7 @@
 //! enough or longer, each by itself and both. What is kept is salvaged once more, and must come out as it is.
 
 use crate::fence::{playing, Fenced};
+use crate::seeds::Seeds;
 use crate::tally::Tally;
 use second::kinds::trace;
 use second::salvage::ROW_NUMBERS;
@@ -46,16 +47,16 @@ struct Left {
     list: Vec<u64>,
 }
 
-pub fn salvaged(first: u64, tally: &mut Tally) {
+pub fn salvaged(seeds: Seeds, tally: &mut Tally) {
     let mut fences = Fences {
         trace: Fenced::new(),
         room: Fenced::new(),
         list: Fenced::new(),
     };
     let mut seen = Seen::default();
-    for (kind, seeds) in KINDS {
+    for (kind, count) in KINDS {
         for kind in [kind.to_string(), format!("{kind}2")] {
-            for seed in (first..).take(seeds) {
+            for seed in seeds.of(count) {
                 playing(seed);
                 let result = of_seed(&kind, seed, &mut fences, &mut seen);
                 tally.add(&format!("salvage of a {kind} trace, seed {seed}"), result);
@@ -63,7 +64,7 @@ pub fn salvaged(first: u64, tally: &mut Tally) {
         }
     }
     seen.print();
-    tally.add("salvage", seen.all_seen());
+    tally.add_seen("salvage", seen.all_seen());
 }
 
 fn of_seed(kind: &str, seed: u64, fences: &mut Fences, seen: &mut Seen) -> Result<(), String> {

@@ -1,5 +1,6 @@
 //! What passed, what failed, and which answers were seen.
 
+use crate::seeds::Seeds;
 use sgq::raw::{Answer, NEVER, REFUSED};
 use sgq::Refusal;
 use std::collections::BTreeMap;
@@ -17,13 +18,21 @@ pub const OF_MOVES: [Refusal; 6] = [
     Refusal::ShortRoom,
 ];
 
-#[derive(Default)]
 pub struct Tally {
     pub passed: u64,
     pub failed: u64,
+    sees_all: bool,
 }
 
 impl Tally {
+    pub fn new(seeds: Seeds) -> Tally {
+        Tally {
+            passed: 0,
+            failed: 0,
+            sees_all: seeds.see_all(),
+        }
+    }
+
     pub fn add(&mut self, name: &str, result: Result<(), String>) {
         match result {
             Ok(()) => self.passed += 1,
@@ -33,6 +42,13 @@ impl Tally {
                     println!("FAILED {name}: {why}");
                 }
             }
+        }
+    }
+
+    /// Whether something was seen often enough, where that is asked of these seeds.
+    pub fn add_seen(&mut self, name: &str, result: Result<(), String>) {
+        if self.sees_all {
+            self.add(name, result);
         }
     }
 }

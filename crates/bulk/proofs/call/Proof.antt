@@ -1,5 +1,5 @@
 -- The tests of the whole call, then every event. Assumes nothing.
-use mathlib.Core.Path.{_≡_, sym, ap}
+use mathlib.Core.Path.{sym, ap}
 use Rattle.rules.specs.Refusals.{refuse}
 use Rattle.rules.specs.declared.Refusal.the-variants.{AnswersShort, TooManyEvents}
 use Rattle.batch.specs.Promise.{seenBatch}

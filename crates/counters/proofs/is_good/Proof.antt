@@ -7,7 +7,7 @@ use mathlib.Core.Bool.{true}
 use borrow.Author.Tests.{not-true, not-false}
 use Rattle.lists.specs.Words.{below}
 use Rattle.arrays.specs.Counters.{goodRow, goodCounters}
-use Rattle.arrays.proofs.Rows.{below-more, below-not}
+use Rattle.lists.specs.Walks.{below-next, below-fails}
 use Rattle.counters.proofs.is_good.Statement.{statement}
 use Rattle.counters.proofs.is_good.Tie as tie
 
@@ -49,7 +49,7 @@ unfolding goodCounters
 returns c =
     let a = c .before .before .before .before .before .before .before .args in
     let l = c .before .before .before .before .before .loop in
-    sym (below-not (a .rows) (goodRow (a .counters .now)) (l .row) (c .before .before .before .before .loop-test .taken) (sym (c .before .is-good-row .ensures) ∙ not-true _ (c .if1 .taken)))
+    sym (below-fails (goodRow (a .counters .now)) (a .rows) (l .row) (c .before .before .before .before .loop-test .taken) (sym (c .before .is-good-row .ensures) ∙ not-true _ (c .if1 .taken)))
 
 add-row : tie.Need-add-row Inv-loop μ-loop
 add-row c = omega arith
@@ -61,7 +61,7 @@ loop-again : tie.Need-loop-again Inv-loop μ-loop
 loop-again c =
     let a = c .before .before .before .before .before .before .before .args in
     let l = c .before .before .before .before .before .loop in
-    (omega (arith, c .before .before .before .before .loop-test .taken), below-more (l .row) (goodRow (a .counters .now)) (l .inv .1) (sym (c .before .is-good-row .ensures) ∙ not-false _ (c .if1 .left)))
+    (omega (arith, c .before .before .before .before .loop-test .taken), below-next (goodRow (a .counters .now)) (l .row) (sym (c .before .is-good-row .ensures) ∙ not-false _ (c .if1 .left)) (l .inv .1))
 
 returns-2 : tie.Need-returns-2 Inv-loop μ-loop
 unfolding goodCounters

@@ -1,7 +1,4 @@
 -- `enter` meets its contract, by what its callees promise. Assumes nothing.
-use mathlib.Core.Path.{sym, subst}
-use Rattle.rules.specs.declared.Event.{Event}
-use Rattle.enter.specs.Enters.{Enters}
 use borrow.Author.Needs.{needs}
 use Rattle.enter.proofs.enter.Statement.{statement}
 use Rattle.enter.proofs.enter.Tie as tie

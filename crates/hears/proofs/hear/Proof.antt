@@ -1,4 +1,4 @@
--- `hearing::hear` meets its contract, for a good event and a bad one. Assumes nothing.
+-- `hears::hear` meets its contract, for a good event and a bad one. Assumes nothing.
 use Prim.Native.Nat.{ℕ, _+_, _-_}
 use mathlib.Core.Path.{_≡_, ap, _∙_}
 use native.Mathlib.Omega.{arith}

@@ -1,4 +1,4 @@
--- `hearing::hear_good` meets its contract: a refusal, or the choice on what entered. Assumes nothing.
+-- `hears::hear_good` meets its contract: a refusal, or the choice on what entered. Assumes nothing.
 use mathlib.Core.Path.{_∙_}
 use Rattle.judge.proofs.Heard.{good-refused, good-known, good-entered}
 use borrow.Author.Needs.{needs}

@@ -1,4 +1,4 @@
--- `hearing::hear_send` meets its contract: what was heard goes, and it is the first of its guest. Assumes nothing.
+-- `hears::hear_send` meets its contract: what was heard goes, and it is the first of its guest. Assumes nothing.
 use Prim.Native.Nat.{_<_}
 use native.Mathlib.Omega.{arith}
 use Rattle.judge.proofs.Ties.{row-there, id-there, place-here, picks-any}

@@ -1,4 +1,4 @@
--- `hearing::send_in` meets its contract: the sends of `choose`, by the phase. Assumes nothing.
+-- `hears::send_in` meets its contract: the sends of `choose`, by the phase. Assumes nothing.
 use Rattle.rules.specs.declared.Phase.the-variants.{Reservation, Weight}
 use Rattle.judge.proofs.Sent.{send-left}
 use borrow.Author.Needs.{needs}

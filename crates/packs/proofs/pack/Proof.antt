@@ -1,4 +1,4 @@
--- `records::guests::pack` meets its contract: the copy of `Copying`, from numbers to records. Assumes nothing.
+-- `packs::pack` meets its contract: the copy of `Copying`, from numbers to records. Assumes nothing.
 use Prim.Native.Nat.{ℕ, _+_, _*_, _≤_, _<_}
 use native.Mathlib.Nat.{le-of-lt, lt-of-lt-of-le, le-trans}
 use native.Mathlib.Omega.{arith}

@@ -1,4 +1,4 @@
--- `records::guests::read` meets its contract: a walk of its MIR, by hand, since the slice holds records. The slice is looked into for the one
+-- `packs::read` meets its contract: a walk of its MIR, by hand, since the slice holds records. The slice is looked into for the one
 -- record, which is copied, and shut. Assumes nothing.
 use mathlib.Core.Path.{refl, sym}
 use Prim.Native.Nat.{ℕ, _<_, _^_}

@@ -1,4 +1,4 @@
--- `records::guests::unpack` meets its contract: the copy of `Copying`, from records to numbers. Assumes nothing.
+-- `packs::unpack` meets its contract: the copy of `Copying`, from records to numbers. Assumes nothing.
 use Prim.Native.Nat.{ℕ, _+_, _*_, _≤_, _<_}
 use native.Mathlib.Nat.{lt-of-lt-of-le}
 use native.Mathlib.Omega.{arith}

@@ -1,4 +1,4 @@
--- `records::guests::write` meets its contract: a walk of its MIR, by hand, since the slice holds records. The slice's borrow is opened, the
+-- `packs::write` meets its contract: a walk of its MIR, by hand, since the slice holds records. The slice's borrow is opened, the
 -- record is stored into its place, and the borrow is closed. Assumes nothing.
 use mathlib.Core.Path.{refl, sym, ap, subst}
 use Prim.Native.Nat.{ℕ, _<_, _^_}

@@ -1,6 +1,6 @@
 -- No two of the places passed have one name, and their buckets are marked.
 use Prim.Native.Nat.{ℕ, _+_, _≤_, _<_, _-_, _%_}
-use mathlib.Core.Path.{_≡_, refl, ap, sym, _∙_}
+use mathlib.Core.Path.{_≡_, ap, sym, _∙_}
 use mathlib.Core.Logic.{⊎-elim}
 use native.Mathlib.Nat.{not-suc-le-zero}
 use native.Mathlib.Omega.{arith}

@@ -8,9 +8,9 @@ use lib.Dec.{ltb, leb}
 use lib.ListN.{getD}
 use borrow.Author.Tests.{not-true, not-false, lt-leb, le-leb}
 use Rattle.lists.specs.Words.{below}
+use Rattle.lists.specs.Walks.{below-next, below-fails}
 use Rattle.lists.specs.WordsLaws.{join, right-fails}
 use Rattle.arrays.specs.Phases.{goodPhase, inStep}
-use Rattle.arrays.proofs.Rows.{below-more, below-not}
 use Rattle.phases.proofs.is_in_step.Statement.{statement}
 use Rattle.phases.proofs.is_in_step.Tie as tie
 
@@ -43,7 +43,7 @@ returns-2 c =
     let l = c .before .before .before .before .loop in
     sym
     (right-fails (leb (a .flying) (a .depth))
-    (below-not (a .depth) (λ i. goodPhase (ltb i (a .flying)) (getD (a .phases .now) i 0)) (l .place) (c .before .before .before .loop-test .taken) (sym (c .before .is-good-phase .ensures) ∙ not-true _ (c .if2 .taken))))
+    (below-fails (λ i. goodPhase (ltb i (a .flying)) (getD (a .phases .now) i 0)) (a .depth) (l .place) (c .before .before .before .loop-test .taken) (sym (c .before .is-good-phase .ensures) ∙ not-true _ (c .if2 .taken))))
 
 add-place : tie.Need-add-place Inv-loop μ-loop
 add-place c = omega arith
@@ -55,7 +55,7 @@ loop-again : tie.Need-loop-again Inv-loop μ-loop
 loop-again c =
     let a = c .before .before .before .before .before .before .before .args in
     let l = c .before .before .before .before .loop in
-    (omega (arith, c .before .before .before .loop-test .taken), below-more (l .place) (λ i. goodPhase (ltb i (a .flying)) (getD (a .phases .now) i 0)) (l .inv .1) (sym (c .before .is-good-phase .ensures) ∙ not-false _ (c .if2 .left)))
+    (omega (arith, c .before .before .before .loop-test .taken), below-next (λ i. goodPhase (ltb i (a .flying)) (getD (a .phases .now) i 0)) (l .place) (sym (c .before .is-good-phase .ensures) ∙ not-false _ (c .if2 .left)) (l .inv .1))
 
 returns-3 : tie.Need-returns-3 Inv-loop μ-loop
 unfolding inStep

@@ -3,8 +3,6 @@ use lib.ListN.{length-set}
 use borrow.Author.Needs.{needs}
 use Rattle.places.proofs.follow.Statement.{statement}
 use Rattle.places.proofs.follow.Tie as tie
-use Rattle.tags.proofs.gap_down.Reads as gap-down-reads
-use Rattle.tags.proofs.gap_up.Reads as gap-up-reads
 
 mul-from : tie.Need-mul-from
 mul-from c = search needs

@@ -1,8 +1,7 @@
-use mathlib.Core.Path.{_≡_, sym, ap, _∙_}
+use mathlib.Core.Path.{_≡_, ap, _∙_}
 use Prim.Native.Nat.{ℕ, _-_, _*_, _≤_, _<_}
 use native.Mathlib.Omega.{arith}
 use Rattle.rules.specs.Numbers.{down}
-use Rattle.rules.specs.declared.Settings.{Settings}
 use Rattle.rules.specs.Events.{back}
 use Rattle.rules.proofs.Credit.{reach-le}
 use borrow.Author.Needs.{needs}

@@ -1,5 +1,5 @@
-use mathlib.Core.Path.{_≡_, ap}
-use Prim.Native.Nat.{ℕ, _*_}
+use mathlib.Core.Path.{ap}
+use Prim.Native.Nat.{_*_}
 use native.Mathlib.Omega.{arith}
 use Rattle.rules.specs.Numbers.{down}
 use Rattle.rules.proofs.Spacings.{down-le, cost-le}

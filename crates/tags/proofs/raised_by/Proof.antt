@@ -1,4 +1,3 @@
-use mathlib.Core.Path.{_≡_}
 use native.Mathlib.Omega.{arith}
 use Rattle.rules.proofs.Raises.{counts-le}
 use borrow.Author.Needs.{needs}

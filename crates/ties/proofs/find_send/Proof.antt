@@ -1,4 +1,4 @@
--- `hearing::find_send` meets its contract: a request that ties, and whether it is the first of its guest. Assumes nothing.
+-- `ties::find_send` meets its contract: a request that ties, and whether it is the first of its guest. Assumes nothing.
 use Prim.Native.Nat.{_<_}
 use mathlib.Core.Path.{sym, _∙_}
 use native.Mathlib.Omega.{arith}

@@ -1,4 +1,4 @@
--- `hearing::find_tied` meets its contract. The loop's invariant: no request before place i has a line that was heard. The measure is what is left of those that wait. Assumes nothing.
+-- `ties::find_tied` meets its contract. The loop's invariant: no request before place i has a line that was heard. The measure is what is left of those that wait. Assumes nothing.
 use Prim.Native.Nat.{ℕ, _-_, _≤_, _<_}
 use mathlib.Core.Path.{_≡_, refl, sym, _∙_}
 use mathlib.Core.Bool.{false}

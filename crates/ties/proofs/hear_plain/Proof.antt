@@ -1,4 +1,4 @@
--- `hearing::hear_plain` meets its contract. Assumes nothing.
+-- `ties::hear_plain` meets its contract. Assumes nothing.
 use mathlib.Core.Path.{ap}
 use Rattle.judge.specs.Hearing.{saidOf}
 use borrow.Author.Needs.{needs}

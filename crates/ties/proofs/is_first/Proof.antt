@@ -1,4 +1,4 @@
--- `hearing::is_first` meets its contract. The loop's invariant: no request before place i is of that guest. The measure is what is left of the places before it. Assumes nothing.
+-- `ties::is_first` meets its contract. The loop's invariant: no request before place i is of that guest. The measure is what is left of the places before it. Assumes nothing.
 use Prim.Native.Nat.{_≤_, _-_}
 use mathlib.Core.Path.{_≡_, refl, sym, ap, _∙_}
 use mathlib.Core.Bool.{true, not}

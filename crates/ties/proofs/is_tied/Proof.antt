@@ -1,4 +1,4 @@
--- `hearing::is_tied` meets its contract: its three tests are those of the phase, and of the tag. Assumes nothing.
+-- `ties::is_tied` meets its contract: its three tests are those of the phase, and of the tag. Assumes nothing.
 use native.Mathlib.Omega.{arith}
 use mathlib.Core.Path.{_∙_}
 use Rattle.judge.proofs.Ties.{row-there, ties-any, tied-late, tied-none, tied-weight, tied-reservation}

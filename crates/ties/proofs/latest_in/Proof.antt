@@ -1,4 +1,4 @@
--- `hearing::latest_in` meets its contract, by the phase. Assumes nothing.
+-- `ties::latest_in` meets its contract, by the phase. Assumes nothing.
 use mathlib.Core.Path.{ap, sym, _∙_}
 use Rattle.rules.specs.declared.Phase.{Phase}
 use Rattle.judge.specs.Hearing.{latestIn}

@@ -1,4 +1,4 @@
--- `hearing::says_tied` meets its contract: a request that is tied, and its line. Assumes nothing.
+-- `ties::says_tied` meets its contract: a request that is tied, and its line. Assumes nothing.
 use mathlib.Core.Path.{ap, _∙_}
 use mathlib.Core.Bool.{Bool}
 use borrow.Author.Tests.{not-true, not-false}

@@ -1,4 +1,4 @@
--- `hearing::tag_at` meets its contract, by the phase. Assumes nothing.
+-- `ties::tag_at` meets its contract, by the phase. Assumes nothing.
 use mathlib.Core.Path.{ap, sym}
 use Rattle.rules.specs.declared.Phase.{Phase}
 use Rattle.table.specs.Columns.{waitingAt}

@@ -7,7 +7,7 @@ use lib.Dec.{eqb}
 use lib.ListN.{length, drop}
 use borrow.Author.Tests.{eq-eqb, ne-eqb}
 use Rattle.lists.specs.Words.{all}
-use Rattle.lists.specs.Walks.{all-start, all-next, all-end}
+use Rattle.lists.specs.Walks.{all-next, all-end}
 use Rattle.lists.specs.WordsLaws.{place-not}
 use Rattle.unused.proofs.is_blank_before.Statement.{statement}
 use Rattle.unused.proofs.is_blank_before.Tie as tie
