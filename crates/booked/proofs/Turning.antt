@@ -33,7 +33,8 @@ use Rattle.table.specs.declared.gates.Decision.{Decision}
 use Rattle.table.specs.Does.{Lent, Leaves}
 use Rattle.table.proofs.Lens.{written-shown, known-room}
 use Rattle.table.proofs.Facts.{facts}
-use Rattle.enter.specs.Enters.{EntersAt, Enters}
+use Rattle.index.specs.Index.{Beside}
+use Rattle.enter.specs.Enters.{EntersAt, Enters, EntersBeside}
 use Rattle.enter.specs.declared.Entered.{Entered}
 use Rattle.enter.specs.declared.Entered.the-variants.{Refused as Barred, At}
 use Rattle.step.proofs.After.{choice-known}
@@ -260,3 +261,7 @@ settled-asks n h hs vs es bk fg k e x ck dg eb ef o is js ls y =
 -- what entered, from what the entering answered
 pub entered-at : (e : Event) (g : Gate) (gs ws fs : List ℕ) (a : Entered) (hs vs es : List ℕ) → Enters e g gs ws fs a hs vs es → (h : Gate) → a ≡ At h → EntersAt e g gs ws fs h hs vs es
 entered-at e g gs ws fs a hs vs es c h q = subst (λ (y : Entered). Enters e g gs ws fs y hs vs es) q c
+
+-- the index of a table whose event was refused
+pub refused-beside : {vs ix : List ℕ} (g : Gate) (a : Entered) (r : Refusal) → a ≡ Barred r → EntersBeside g a vs ix → Beside vs ix (g .waiting)
+refused-beside {vs} {ix} g a r q b = subst (λ (y : Entered). EntersBeside g y vs ix) q b

@@ -19,6 +19,7 @@ ghost use Rattle.rules.specs.Choice.{choice};
 ghost use Rattle.rules.specs.declared.Event.the-variants.{Arrival};
 ghost use Rattle.table.specs.View.{Known};
 ghost use Rattle.table.specs.Does.{Leaves};
+ghost use Rattle.index.specs.Index.{Beside};
 ghost use Rattle.book.specs.Page.{turned};
 ghost use Rattle.tally.specs.Kept.{pageOf, Kept};
 ghost use Rattle.tally.specs.Notes.{struckAt, sentFor};
@@ -95,22 +96,26 @@ fn accepted(
     book: &mut [u64],
     figures: &mut [u64],
     event: Event,
+    index: &mut [u16],
 ) -> Decision
     requires { ⌜ Known gate (now guests) (now waiting) (now flight) ⌝ }
     requires { ⌜ Entering number event gate (now waiting) (now book) (now figures) ⌝ }
+    requires { ⌜ Beside (now waiting) (now index) (gate .waiting) ⌝ }
     ensures { λ r. ⌜ Leaves choice gate (now (guests .entry)) (now (waiting .entry)) (now (flight .entry)) r (now (guests .exit)) (now (waiting .exit)) (now (flight .exit)) ⌝ }
     ensures { λ r. ⌜ now (book .exit) ≡ struckIn (r .answer) gate (notedIn event gate (now (waiting .entry)) (now (book .entry))) ⌝ }
     ensures { λ r. ⌜ now (figures .exit) ≡ sentIn (r .answer) gate (notedIn event gate (now (waiting .entry)) (now (book .entry))) (countedIn event (now (figures .entry))) ⌝ }
+    ensures { λ r. ⌜ Beside (now (waiting .exit)) (now (index .exit)) (r .gate .waiting) ⌝ }
 {
     noted(gate, &waiting[..], book, figures, event);
-    let made = choose::choose(gate, guests, waiting, flight);
+    let made = choose::choose(gate, guests, waiting, flight, index);
     let answer = made.answer;
     settled(gate, book, figures, answer);
     made
 }
 
 // One event: refused, and every number stands as it did; or it enters, is noted and counted, the choice is made, and what is sent is struck and
-// counted. The gate afterwards. `number` events were judged before it: it bounds the counts, and the code does not read it.
+// counted; the index follows the waiting rows. The gate afterwards. `number` events were judged before it: it bounds the counts, and the code does not
+// read it.
 pub fn turn(
     number: u64,
     gate: Gate,
@@ -120,19 +125,32 @@ pub fn turn(
     book: &mut [u64],
     figures: &mut [u64],
     event: Event,
+    index: &mut [u16],
 ) -> Gate
     requires { ⌜ Known gate (now guests) (now waiting) (now flight) ⌝ }
     requires { ⌜ Kept number gate (now waiting) (now book) (now figures) ⌝ }
     requires { ⌜ number + 1 < 2 ^ 64 ⌝ }
+    requires { ⌜ Beside (now waiting) (now index) (gate .waiting) ⌝ }
     ensures { λ r. ⌜ pageOf r (now (guests .exit)) (now (waiting .exit)) (now (flight .exit)) (now (book .exit)) (now (figures .exit)) ≡ turned (pageOf gate (now (guests .entry)) (now (waiting .entry)) (now (flight .entry)) (now (book .entry)) (now (figures .entry))) event ⌝ }
     ensures { λ r. ⌜ Known r (now (guests .exit)) (now (waiting .exit)) (now (flight .exit)) ⌝ }
     ensures { λ r. ⌜ Kept (number + 1) r (now (waiting .exit)) (now (book .exit)) (now (figures .exit)) ⌝ }
+    ensures { λ r. ⌜ Beside (now (waiting .exit)) (now (index .exit)) (r .waiting) ⌝ }
 {
-    let entered = enter::enter(gate, guests, waiting, flight, event);
+    let entered = enter::enter(gate, guests, waiting, flight, event, index);
     match entered {
         Entered::Refused(_) => gate,
         Entered::At(moved) => {
-            let made = accepted(number, moved, guests, waiting, flight, book, figures, event);
+            let made = accepted(
+                number,
+                moved,
+                guests,
+                waiting,
+                flight,
+                book,
+                figures,
+                event,
+                index,
+            );
             made.gate
         }
     }

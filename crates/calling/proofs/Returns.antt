@@ -15,6 +15,7 @@ use Rattle.table.specs.View.{Handed, countable, short, soundNumbers, Known}
 use Rattle.sound.specs.Fitting.{Fitting}
 use Rattle.sound.proofs.Fitted.{fitting}
 use Rattle.table.specs.Does.{does, refusing}
+use Rattle.index.specs.Index.{Beside}
 use Rattle.gate.specs.Promise.{seen, unchanged, called}
 use Rattle.gate.specs.Judges.{Judges}
 use Rattle.gate.specs.declared.Judged.{Judged}
@@ -69,3 +70,7 @@ module _ (g : Gate) (gs ws fs : List ℕ) where
     -- of others, which a refusal leaves
     pub bad-stays : (r : Refusal) (o : Outcome) → o ≡ refusing r g → Judges (o .gate) gs ws fs j
     bad-stays r o q = subst (λ (x : Outcome). Judges (x .gate) gs ws fs j) (sym q) found
+
+  -- and so does the index of the rows
+  pub bad-beside : (r : Refusal) (o : Outcome) → o ≡ refusing r g → (ix : List ℕ) → Beside ws ix (g .waiting) → Beside ws ix (o .gate .waiting)
+  bad-beside r o q ix b = subst (λ (x : Outcome). Beside ws ix (x .gate .waiting)) (sym q) b

@@ -15,6 +15,7 @@ ghost use mathlib.Core.Path.{_≡_};
 ghost use Rattle.rules.specs.declared.Event.the-variants.{Arrival, Completion, Tick};
 ghost use Rattle.gate.specs.Promise.{seen, called};
 ghost use Rattle.gate.specs.Judges.{Judges};
+ghost use Rattle.index.specs.Index.{Beside};
 
 // The lent tables judged, 2 before 3; counts out of range give 3 at once.
 pub fn judge(gate: Gate, guests: &[u64], waiting: &[u64], flight: &[u64]) -> Judged
@@ -32,9 +33,31 @@ pub fn judge(gate: Gate, guests: &[u64], waiting: &[u64], flight: &[u64]) -> Jud
     Judged::Good
 }
 
-// One event on lent tables of which `found` is true: no public call, but what one is made of. `found` stays true of what is handed back, so that a run
-// of events needs one judgement of the tables.
+// One event on lent tables of which `found` is true: no public call, but what one is made of. `found` stays true of what is handed back, and so does the index
+// of the waiting rows, so that a run of events needs one judgement of the tables and one building of the index. An index of no numbers is none.
 pub fn follow(
+    gate: Gate,
+    guests: &mut [u64],
+    waiting: &mut [u64],
+    flight: &mut [u64],
+    found: Judged,
+    event: Event,
+    index: &mut [u16],
+) -> Outcome
+    requires { ⌜ Judges gate (now guests) (now waiting) (now flight) found ⌝ }
+    requires { ⌜ Beside (now waiting) (now index) (gate .waiting) ⌝ }
+    ensures { λ r. ⌜ seen (r, now (guests .exit), now (waiting .exit), now (flight .exit)) ≡ seen (called event gate (now (guests .entry)) (now (waiting .entry)) (now (flight .entry))) ⌝ }
+    ensures { λ r. ⌜ Judges (r .gate) (now (guests .exit)) (now (waiting .exit)) (now (flight .exit)) found ⌝ }
+    ensures { λ r. ⌜ Beside (now (waiting .exit)) (now (index .exit)) (r .gate .waiting) ⌝ }
+{
+    match found {
+        Judged::Bad(why) => gates::refused(gate, why),
+        Judged::Good => step::step_and_wake(gate, guests, waiting, flight, event, index),
+    }
+}
+
+// The same with no index: the event walks the rows, which costs less than to build one for it.
+fn walk(
     gate: Gate,
     guests: &mut [u64],
     waiting: &mut [u64],
@@ -44,12 +67,9 @@ pub fn follow(
 ) -> Outcome
     requires { ⌜ Judges gate (now guests) (now waiting) (now flight) found ⌝ }
     ensures { λ r. ⌜ seen (r, now (guests .exit), now (waiting .exit), now (flight .exit)) ≡ seen (called event gate (now (guests .entry)) (now (waiting .entry)) (now (flight .entry))) ⌝ }
-    ensures { λ r. ⌜ Judges (r .gate) (now (guests .exit)) (now (waiting .exit)) (now (flight .exit)) found ⌝ }
 {
-    match found {
-        Judged::Bad(why) => gates::refused(gate, why),
-        Judged::Good => step::step_and_wake(gate, guests, waiting, flight, event),
-    }
+    let mut none = [0u16; 1];
+    follow(gate, guests, waiting, flight, found, event, &mut none[..0])
 }
 
 // One event: the lent tables are judged, then the event itself.
@@ -63,7 +83,7 @@ pub fn call(
     ensures { λ r. ⌜ seen (r, now (guests .exit), now (waiting .exit), now (flight .exit)) ≡ seen (called event gate (now (guests .entry)) (now (waiting .entry)) (now (flight .entry))) ⌝ }
 {
     let found = judge(gate, &guests[..], &waiting[..], &flight[..]);
-    follow(gate, guests, waiting, flight, found, event)
+    walk(gate, guests, waiting, flight, found, event)
 }
 
 // A tick: the time is set, and the choice made.

@@ -167,20 +167,8 @@ fn follow(
     if !prints::output::title(out, log) {
         return End::Unwritten;
     }
-    if have < 4096 {
-        return pumps::close(
-            version,
-            buffer,
-            rest,
-            gate,
-            guests,
-            waiting,
-            flight,
-            out,
-            log,
-        );
-    }
-    pumps::pump(
+    pumps::run(
+        have < 4096,
         version,
         buffer,
         rest,

@@ -21,7 +21,7 @@ use Rattle.moves.specs.Moves.{fallOf, nextDropped, tagDropped, tagsDropped, las
 -- w is xs after i turns
 module _ (g d : ℕ) (xs w : List ℕ) (i : ℕ) (e : w ≡ tagsDropped g d xs i) where
   -- row i is as it was
-  read : (j : ℕ) → waitingAt w i j ≡ waitingAt xs i j
+  pub read : (j : ℕ) → waitingAt w i j ≡ waitingAt xs i j
   read j = ap (λ (ws : List ℕ). waitingAt ws i j) e ∙ stores-other (λ k. k * waitingWide + RTAG) (tagDropped g d xs) xs i (i * waitingWide + j) (λ k m f. omega arith)
 
   -- so what follows it does not wrap
@@ -104,3 +104,12 @@ module _ (g c : ℕ) (gs : List ℕ) (none : guestAt gs g RESERVATION ≡ 0) whe
   -- and so are the tags
   pub no-tags-dropped : (ws : List ℕ) (n : ℕ) → ws ≡ tagsDropped g (fallOf g c gs) ws n
   no-tags-dropped ws n = same-tags g ws n ∙ ap (λ (d : ℕ). tagsDropped g d ws n) (sym nothing)
+
+-- by the numbers of the code, s the spacing, m the next number dropped alike and r what follows the last tag, the tables are those of the drop
+pub dropped-is : (g c n : ℕ) (gs ws : List ℕ) {w : List ℕ} {s m r : ℕ} → s ≡ down (guestAt gs g RESERVATION) → m ≡ guestAt gs g RNEXT - c * s
+    → w ≡ tagsDropped g (c * s) ws n → r ≡ lastPast g (c * s) s m ws n → (set gs (g * guestWide + RNEXT) r ≡ nextDropped g c n ws gs) × (w ≡ tagsDropped g (fallOf g c gs) ws n)
+dropped-is g c n gs ws {w} {s} {m} {r} e f h l = (
+  ap (set gs (g * guestWide + RNEXT))
+      (l ∙ ap (λ (x : ℕ). lastPast g (c * s) s x ws n) f ∙ ap (λ (x : ℕ). lastPast g (c * x) x (guestAt gs g RNEXT - c * x) ws n) e),
+  h ∙ ap (λ (x : ℕ). tagsDropped g (c * x) ws n) e,
+)

@@ -6,3 +6,4 @@ pub mod EventReturns
 pub mod Arrivals
 pub mod ArriveReturns
 pub mod Settles
+pub mod Besides

@@ -1,4 +1,5 @@
--- What the functions of an event promise: a refusal and every number as it was, or the table that the event enters, written over the numbers.
+-- What the functions of an event promise: a refusal and every number as it was, or the table that the event enters, written over the numbers; and beside the waiting
+-- rows their index.
 use Prim.Native.Nat.{ℕ}
 use mathlib.Core.Path.{_≡_}
 use mathlib.Core.List.{List}
@@ -8,6 +9,7 @@ use Rattle.rules.specs.declared.Event.{Event}
 use Rattle.rules.specs.declared.Gate.{Gate}
 use Rattle.table.specs.View.{tableOf, Known}
 use Rattle.table.specs.Does.{written}
+use Rattle.index.specs.Index.{Beside}
 use Rattle.enter.specs.declared.Entered.{Entered}
 use Rattle.enter.specs.declared.Entered.the-variants.{Refused, At}
 
@@ -21,3 +23,8 @@ pub record EntersAt (e : Event) (g : Gate) (gs ws fs : List ℕ) (h : Gate) (hs 
 abbrev pub Enters : Event → Gate → (gs ws fs : List ℕ) → Entered → (hs vs es : List ℕ) → Type 0
 Enters e g gs ws fs (Refused r) hs vs es = (verdict (tableOf g gs ws fs) e ≡ refuse r) × (hs ≡ gs) × (vs ≡ ws) × (es ≡ fs)
 Enters e g gs ws fs (At h) hs vs es = EntersAt e g gs ws fs h hs vs es
+
+-- and ix stands beside the rows vs that it leaves
+abbrev pub EntersBeside : Gate → Entered → (vs ix : List ℕ) → Type 0
+EntersBeside g (Refused r) vs ix = Beside vs ix (g .waiting)
+EntersBeside g (At h) vs ix = Beside vs ix (h .waiting)

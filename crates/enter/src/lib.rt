@@ -4,10 +4,12 @@ use rules::Event;
 use rules::Gate;
 use rules::Refusal;
 ghost use Rattle.table.specs.View.{Known};
-ghost use Rattle.enter.specs.Enters.{Enters};
+ghost use Rattle.index.specs.Index.{Beside};
+ghost use Rattle.enter.specs.Enters.{Enters, EntersBeside};
 
 pub mod arrive; // an arrival
 pub mod events; // a completion and a tick
+mod rows; // what an arrival asks of the waiting rows, and the placing
 
 // What an event comes to: it is refused, or it enters, and this is the gate as the choice finds it.
 pub enum Entered {
@@ -15,19 +17,30 @@ pub enum Entered {
     At(Gate),
 }
 
-// An event: refused, and every number stands as it did, or entered.
+// An event: refused, and every number stands as it did, or entered. The index follows the rows.
 pub fn enter(
     gate: Gate,
     guests: &mut [u64],
     waiting: &mut [u64],
     flight: &mut [u64],
     event: Event,
+    index: &mut [u16],
 ) -> Entered
     requires { ⌜ Known gate (now guests) (now waiting) (now flight) ⌝ }
+    requires { ⌜ Beside (now waiting) (now index) (gate .waiting) ⌝ }
     ensures { λ r. ⌜ Enters event gate (now (guests .entry)) (now (waiting .entry)) (now (flight .entry)) r (now (guests .exit)) (now (waiting .exit)) (now (flight .exit)) ⌝ }
+    ensures { λ r. ⌜ EntersBeside gate r (now (waiting .exit)) (now (index .exit)) ⌝ }
 {
     match event {
-        Event::Arrival(what, time) => arrive::arrive(gate, guests, waiting, flight, what, time),
+        Event::Arrival(what, time) => arrive::arrive(
+            gate,
+            guests,
+            waiting,
+            flight,
+            what,
+            time,
+            index,
+        ),
         Event::Completion(which, time) => events::complete(
             gate,
             guests,

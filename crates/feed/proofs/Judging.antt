@@ -11,6 +11,7 @@ use Rattle.table.specs.declared.gates.Decision.{Decision}
 use Rattle.table.specs.View.{decisionOf, tableOf, Known}
 use Rattle.table.specs.Does.{Leaves}
 use Rattle.table.proofs.Left.{stays}
+use Rattle.index.specs.Index.{Beside}
 use Rattle.lines.specs.Line.{lineOf, LINE}
 use Rattle.lines.specs.Put.{Put}
 use Rattle.lines.proofs.PutLaws.{put-as}
@@ -32,6 +33,10 @@ module _ (g : Gate) (gs ws fs : List ℕ) (x : Read) where
     subst (λ (y : Decision). Leaves (λ t. answered t x) g gs ws fs y gs ws fs) (sym q) (stays g gs ws fs k {f = λ t. answered t x} (ap (answered (tableOf g gs ws fs)) p)),
     subst (λ (y : Decision). Known (y .gate) gs ws fs) (sym q) k,
   )
+
+  -- and the index beside its rows
+  pub bad-beside : {ix : List ℕ} (d : Decision) → d ≡ decisionOf g (Refused BadEvent) → Beside ws ix (g .waiting) → Beside ws ix (d .gate .waiting)
+  bad-beside {ix} d q b = subst (λ (y : Decision). Beside ws ix (y .gate .waiting)) (sym q) b
 
 -- what is known once the event was judged and its line written
 pub judged-by : (g : Gate) (gs ws fs : List ℕ) (x e : Read) → x ≡ e → (number at next : ℕ) (out out′ : List ℕ) (d : Decision) (hs vs es : List ℕ)

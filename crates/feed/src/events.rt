@@ -1,4 +1,6 @@
 // The events of a part of a trace, each judged and its line written.
+use index::INDEX_WIDE;
+use index::MOST_WALKED;
 use rules::Answer;
 use rules::Gate;
 use rules::Refusal;
@@ -10,6 +12,7 @@ ghost use Prim.Native.Nat.{_+_, _≤_, _<_, _^_, min};
 ghost use lib.ListN.{length, drop};
 ghost use Rattle.table.specs.View.{Known};
 ghost use Rattle.table.specs.Does.{Leaves};
+ghost use Rattle.index.specs.Index.{Beside};
 ghost use Rattle.lines.specs.Line.{LINE};
 ghost use Rattle.trace.specs.Event.{eventOf};
 ghost use Rattle.trace.specs.Printed.{answered};
@@ -23,13 +26,16 @@ fn judge(
     waiting: &mut [u64],
     flight: &mut [u64],
     event: Read,
+    index: &mut [u16],
 ) -> Decision
     requires { ⌜ Known gate (now guests) (now waiting) (now flight) ⌝ }
+    requires { ⌜ Beside (now waiting) (now index) (gate .waiting) ⌝ }
     ensures { λ r. ⌜ Leaves (λ t. answered t event) gate (now (guests .entry)) (now (waiting .entry)) (now (flight .entry)) r (now (guests .exit)) (now (waiting .exit)) (now (flight .exit)) ⌝ }
     ensures { λ r. ⌜ Known (r .gate) (now (guests .exit)) (now (waiting .exit)) (now (flight .exit)) ⌝ }
+    ensures { λ r. ⌜ Beside (now (waiting .exit)) (now (index .exit)) (r .gate .waiting) ⌝ }
 {
     match event {
-        Read::Good(good) => step::step(gate, guests, waiting, flight, good),
+        Read::Good(good) => step::step(gate, guests, waiting, flight, good, index),
         Read::Bad => gates::decided(gate, Answer::Refused(Refusal::BadEvent)),
     }
 }
@@ -52,14 +58,17 @@ fn one(
     flight: &mut [u64],
     out: &mut [u8],
     at: usize,
+    index: &mut [u16],
 ) -> After
     requires { ⌜ from + 14 ≤ length (now bytes) ⌝ }
     requires { ⌜ Known gate (now guests) (now waiting) (now flight) ⌝ }
     requires { ⌜ at + LINE ≤ length (now out) ⌝ }
+    requires { ⌜ Beside (now waiting) (now index) (gate .waiting) ⌝ }
     ensures { λ r. ⌜ Judged (eventOf version (drop from (now (bytes .entry)))) number gate (now (guests .entry)) (now (waiting .entry)) (now (flight .entry)) (r .gate) (now (guests .exit)) (now (waiting .exit)) (now (flight .exit)) at (now (out .entry)) (r .at) (now (out .exit)) ⌝ }
+    ensures { λ r. ⌜ Beside (now (waiting .exit)) (now (index .exit)) (r .gate .waiting) ⌝ }
 {
     let event = items::read_event(version, &bytes[from..from + 14]);
-    let judged = judge(gate, guests, waiting, flight, event);
+    let judged = judge(gate, guests, waiting, flight, event, index);
     let after = judged.gate;
     let answer = judged.answer;
     let next = lines::put_line(out, at, number, answer);
@@ -83,8 +92,8 @@ pub struct Fed {
     pub bytes: usize,
 }
 
-// Judges as many whole events of the bytes of a trace of this version as `out` has room for, the first of which has the number after `number`.
-pub fn feed(
+// Judges as many whole events of the bytes of a trace of this version as `out` has room for, with the index of the waiting rows beside them.
+fn feed_beside(
     version: u64,
     bytes: &[u8],
     number: u64,
@@ -93,9 +102,11 @@ pub fn feed(
     waiting: &mut [u64],
     flight: &mut [u64],
     out: &mut [u8],
+    index: &mut [u16],
 ) -> Fed
     requires { ⌜ Known first (now guests) (now waiting) (now flight) ⌝ }
     requires { ⌜ number + length (now bytes) < 2 ^ 64 ⌝ }
+    requires { ⌜ Beside (now waiting) (now index) (first .waiting) ⌝ }
     ensures { λ r. ⌜ FedBy version (now (bytes .entry)) number first (now (guests .entry)) (now (waiting .entry)) (now (flight .entry)) (r .gate) (now (guests .exit)) (now (waiting .exit)) (now (flight .exit)) (now (out .entry)) (now (out .exit)) (r .events) (r .bytes) ⌝ }
 {
     let n = least(bytes.len() / 14, out.len() / 65);
@@ -114,6 +125,7 @@ pub fn feed(
             flight,
             out,
             at,
+            index,
         );
         gate = after.gate;
         at = after.at;
@@ -124,4 +136,36 @@ pub fn feed(
         events: n,
         bytes: at,
     }
+}
+
+// Judges as many whole events of the bytes of a trace of this version as `out` has room for, the first of which has the number after `number`. One
+// walk builds the index of the waiting rows for all of them, unless so few wait that they are as well walked.
+pub fn feed(
+    version: u64,
+    bytes: &[u8],
+    number: u64,
+    first: Gate,
+    guests: &mut [u64],
+    waiting: &mut [u64],
+    flight: &mut [u64],
+    out: &mut [u8],
+) -> Fed
+    requires { ⌜ Known first (now guests) (now waiting) (now flight) ⌝ }
+    requires { ⌜ number + length (now bytes) < 2 ^ 64 ⌝ }
+    ensures { λ r. ⌜ FedBy version (now (bytes .entry)) number first (now (guests .entry)) (now (waiting .entry)) (now (flight .entry)) (r .gate) (now (guests .exit)) (now (waiting .exit)) (now (flight .exit)) (now (out .entry)) (now (out .exit)) (r .events) (r .bytes) ⌝ }
+{
+    let rows = first.waiting as usize;
+    let mut room = [0u16; INDEX_WIDE];
+    let n = index::begin(&waiting[..], rows, MOST_WALKED < rows, &mut room[..]);
+    feed_beside(
+        version,
+        bytes,
+        number,
+        first,
+        guests,
+        waiting,
+        flight,
+        out,
+        &mut room[..n],
+    )
 }

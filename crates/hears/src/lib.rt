@@ -1,6 +1,9 @@
-// What the lines of another gate say that it did at one event: the line is heard, and the tables follow it. Functions for this repository's own crates.
+// What the lines of another gate say that it did at one event: the line is heard, and the tables follow it, with the index of the waiting rows beside them; one of no
+// numbers is none, and the rows are walked. Functions for this repository's own crates.
+use choose::first_in_line;
 use enter::Entered;
 use judge::Said;
+use picks::Firsts;
 use rules::Answer;
 use rules::Event;
 use rules::Gate;
@@ -14,14 +17,19 @@ use ties::hear_plain;
 use ties::send_of;
 use trace::Read;
 use walks::Found;
+ghost use mathlib.Core.Bool.{_&&_};
 ghost use Prim.Native.Nat.{_+_, _≤_, _<_};
+ghost use lib.Dec.{leb};
 ghost use lib.ListN.{length, drop};
-ghost use Rattle.rules.specs.Choice.{choice};
+ghost use Rattle.rules.specs.Tables.{Request, settingsOf};
+ghost use Rattle.rules.specs.Choice.{dueAt, choice};
 ghost use Rattle.rules.specs.Chosen.{at};
 ghost use Rattle.rules.specs.Run.{step};
-ghost use Rattle.table.specs.View.{waitingOf, tableOf, Known};
+ghost use Rattle.rules.specs.declared.Phase.the-variants.{Reservation};
+ghost use Rattle.table.specs.View.{guestsOf, waitingOf, tableOf, Known};
 ghost use Rattle.walks.specs.Walks.{Picks};
 ghost use Rattle.walks.specs.declared.Found.the-variants.{At};
+ghost use Rattle.index.specs.Index.{Beside};
 ghost use Rattle.sends.specs.Firsts.{FirstOf};
 ghost use Rattle.lines.specs.Line.{LINE};
 ghost use Rattle.trace.specs.Event.{eventOf};
@@ -29,7 +37,7 @@ ghost use Rattle.trace.specs.Printed.{answered};
 ghost use Rattle.trace.specs.declared.Read.the-variants.{Good};
 ghost use Rattle.judge.specs.Acceptable.{entire};
 ghost use Rattle.judge.specs.Judging.{okIn, tagIn, sentAt, heardIn, heardChoice, heard};
-ghost use Rattle.judge.specs.Hearing.{Sends, Hears};
+ghost use Rattle.judge.specs.Hearing.{latestIn, Lending, Sends, Hears};
 
 // The request at `place`, the first of its guest, goes in this phase.
 fn send_in(
@@ -39,19 +47,22 @@ fn send_in(
     flight: &mut [u64],
     place: usize,
     phase: Phase,
+    index: &mut [u16],
 ) -> Gate
     requires { ⌜ Known gate (now guests) (now waiting) (now flight) ⌝ }
     requires { ⌜ (gate .flight < gate .setup .depth) × (place < gate .waiting) ⌝ }
     requires { ⌜ FirstOf (waitingOf (now waiting) (gate .waiting)) place ⌝ }
+    requires { ⌜ Beside (now waiting) (now index) (gate .waiting) ⌝ }
     ensures { λ r. ⌜ Sends (sentAt phase (tableOf gate (now (guests .entry)) (now (waiting .entry)) (now (flight .entry))) place) r (now (guests .exit)) (now (waiting .exit)) (now (flight .exit)) ⌝ }
+    ensures { λ r. ⌜ Beside (now (waiting .exit)) (now (index .exit)) (r .waiting) ⌝ }
 {
     match phase {
         Phase::Reservation => {
-            let sent = send_by_reservation(gate, &guests[..], waiting, flight, place);
+            let sent = send_by_reservation(gate, &guests[..], waiting, flight, place, index);
             sent.gate
         }
         Phase::Weight => {
-            let sent = send_by_weight(gate, guests, waiting, flight, place);
+            let sent = send_by_weight(gate, guests, waiting, flight, place, index);
             sent.gate
         }
     }
@@ -68,12 +79,15 @@ fn hear_send(
     number: u64,
     said: &[u8],
     text: &mut [u8],
+    index: &mut [u16],
 ) -> Said
     requires { ⌜ Known gate (now guests) (now waiting) (now flight) ⌝ }
     requires { ⌜ gate .flight < gate .setup .depth ⌝ }
     requires { ⌜ Picks (okIn phase (tableOf gate (now guests) (now waiting) (now flight))) (tagIn phase) (waitingOf (now waiting) (gate .waiting)) (At place) ⌝ }
     requires { ⌜ LINE ≤ length (now text) ⌝ }
+    requires { ⌜ Beside (now waiting) (now index) (gate .waiting) ⌝ }
     ensures { λ r. ⌜ Hears (heardIn number (now (said .entry)) phase (tableOf gate (now (guests .entry)) (now (waiting .entry)) (now (flight .entry))) (tagIn phase (at (waitingOf (now (waiting .entry)) (gate .waiting)) place))) (sentAt phase (tableOf gate (now (guests .entry)) (now (waiting .entry)) (now (flight .entry))) place .answer) number r (now (guests .exit)) (now (waiting .exit)) (now (flight .exit)) ⌝ }
+    ensures { λ r. ⌜ Beside (now (waiting .exit)) (now (index .exit)) (r .gate .waiting) ⌝ }
 {
     let answer = send_of(&waiting[..], place, phase);
     let told = find_send(
@@ -85,18 +99,33 @@ fn hear_send(
         number,
         said,
         text,
+        &index[..],
     );
     let there = told.place;
     let long = told.long;
     if long == 0 {
         return Said { gate, answer, long };
     }
-    let after = send_in(gate, guests, waiting, flight, there, phase);
+    let after = send_in(gate, guests, waiting, flight, there, phase, index);
     Said {
         gate: after,
         answer,
         long,
     }
+}
+
+// What each phase would send.
+fn firsts_of(gate: Gate, guests: &[u64], waiting: &[u64], index: &[u16]) -> Firsts
+    requires { ⌜ Lending gate (now guests) (now waiting) ⌝ }
+    requires { ⌜ Beside (now waiting) (now index) (gate .waiting) ⌝ }
+    ensures { λ r. ⌜ Picks (λ q. dueAt (settingsOf (guestsOf (now (guests .entry)) (gate .guests)) q) (gate .time) q && leb (q .ltag) (latestIn Reservation gate)) Request.rtag (waitingOf (now (waiting .entry)) (gate .waiting)) (r .due) ⌝ }
+    ensures { λ r. ⌜ Picks (λ q. leb (q .ltag) (gate .time)) Request.stag (waitingOf (now (waiting .entry)) (gate .waiting)) (r .open) ⌝ }
+{
+    let known = gate.guests as usize;
+    let count = gate.waiting as usize;
+    let time = gate.time;
+    let latest = latest_limit(gate.setup.rule, time);
+    first_in_line(waiting, count, guests, known, time, latest, index)
 }
 
 // The choice at the table that an event entered.
@@ -108,19 +137,18 @@ fn hear_choice(
     number: u64,
     said: &[u8],
     text: &mut [u8],
+    index: &mut [u16],
 ) -> Said
     requires { ⌜ Known gate (now guests) (now waiting) (now flight) ⌝ }
     requires { ⌜ LINE ≤ length (now text) ⌝ }
+    requires { ⌜ Beside (now waiting) (now index) (gate .waiting) ⌝ }
     ensures { λ r. ⌜ Hears (heardChoice number (now (said .entry)) (tableOf gate (now (guests .entry)) (now (waiting .entry)) (now (flight .entry)))) (choice (tableOf gate (now (guests .entry)) (now (waiting .entry)) (now (flight .entry))) .answer) number r (now (guests .exit)) (now (waiting .exit)) (now (flight .exit)) ⌝ }
+    ensures { λ r. ⌜ Beside (now (waiting .exit)) (now (index .exit)) (r .gate .waiting) ⌝ }
 {
     if gate.setup.depth <= gate.flight {
         return hear_plain(gate, Answer::Nothing, number, said, text);
     }
-    let known = gate.guests as usize;
-    let count = gate.waiting as usize;
-    let time = gate.time;
-    let latest = latest_limit(gate.setup.rule, time);
-    let firsts = picks::first_in_line(&waiting[..], count, &guests[..], known, time, latest);
+    let firsts = firsts_of(gate, &guests[..], &waiting[..], &index[..]);
     let found = firsts.due;
     let spare = firsts.open;
     match found {
@@ -134,6 +162,7 @@ fn hear_choice(
             number,
             said,
             text,
+            index,
         ),
         Found::Nothing => match spare {
             Found::At(place) => hear_send(
@@ -146,6 +175,7 @@ fn hear_choice(
                 number,
                 said,
                 text,
+                index,
             ),
             Found::Nothing => hear_plain(gate, Answer::Nothing, number, said, text),
         },
@@ -162,15 +192,27 @@ fn hear_good(
     number: u64,
     said: &[u8],
     text: &mut [u8],
+    index: &mut [u16],
 ) -> Said
     requires { ⌜ Known gate (now guests) (now waiting) (now flight) ⌝ }
     requires { ⌜ LINE ≤ length (now text) ⌝ }
+    requires { ⌜ Beside (now waiting) (now index) (gate .waiting) ⌝ }
     ensures { λ r. ⌜ Hears (heard number (now (said .entry)) (tableOf gate (now (guests .entry)) (now (waiting .entry)) (now (flight .entry))) (entire (Good event))) (step (tableOf gate (now (guests .entry)) (now (waiting .entry)) (now (flight .entry))) event .answer) number r (now (guests .exit)) (now (waiting .exit)) (now (flight .exit)) ⌝ }
+    ensures { λ r. ⌜ Beside (now (waiting .exit)) (now (index .exit)) (r .gate .waiting) ⌝ }
 {
-    let entered = enter::enter(gate, guests, waiting, flight, event);
+    let entered = enter::enter(gate, guests, waiting, flight, event, index);
     match entered {
         Entered::Refused(why) => hear_plain(gate, Answer::Refused(why), number, said, text),
-        Entered::At(moved) => hear_choice(moved, guests, waiting, flight, number, said, text),
+        Entered::At(moved) => hear_choice(
+            moved,
+            guests,
+            waiting,
+            flight,
+            number,
+            said,
+            text,
+            index,
+        ),
     }
 }
 
@@ -186,15 +228,28 @@ pub fn hear(
     number: u64,
     said: &[u8],
     text: &mut [u8],
+    index: &mut [u16],
 ) -> Said
     requires { ⌜ from + 14 ≤ length (now bytes) ⌝ }
     requires { ⌜ Known gate (now guests) (now waiting) (now flight) ⌝ }
     requires { ⌜ LINE ≤ length (now text) ⌝ }
+    requires { ⌜ Beside (now waiting) (now index) (gate .waiting) ⌝ }
     ensures { λ r. ⌜ Hears (heard number (now (said .entry)) (tableOf gate (now (guests .entry)) (now (waiting .entry)) (now (flight .entry))) (entire (eventOf version (drop from (now (bytes .entry)))))) (answered (tableOf gate (now (guests .entry)) (now (waiting .entry)) (now (flight .entry))) (eventOf version (drop from (now (bytes .entry)))) .answer) number r (now (guests .exit)) (now (waiting .exit)) (now (flight .exit)) ⌝ }
+    ensures { λ r. ⌜ Beside (now (waiting .exit)) (now (index .exit)) (r .gate .waiting) ⌝ }
 {
     let event = items::read_event(version, &bytes[from..from + 14]);
     match event {
-        Read::Good(good) => hear_good(gate, guests, waiting, flight, good, number, said, text),
+        Read::Good(good) => hear_good(
+            gate,
+            guests,
+            waiting,
+            flight,
+            good,
+            number,
+            said,
+            text,
+            index,
+        ),
         Read::Bad => hear_plain(gate, Answer::Refused(Refusal::BadEvent), number, said, text),
     }
 }

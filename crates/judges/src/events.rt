@@ -2,6 +2,7 @@
 use crate::ended;
 use crate::wrong_at;
 use hears::hear;
+use index::INDEX_WIDE;
 use judge::Judged;
 use rules::Answer;
 use rules::Gate;
@@ -12,6 +13,7 @@ ghost use Prim.Native.Nat.{_+_, _≤_, _<_, _^_};
 ghost use lib.ListN.{length};
 ghost use Rattle.rules.specs.Tables.{Table};
 ghost use Rattle.table.specs.View.{tableOf, Known};
+ghost use Rattle.index.specs.Index.{Beside};
 ghost use Rattle.lines.specs.Line.{LINE};
 ghost use Rattle.judge.specs.Acceptable.{cutAsked, askedFrom};
 ghost use Rattle.judge.specs.Judging.{judgedFrom};
@@ -32,8 +34,8 @@ fn judge_rest(rest: &[u8], number: u64, said: &[u8], text: &mut [u8]) -> Judged
     ended(number + 3, &said[long..])
 }
 
-// Judges the lines behind the header line, of the events of a trace of this version, from the tables on that its header opens.
-pub fn judge_events(
+// Judges the lines behind the header line, with the index of the waiting rows beside them.
+fn judge_beside(
     version: u64,
     bytes: &[u8],
     first: Gate,
@@ -42,9 +44,11 @@ pub fn judge_events(
     flight: &mut [u64],
     said: &[u8],
     text: &mut [u8],
+    index: &mut [u16],
 ) -> Judged
     requires { ⌜ Known first (now guests) (now waiting) (now flight) ⌝ }
     requires { ⌜ LINE ≤ length (now text) ⌝ }
+    requires { ⌜ Beside (now waiting) (now index) (first .waiting) ⌝ }
     ensures { λ r. ⌜ r ≡ judgedFrom 0 (tableOf first (now (guests .entry)) (now (waiting .entry)) (now (flight .entry))) (askedFrom version (now (bytes .entry))) (now (said .entry)) ⌝ }
 {
     let n = bytes.len() / 14;
@@ -63,6 +67,7 @@ pub fn judge_events(
             i as u64 + 1,
             &said[at..],
             text,
+            index,
         );
         let answer = heard.answer;
         let long = heard.long;
@@ -74,4 +79,35 @@ pub fn judge_events(
         i += 1;
     }
     judge_rest(&bytes[n * 14..], n as u64, &said[at..], text)
+}
+
+// Judges the lines behind the header line, of the events of a trace of this version, from the tables on that its header opens. One
+// walk builds the index of the waiting rows for all of them.
+pub fn judge_events(
+    version: u64,
+    bytes: &[u8],
+    first: Gate,
+    guests: &mut [u64],
+    waiting: &mut [u64],
+    flight: &mut [u64],
+    said: &[u8],
+    text: &mut [u8],
+) -> Judged
+    requires { ⌜ Known first (now guests) (now waiting) (now flight) ⌝ }
+    requires { ⌜ LINE ≤ length (now text) ⌝ }
+    ensures { λ r. ⌜ r ≡ judgedFrom 0 (tableOf first (now (guests .entry)) (now (waiting .entry)) (now (flight .entry))) (askedFrom version (now (bytes .entry))) (now (said .entry)) ⌝ }
+{
+    let mut index = [0u16; INDEX_WIDE];
+    index::build(&waiting[..], first.waiting as usize, &mut index);
+    judge_beside(
+        version,
+        bytes,
+        first,
+        guests,
+        waiting,
+        flight,
+        said,
+        text,
+        &mut index,
+    )
 }

@@ -50,7 +50,7 @@ fn after(limit: u64, tag: u64) -> u64
 
 // What the reservation phase holds against its bound of the row at `at`: its reservation tag, past every bound where its guest has no reservation or its
 // limit tag is above the latest that passes.
-fn due_tag(waiting: &[u64], at: usize, guests: &[u64], guest: usize, latest: u64) -> u64
+pub fn due_tag(waiting: &[u64], at: usize, guests: &[u64], guest: usize, latest: u64) -> u64
     requires { ⌜ (at + waitingWide ≤ length (now waiting)) × (guest * guestWide + guestWide ≤ length (now guests)) × (guest ≤ mostGuests) × (latest ≤ ceiling) ⌝ }
     ensures { λ t. ⌜ Counts (ltb 0 (guestAt (now (guests .entry)) guest RESERVATION) && leb (getD (now (waiting .entry)) (at + LTAG) 0) latest) (getD (now (waiting .entry)) (at + RTAG) 0) t ⌝ }
 {
@@ -59,7 +59,7 @@ fn due_tag(waiting: &[u64], at: usize, guests: &[u64], guest: usize, latest: u64
 }
 
 // What the weight phase does: its share tag, past every bound where its limit tag is above the time. An unlimited guest's limit tags are 0.
-fn open_tag(waiting: &[u64], at: usize, time: u64) -> u64
+pub fn open_tag(waiting: &[u64], at: usize, time: u64) -> u64
     requires { ⌜ (at + waitingWide ≤ length (now waiting)) × (time ≤ ceiling) ⌝ }
     ensures { λ t. ⌜ Counts (leb (getD (now (waiting .entry)) (at + LTAG) 0) time) (getD (now (waiting .entry)) (at + STAG) 0) t ⌝ }
 {

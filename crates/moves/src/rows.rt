@@ -26,6 +26,20 @@ pub fn close_up(tail: &mut [u64], wide: usize)
     clear(&mut tail[keep..], wide);
 }
 
+// close_up of waiting rows, with their width written out: of a loop whose distance it knows the compiler makes one move of memory, and there may be a thousand rows.
+fn close_rows(tail: &mut [u64])
+    requires { ⌜ waitingWide ≤ length (now tail) ⌝ }
+    ensures { λ _. ⌜ now (tail .exit) ≡ closed waitingWide (now (tail .entry)) ⌝ }
+{
+    let keep = tail.len() - WAITING_WIDE;
+    let mut i: usize = 0;
+    while i < keep {
+        tail[i] = tail[i + WAITING_WIDE];
+        i += 1;
+    }
+    clear(&mut tail[keep..], WAITING_WIDE);
+}
+
 // A request that was sent: whose, its id, and its cost.
 pub struct Sent {
     pub guest: u64,
@@ -55,7 +69,7 @@ pub fn send(
     let cost = waiting[from + COST];
     flight[end + GUEST] = guest;
     flight[end + ID] = id;
-    close_up(&mut waiting[from..used], WAITING_WIDE);
+    close_rows(&mut waiting[from..used]);
     Sent {
         guest: guest,
         id: id,

@@ -17,7 +17,7 @@ ghost use Rattle.prints.specs.Standing.{Decided, Standing};
 const TURNS: u64 = 281474976710656;
 
 // Judges the events of an input that has ended.
-pub fn close(
+fn close(
     version: u64,
     buffer: &mut [u8],
     have: usize,
@@ -54,7 +54,7 @@ pub fn close(
 }
 
 // Judges the events of an input that may go on, until no more bytes come.
-pub fn pump(
+fn pump(
     version: u64,
     buffer: &mut [u8],
     first: usize,
@@ -101,4 +101,48 @@ pub fn pump(
         turns -= 1;
     }
     End::Unended
+}
+
+// Judges the events of an input that has ended or may go on, until no more bytes come.
+pub fn run(
+    ended: bool,
+    version: u64,
+    buffer: &mut [u8],
+    first: usize,
+    opened: Gate,
+    guests: &mut [u64],
+    waiting: &mut [u64],
+    flight: &mut [u64],
+    out: &mut [u8],
+    log: &mut u64,
+) -> End
+    requires { ⌜ (length (now buffer) ≡ 4096) × (first ≤ 4096) × (length (now out) ≡ 20480) ⌝ }
+    requires { ⌜ Known opened (now guests) (now waiting) (now flight) ⌝ }
+    requires { ⌜ Standing ended (now log) (placeOf version (take first (now buffer)) 0 opened (now guests) (now waiting) (now flight)) ⌝ }
+    ensures { λ r. ⌜ Decided r (now (log .exit)) ⌝ }
+{
+    if ended {
+        return close(
+            version,
+            buffer,
+            first,
+            opened,
+            guests,
+            waiting,
+            flight,
+            out,
+            log,
+        );
+    }
+    pump(
+        version,
+        buffer,
+        first,
+        opened,
+        guests,
+        waiting,
+        flight,
+        out,
+        log,
+    )
 }

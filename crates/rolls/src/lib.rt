@@ -1,5 +1,7 @@
 // The events turn the page, a buffer at a turn, until no more bytes come; then the sheet is written. Functions for this repository's own crates.
 use buffers::shift;
+use index::INDEX_WIDE;
+use index::MOST_WALKED;
 use pages::output::last;
 use pages::put_guests;
 use port::Moved;
@@ -10,6 +12,7 @@ ghost use mathlib.Core.Path.{_≡_};
 ghost use mathlib.Core.Bool.{true, false};
 ghost use Prim.Native.Nat.{_+_, _^_, _≤_, _<_};
 ghost use lib.ListN.{length, take, drop};
+ghost use Rattle.index.specs.Index.{Beside};
 ghost use Rattle.trace.specs.Event.{eventOf, eventsOf, whole};
 ghost use Rattle.tally.specs.Kept.{pageOf};
 ghost use Rattle.pages.specs.Sheet.{read, pageAfter, onward};
@@ -30,11 +33,14 @@ fn one(
     flight: &mut [u64],
     book: &mut [u64],
     figures: &mut [u64],
+    index: &mut [u16],
 ) -> Gate
     requires { ⌜ (from + 14 ≤ length (now bytes)) × (number + 1 < 2 ^ 64) ⌝ }
     requires { ⌜ Firm number gate (now guests) (now waiting) (now flight) (now book) (now figures) ⌝ }
+    requires { ⌜ Beside (now waiting) (now index) (gate .waiting) ⌝ }
     ensures { λ r. ⌜ pageOf r (now (guests .exit)) (now (waiting .exit)) (now (flight .exit)) (now (book .exit)) (now (figures .exit)) ≡ read (pageOf gate (now (guests .entry)) (now (waiting .entry)) (now (flight .entry)) (now (book .entry)) (now (figures .entry))) (eventOf version (drop from (now (bytes .entry)))) ⌝ }
     ensures { λ r. ⌜ Firm (number + 1) r (now (guests .exit)) (now (waiting .exit)) (now (flight .exit)) (now (book .exit)) (now (figures .exit)) ⌝ }
+    ensures { λ r. ⌜ Beside (now (waiting .exit)) (now (index .exit)) (r .waiting) ⌝ }
 {
     let event = items::read_event(version, &bytes[from..from + 14]);
     match event {
@@ -47,13 +53,14 @@ fn one(
             book,
             figures,
             good,
+            index,
         ),
         Read::Bad => gate,
     }
 }
 
-// All whole events of the bytes turn the page.
-fn turn_all(
+// All whole events of the bytes turn the page, with the index of the waiting rows beside them.
+fn turn_beside(
     version: u64,
     bytes: &[u8],
     number: u64,
@@ -63,9 +70,11 @@ fn turn_all(
     flight: &mut [u64],
     book: &mut [u64],
     figures: &mut [u64],
+    index: &mut [u16],
 ) -> Gate
     requires { ⌜ number + length (now bytes) < 2 ^ 64 ⌝ }
     requires { ⌜ Firm number first (now guests) (now waiting) (now flight) (now book) (now figures) ⌝ }
+    requires { ⌜ Beside (now waiting) (now index) (first .waiting) ⌝ }
     ensures { λ r. ⌜ pageOf r (now (guests .exit)) (now (waiting .exit)) (now (flight .exit)) (now (book .exit)) (now (figures .exit)) ≡ pageAfter (pageOf first (now (guests .entry)) (now (waiting .entry)) (now (flight .entry)) (now (book .entry)) (now (figures .entry))) (eventsOf version (whole (now (bytes .entry))) (now (bytes .entry))) ⌝ }
     ensures { λ r. ⌜ Firm (number + whole (now (bytes .entry))) r (now (guests .exit)) (now (waiting .exit)) (now (flight .exit)) (now (book .exit)) (now (figures .exit)) ⌝ }
 {
@@ -84,10 +93,46 @@ fn turn_all(
             flight,
             book,
             figures,
+            index,
         );
         i += 1;
     }
     gate
+}
+
+// All whole events of the bytes turn the page. One walk builds the index of the waiting rows for all of them, unless so few wait that they are
+// as well walked.
+fn turn_all(
+    version: u64,
+    bytes: &[u8],
+    number: u64,
+    first: Gate,
+    guests: &mut [u64],
+    waiting: &mut [u64],
+    flight: &mut [u64],
+    book: &mut [u64],
+    figures: &mut [u64],
+) -> Gate
+    requires { ⌜ number + length (now bytes) < 2 ^ 64 ⌝ }
+    requires { ⌜ Firm number first (now guests) (now waiting) (now flight) (now book) (now figures) ⌝ }
+    ensures { λ r. ⌜ pageOf r (now (guests .exit)) (now (waiting .exit)) (now (flight .exit)) (now (book .exit)) (now (figures .exit)) ≡ pageAfter (pageOf first (now (guests .entry)) (now (waiting .entry)) (now (flight .entry)) (now (book .entry)) (now (figures .entry))) (eventsOf version (whole (now (bytes .entry))) (now (bytes .entry))) ⌝ }
+    ensures { λ r. ⌜ Firm (number + whole (now (bytes .entry))) r (now (guests .exit)) (now (waiting .exit)) (now (flight .exit)) (now (book .exit)) (now (figures .exit)) ⌝ }
+{
+    let rows = first.waiting as usize;
+    let mut room = [0u16; INDEX_WIDE];
+    let n = index::begin(&waiting[..], rows, MOST_WALKED < rows, &mut room[..]);
+    turn_beside(
+        version,
+        bytes,
+        number,
+        first,
+        guests,
+        waiting,
+        flight,
+        book,
+        figures,
+        &mut room[..n],
+    )
 }
 
 // The gate after a turn, how many bytes are left at the front, and how many events there were so far.
@@ -147,7 +192,7 @@ fn finish(known: u64, figures: &[u64], log: &mut u64) -> End
 }
 
 // Turns the page by the events of an input that has ended, and writes the sheet.
-pub fn close(
+fn close(
     version: u64,
     buffer: &mut [u8],
     have: usize,
@@ -181,7 +226,7 @@ pub fn close(
 }
 
 // Turns the page by the events of an input that may go on, until no more bytes come, and writes the sheet.
-pub fn pump(
+fn pump(
     version: u64,
     buffer: &mut [u8],
     first: usize,
@@ -227,4 +272,51 @@ pub fn pump(
         turns -= 1;
     }
     End::Unended
+}
+
+// Turns the page by the events of an input that has ended or may go on, until no more bytes come, and writes the sheet.
+pub fn run(
+    ended: bool,
+    version: u64,
+    buffer: &mut [u8],
+    first: usize,
+    opened: Gate,
+    guests: &mut [u64],
+    waiting: &mut [u64],
+    flight: &mut [u64],
+    book: &mut [u64],
+    figures: &mut [u64],
+    log: &mut u64,
+) -> End
+    requires { ⌜ (length (now buffer) ≡ 4096) × (first ≤ 4096) ⌝ }
+    requires { ⌜ Firm 0 opened (now guests) (now waiting) (now flight) (now book) (now figures) ⌝ }
+    requires { ⌜ Standing ended (now log) (standOf version (take first (now buffer)) opened (now guests) (now waiting) (now flight) (now book) (now figures)) ⌝ }
+    ensures { λ r. ⌜ Listed r (now (log .exit)) ⌝ }
+{
+    if ended {
+        return close(
+            version,
+            buffer,
+            first,
+            opened,
+            guests,
+            waiting,
+            flight,
+            book,
+            figures,
+            log,
+        );
+    }
+    pump(
+        version,
+        buffer,
+        first,
+        opened,
+        guests,
+        waiting,
+        flight,
+        book,
+        figures,
+        log,
+    )
 }

@@ -1,3 +1,4 @@
+pub mod Besides
 pub mod Firsts
 pub mod Phases
 pub mod Returns

@@ -27,7 +27,7 @@ use Rattle.table.specs.Does.{written, Leaves, weightPhase, reservationPhase, se
 use Rattle.table.proofs.Facts.{facts}
 use Rattle.table.proofs.Left.{stays}
 use Rattle.sends.specs.Firsts.{FirstOf}
-use Rattle.sends.proofs.Firsts.{open-first}
+use Rattle.sends.proofs.Firsts.{due-first, open-first}
 use Rattle.sends.proofs.Sends.{found-at, reservation-sent, reservation-at, reservation-none, weight-at, weight-none}
 use Rattle.sends.proofs.WeightSend.{weight-sent}
 use Rattle.sends.proofs.Phases.{latest, due-picks, open-picks, drop-asks}
@@ -88,9 +88,11 @@ module _ (g : Gate) (gs ws fs : List ℕ) (k : Known g gs ws fs) where
       abbrev Due : Found → Type 0
       Due x = Picks (λ q. dueAt (settingsOf (guestsOf gs (g .guests)) q) (g .time) q && leb (q .ltag) m) Request.rtag (t .waiting) x
 
-      -- the place that is due is one of those that wait
-      pub due-here : (x : Found) (place : ℕ) → Due x → x ≡ At place → place < g .waiting
-      due-here x place p e = found-at g gs ws fs k x place (due-picks g gs ws fs k m is x p) e .1
+      -- the place that is due is one of those that wait, and the first of its guest
+      pub due-here : (x : Found) (place : ℕ) → Due x → x ≡ At place → (place < g .waiting) × FirstOf (t .waiting) place
+      due-here x place p e =
+          let f = found-at g gs ws fs k x place (due-picks g gs ws fs k m is x p) e in
+          (f .1, due-first t place (facts g gs ws fs k .firm) (f .0))
 
       -- and its send is what the phase comes to
       pub one-due : (x : Found) (place : ℕ) → Due x → x ≡ At place → {d : Decision} {hs vs es : List ℕ}

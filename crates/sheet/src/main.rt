@@ -186,21 +186,8 @@ fn follow(
     let rest = begun.rest;
     let gate = begun.gate;
     moves::rows::clear(figures, FIGURES_LONG);
-    if have < 4096 {
-        return rolls::close(
-            version,
-            buffer,
-            rest,
-            gate,
-            guests,
-            waiting,
-            flight,
-            book,
-            figures,
-            log,
-        );
-    }
-    rolls::pump(
+    rolls::run(
+        have < 4096,
         version,
         buffer,
         rest,

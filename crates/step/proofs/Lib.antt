@@ -1,2 +1,3 @@
 pub mod After
+pub mod Besides
 pub mod Moves

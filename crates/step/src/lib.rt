@@ -1,5 +1,6 @@
 // One event on a table that is known to be sound: it enters, then the choice is made; and, for who wants it, when to wake the gate then. For this
-// repository's own crates, and no public call. Soundness is shown once, where a table comes from, and kept by every step: nothing here tests it.
+// repository's own crates, and no public call. Soundness is shown once, where a table comes from, and kept by every step: nothing here tests it. So is the index of the
+// waiting rows, which stands beside them; one of no numbers is none, and every event walks the rows.
 use enter::Entered;
 use rules::Answer;
 use rules::Event;
@@ -11,6 +12,7 @@ ghost use mathlib.Core.Path.{_≡_};
 ghost use Rattle.rules.specs.Run.{step as stepAt};
 ghost use Rattle.table.specs.View.{Known};
 ghost use Rattle.table.specs.Does.{does, Leaves};
+ghost use Rattle.index.specs.Index.{Beside};
 
 // One event: refused, and every number stands as it did, or entered, and the choice made.
 pub fn step(
@@ -19,15 +21,18 @@ pub fn step(
     waiting: &mut [u64],
     flight: &mut [u64],
     event: Event,
+    index: &mut [u16],
 ) -> Decision
     requires { ⌜ Known gate (now guests) (now waiting) (now flight) ⌝ }
+    requires { ⌜ Beside (now waiting) (now index) (gate .waiting) ⌝ }
     ensures { λ r. ⌜ Leaves (λ t. stepAt t event) gate (now (guests .entry)) (now (waiting .entry)) (now (flight .entry)) r (now (guests .exit)) (now (waiting .exit)) (now (flight .exit)) ⌝ }
     ensures { λ r. ⌜ Known (r .gate) (now (guests .exit)) (now (waiting .exit)) (now (flight .exit)) ⌝ }
+    ensures { λ r. ⌜ Beside (now (waiting .exit)) (now (index .exit)) (r .gate .waiting) ⌝ }
 {
-    let entered = enter::enter(gate, guests, waiting, flight, event);
+    let entered = enter::enter(gate, guests, waiting, flight, event, index);
     match entered {
         Entered::Refused(why) => gates::decided(gate, Answer::Refused(why)),
-        Entered::At(moved) => choose::choose(moved, guests, waiting, flight),
+        Entered::At(moved) => choose::choose(moved, guests, waiting, flight, index),
     }
 }
 
@@ -38,18 +43,21 @@ pub fn step_and_wake(
     waiting: &mut [u64],
     flight: &mut [u64],
     event: Event,
+    index: &mut [u16],
 ) -> Outcome
     requires { ⌜ Known gate (now guests) (now waiting) (now flight) ⌝ }
+    requires { ⌜ Beside (now waiting) (now index) (gate .waiting) ⌝ }
     ensures { λ r. ⌜ (r, now (guests .exit), now (waiting .exit), now (flight .exit)) ≡ does (λ t. stepAt t event) gate (now (guests .entry)) (now (waiting .entry)) (now (flight .entry)) ⌝ }
     ensures { λ r. ⌜ Known (r .gate) (now (guests .exit)) (now (waiting .exit)) (now (flight .exit)) ⌝ }
+    ensures { λ r. ⌜ Beside (now (waiting .exit)) (now (index .exit)) (r .gate .waiting) ⌝ }
 {
-    let made = step(gate, guests, waiting, flight, event);
+    let made = step(gate, guests, waiting, flight, event, index);
     let after = made.gate;
     let answer = made.answer;
     match answer {
         Answer::Refused(why) => gates::refused(after, why),
         _ => {
-            let wake = sends::wake_of(after, &guests[..], &waiting[..]);
+            let wake = sends::wake_of(after, &guests[..], &waiting[..], &index[..]);
             gates::answered(after, answer, wake)
         }
     }

@@ -23,6 +23,7 @@ ghost use Rattle.table.specs.Columns.{waitingWide, GUEST, ID, waitingAt};
 ghost use Rattle.table.specs.View.{waitingOf, tableOf};
 ghost use Rattle.walks.specs.Walks.{Picks};
 ghost use Rattle.walks.specs.declared.Found.the-variants.{At};
+ghost use Rattle.index.specs.Index.{Beside};
 ghost use Rattle.lines.specs.Line.{lineOf, LINE};
 ghost use Rattle.judge.specs.Judging.{begins as beginsWith, okIn, tagIn, ties, named, leads};
 ghost use Rattle.judge.specs.Hearing.{sizeIf, saidOf, tagColumn, latestIn, Timely, Lending, Tells, Finds};
@@ -191,6 +192,20 @@ fn is_first(waiting: &[u64], place: usize) -> bool
     true
 }
 
+// The same of one of the first `count` requests: it is its guest's first row by the index, where there is one.
+fn leads_here(waiting: &[u64], count: usize, place: usize, index: &[u16]) -> bool
+    requires { ⌜ (place < count) × (place * waitingWide + waitingWide ≤ length (now waiting)) ⌝ }
+    requires { ⌜ Beside (now waiting) (now index) count ⌝ }
+    ensures { λ r. ⌜ r ≡ leads (waitingOf (now (waiting .entry)) count) place ⌝ }
+{
+    if index.len() == 0 {
+        return is_first(waiting, place);
+    }
+    let guest = waiting[place * WAITING_WIDE + GUEST] as usize;
+    let first = index[guest] as usize;
+    first == place + 1
+}
+
 // The request that the lines say goes: one that ties with the one at `place`, and the first waiting of its guest, for within a guest reservation tags may tie.
 pub fn find_send(
     gate: Gate,
@@ -201,10 +216,12 @@ pub fn find_send(
     number: u64,
     said: &[u8],
     text: &mut [u8],
+    index: &[u16],
 ) -> Told
     requires { ⌜ Lending gate (now guests) (now waiting) ⌝ }
     requires { ⌜ ((fs : List ℕ) → Picks (okIn phase (tableOf gate (now guests) (now waiting) fs)) (tagIn phase) (waitingOf (now waiting) (gate .waiting)) (At place)) ⌝ }
     requires { ⌜ LINE ≤ length (now text) ⌝ }
+    requires { ⌜ Beside (now waiting) (now index) (gate .waiting) ⌝ }
     ensures { λ r. ⌜ ((fs : List ℕ) → Finds number (now (said .entry)) phase (tableOf gate (now (guests .entry)) (now (waiting .entry)) fs) place (r .place) (r .long)) ⌝ }
 {
     let told = find_tied(gate, guests, waiting, place, phase, number, said, text);
@@ -212,7 +229,7 @@ pub fn find_send(
     if told.long == 0 {
         return told;
     }
-    if is_first(waiting, there) {
+    if leads_here(waiting, gate.waiting as usize, there, index) {
         return told;
     }
     Told {

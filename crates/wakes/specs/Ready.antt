@@ -49,7 +49,7 @@ unfolding readyUnder
 ready-1 rule r a l d = rw (ne-eqb rule 2 d)
 
 -- it is never past the limit tag
-ready-limit : (rule r a l : ℕ) → readyUnder rule r a l ≤ l
+pub ready-limit : (rule r a l : ℕ) → readyUnder rule r a l ≤ l
 unfolding readyBy readyUnder
 ready-limit rule r a l = go (eqb rule 2) (ltb 0 r)
   where
@@ -59,7 +59,7 @@ ready-limit rule r a l = go (eqb rule 2) (ltb 0 r)
     go false false = omega arith
 
 -- no tag that is larger makes it earlier
-ready-rises : (rule r a b l m : ℕ) → a ≤ b → l ≤ m → readyUnder rule r a l ≤ readyUnder rule r b m
+pub ready-rises : (rule r a b l m : ℕ) → a ≤ b → l ≤ m → readyUnder rule r a l ≤ readyUnder rule r b m
 unfolding readyBy readyUnder
 ready-rises rule r a b l m h k = go (eqb rule 2) (ltb 0 r)
   where
@@ -92,7 +92,7 @@ module _ (gs ws : List ℕ) (known count time rule : ℕ) where
   rows = waitingOf ws count
 
   -- a row's numbers, and its guest's, say from when on its request could go
-  ready-row : Owned ws count known → (k : ℕ) → k < count → tag (at rows k) ≡ readyUnder rule (guestAt gs (waitingAt ws k GUEST) RESERVATION) (waitingAt ws k RTAG) (waitingAt ws k LTAG)
+  pub ready-row : Owned ws count known → (k : ℕ) → k < count → tag (at rows k) ≡ readyUnder rule (guestAt gs (waitingAt ws k GUEST) RESERVATION) (waitingAt ws k RTAG) (waitingAt ws k LTAG)
   ready-row owned k here =
       ap tag (row-at requestForm ws count k here)
       ∙ ap (λ (h : Guest). readyUnder rule (h .settings .reservation) (waitingAt ws k RTAG) (waitingAt ws k LTAG)) (row-at guestForm gs known (waitingAt ws k GUEST) (owned k here))

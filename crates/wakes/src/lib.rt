@@ -39,7 +39,7 @@ fn ready_at(waiting: &[u64], at: usize, guests: &[u64], guest: usize) -> u64
 }
 
 // The same under either rule: under rule 2 neither phase sends a request before its limit tag.
-fn ready_under(rule: u64, waiting: &[u64], at: usize, guests: &[u64], guest: usize) -> u64
+pub fn ready_under(rule: u64, waiting: &[u64], at: usize, guests: &[u64], guest: usize) -> u64
     requires { ⌜ (at + waitingWide ≤ length (now waiting)) × (guest * guestWide + guestWide ≤ length (now guests)) × (guest ≤ mostGuests) ⌝ }
     ensures { λ r. ⌜ r ≡ readyUnder rule (guestAt (now (guests .entry)) guest RESERVATION) (getD (now (waiting .entry)) (at + RTAG) 0) (getD (now (waiting .entry)) (at + LTAG) 0) ⌝ }
 {

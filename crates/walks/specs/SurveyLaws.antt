@@ -83,7 +83,7 @@ module _ (ws : List ℕ) (g id : ℕ) where
   lacks-id k e h = lacks-next k e (rw (ne-eqb id (waitingAt ws k ID) (λ q. h (sym q)), and-false (eqb g (waitingAt ws k GUEST))))
 
   -- the row is there
-  lacks-not : (n k : ℕ) → k < n → waitingAt ws k GUEST ≡ g → waitingAt ws k ID ≡ id → lacksIn ws n g id ≡ false
+  pub lacks-not : (n k : ℕ) → k < n → waitingAt ws k GUEST ≡ g → waitingAt ws k ID ≡ id → lacksIn ws n g id ≡ false
   lacks-not n k h e i =
       lacks-all n
       ∙ place-not another (waitingOf ws n) (requestForm .read []) k (omega (arith, length-rows requestForm ws n))

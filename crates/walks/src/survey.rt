@@ -47,14 +47,14 @@ pub fn own_rows(waiting: &[u64], count: usize, guest: u64, id: u64) -> Own
 }
 
 // The smaller of two numbers.
-fn smaller(a: u64, b: u64) -> u64
+pub fn smaller(a: u64, b: u64) -> u64
     ensures { λ r. ⌜ r ≡ min a b ⌝ }
 {
     if b < a { b } else { a }
 }
 
 // The larger of two numbers.
-fn larger(a: u64, b: u64) -> u64
+pub fn larger(a: u64, b: u64) -> u64
     ensures { λ r. ⌜ r ≡ max a b ⌝ }
 {
     if a < b { b } else { a }

@@ -6,7 +6,8 @@
 Every load is recorded, and afterwards the proved decide prints the lines that the filter wrote, byte for byte, the judge
 accepts them, and the sheet counts what the clients count. Every byte that a client reads is held to what it has to be. Needs
 target/bin/decide and sheet, target/staticlib/libhost.a (SGQ_LIB names another archive) and Debian's nbdkit,
-nbdkit-plugin-dev and python3-libnbd; where the packages are not there it says that it is skipped. Ends with 'N passed, M failed'.
+nbdkit-plugin-dev and python3-libnbd; where the packages are not there it says that it is skipped. The library is for x86-64: on a
+64-bit Arm machine it is tried with SGQ_LIB=target/bench/native/libhost.a, which bench/native makes. Ends with 'N passed, M failed'.
 """
 import contextlib
 import os
@@ -23,6 +24,7 @@ import time
 from server import BIN, DISC, FILTER, HERE, MOST_SECONDS, ROOT, SOURCES, WARNINGS, House, Stop, hold_clients, hold_record, hold_sheet
 from server import missing, play, run, serving, take_debians_python, told_by
 from kit import need_library, run_tests  # where it stands, server.py knows
+from machine import OWN
 
 EIO, ENOTCONN, ESHUTDOWN = 5, 107, 108
 # The sale day in small: the array takes 3 ms and 160 us a KiB, so 3.6, 8.1 and 23.5 ms.
@@ -377,7 +379,8 @@ def test_readme(tally, house):
 
 
 def tests(tally):
-    need_library()
+    if OWN:
+        need_library()
     for name in ("decide", "sheet"):
         if not (BIN / name).exists():
             raise Stop(f"there is no target/bin/{name}: ./sgq {name} proves and builds it")

@@ -5,6 +5,7 @@ import importlib.util
 import json
 import os
 import pathlib
+import platform
 import shutil
 import subprocess
 import sys
@@ -14,7 +15,7 @@ HERE = pathlib.Path(__file__).resolve().parent
 FILTER = HERE.parent
 sys.path.insert(0, str(FILTER.parent.parent / "tests"))
 from kit import LIBRARY, ROOT, Stop  # noqa: E402  (it stands in tests/ of the root)
-from machine import OWN  # noqa: E402
+from machine import OWN, before_program  # noqa: E402
 
 BIN = ROOT / "target" / "bin"
 DEBIAN = "/usr/bin/python3"  # which has python3-libnbd, where another Python comes first on PATH
@@ -31,10 +32,15 @@ def has_headers():
     return bool(shutil.which("cc")) and subprocess.run(words, input=b"#include <nbdkit-filter.h>\n", capture_output=True).returncode == 0
 
 
+def is_for_arm():
+    """The library is one for a 64-bit Arm machine, as bench/native makes it for timing."""
+    return LIBRARY.is_file() and LIBRARY.read_bytes().partition(b"\x7fELF")[2][14:16] == b"\xb7\x00"
+
+
 def missing():
     """What is not here."""
     here = {
-        "x86-64, for which the library is": OWN,
+        "x86-64, for which the library is": OWN or (platform.machine() == "aarch64" and is_for_arm()),
         "nbdkit": shutil.which("nbdkit"),
         "nbdkit-plugin-dev": has_headers(),
         "make": shutil.which("make"),
@@ -159,7 +165,7 @@ def play(server, day, seconds):
 
 def printed(program, trace):
     with open(trace, "rb") as file:
-        return subprocess.run([BIN / program], stdin=file, capture_output=True).stdout
+        return subprocess.run([*before_program(), BIN / program], stdin=file, capture_output=True).stdout
 
 
 def hold_record(tally, name, house, trace):

@@ -9,18 +9,18 @@ use Rattle.booked.proofs.accepted.Tie as tie
 
 noted-requires : tie.Need-noted-requires
 noted-requires c κs =
-    let s = c .before .before .before .before .before .before .before .before in
-    notable (s .args .number) (s .args .gate) (s .args .guests .now) (s .args .waiting .now) (s .args .flight .now) (s .args .book .now) (s .args .figures .now) (s .pre .0) (s .args .event) (s .pre .1)
+    let s = c .before .before .before .before .before .before .before .before .before in
+    notable (s .args .number) (s .args .gate) (s .args .guests .now) (s .args .waiting .now) (s .args .flight .now) (s .args .book .now) (s .args .figures .now) (s .pre .0) (s .args .event) (s .pre .1 .0)
 
 choose-requires : tie.Need-choose-requires
-choose-requires c κs = search needs
+choose-requires c κs = let p = c .before .before .before .before .before .before .before .before .before .before .before .before .before .before .before .before .before .before .pre in (p .0, p .1 .1)
 
 settled-requires : tie.Need-settled-requires
 settled-requires c κs =
-    let s = c .before .before .before .before .before .before .before .before .before .before .before .before .before .before .before .before .before .before .before .before .before .before .before .before .before in
-    let b = c .before .before .before .before .before .before .before .before .before .before .before .before .before .before .before .before .noted in
-    let m = c .before .before .before .before .before .before .before .before .choose in
-    settled-asks (s .args .number) (s .args .gate) (s .args .guests .now) (s .args .waiting .now) (s .args .flight .now) (s .args .book .now) (s .args .figures .now) (s .pre .0) (s .args .event) (s .pre .1) _ _ (b .ensures .0) (b .ensures .1) (m .result) _ _ _ (m .ensures)
+    let s = c .before .before .before .before .before .before .before .before .before .before .before .before .before .before .before .before .before .before .before .before .before .before .before .before .before .before .before .before .before in
+    let b = c .before .before .before .before .before .before .before .before .before .before .before .before .before .before .before .before .before .before .before .noted in
+    let m = c .before .before .before .before .before .before .before .before .before .before .choose in
+    settled-asks (s .args .number) (s .args .gate) (s .args .guests .now) (s .args .waiting .now) (s .args .flight .now) (s .args .book .now) (s .args .figures .now) (s .pre .0) (s .args .event) (s .pre .1 .0) _ _ (b .ensures .0) (b .ensures .1) (m .result) _ _ _ (m .ensures .0)
 
 same-length : tie.Need-same-length
 same-length c = search needs
@@ -37,14 +37,17 @@ same-length-4 c = search needs
 same-length-5 : tie.Need-same-length-5
 same-length-5 c = search needs
 
+same-length-6 : tie.Need-same-length-6
+same-length-6 c = search needs
+
 returns : tie.Need-returns
 returns c =
-    let s = c .before .before .before .before .before .before .before .before .before .before .before .before .before .before .before .before .before .before .before .before .before .before .before .before .before .before .before .before .before .before in
-    let b = c .before .before .before .before .before .before .before .before .before .before .before .before .before .before .before .before .before .before .before .before .before .noted in
-    let m = c .before .before .before .before .before .before .before .before .before .before .before .before .before .choose in
+    let a = c .before .before .before .before .before .before .before .before .before .before .before .before .before .before .before .before .before .before .before .before .before .before .before .before .before .before .before .before .before .before .before .before .before .before .args in
+    let b = c .before .before .before .before .before .before .before .before .before .before .before .before .before .before .before .before .before .before .before .before .before .before .before .before .noted in
+    let m = c .before .before .before .before .before .before .before .before .before .before .before .before .before .before .before .choose in
     let l = c .before .before .before .before .settled in (
-      m .ensures,
-      (l .ensures .0 ∙ ap (struckIn (m .result .answer) (s .args .gate)) (b .ensures .0), l .ensures .1 ∙ ap₂ (sentIn (m .result .answer) (s .args .gate)) (b .ensures .0) (b .ensures .1)),
+      m .ensures .0,
+      (l .ensures .0 ∙ ap (struckIn (m .result .answer) (a .gate)) (b .ensures .0), (l .ensures .1 ∙ ap₂ (sentIn (m .result .answer) (a .gate)) (b .ensures .0) (b .ensures .1), m .ensures .1)),
     )
 
 pub accepted-spec : {M : Type 1} → statement M
@@ -59,4 +62,5 @@ accepted-spec =
     same-length-3
     same-length-4
     same-length-5
+    same-length-6
     returns)

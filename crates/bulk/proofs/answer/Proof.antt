@@ -1,4 +1,5 @@
 -- An event follows what was found of the tables, and what is none is refused 14. Assumes nothing.
+use Rattle.calling.proofs.Returns.{bad-beside}
 use Rattle.batch.proofs.Going.{good-one, bad-one, bad-judges}
 use borrow.Author.Needs.{needs}
 use Rattle.bulk.proofs.answer.Statement.{statement}
@@ -8,7 +9,7 @@ enum-known-event : tie.Need-enum-known-event
 enum-known-event c = search needs
 
 follow-requires : tie.Need-follow-requires
-follow-requires c κs = search needs
+follow-requires c κs = c .before .before .before .before .before .before .before .before .before .before .before .pre
 
 enum-told : tie.Need-enum-told
 enum-told c = search needs
@@ -25,18 +26,23 @@ same-length-2 c = search needs
 same-length-3 : tie.Need-same-length-3
 same-length-3 c = search needs
 
+same-length-4 : tie.Need-same-length-4
+same-length-4 c = search needs
+
 returns : tie.Need-returns
 returns c =
-    let s = c .before .before .before .before .before .before .before .before .before .before .before .before .before .before .before .before in (
-      good-one (s .args .gate) (s .args .guests .now) (s .args .waiting .now) (s .args .flight .now) (s .args .event) _ (c .before .before .before .before .before .before .before .before .before .before .before .event .given .1) _ (c .before .before .before .before .before .before .follow .ensures .0),
-      c .before .before .before .before .before .before .follow .ensures .1,
-    )
+    let s = c .before .before .before .before .before .before .before .before .before .before .before .before .before .before .before .before .before .before .before .before in
+    let o = c .before .before .before .before .before .before .before .before .follow .ensures in
+    (good-one (s .args .gate) (s .args .guests .now) (s .args .waiting .now) (s .args .flight .now) (s .args .event) _ (c .before .before .before .before .before .before .before .before .before .before .before .before .before .before .event .given .1) _ (o .0), o .1)
 
 returns-2 : tie.Need-returns-2
 returns-2 c =
-    let s = c .before .before .before .before .before .before in (
+    let s = c .before .before .before .before .before .before .before in (
       bad-one (s .args .gate) (s .args .guests .now) (s .args .waiting .now) (s .args .flight .now) (s .args .event) (c .before .enum-told .given .1) _ (c .refused .ensures),
-      bad-judges (s .args .gate) (s .args .guests .now) (s .args .waiting .now) (s .args .flight .now) (s .args .event) (s .args .found) (s .pre) _ (c .refused .ensures),
+      (
+        bad-judges (s .args .gate) (s .args .guests .now) (s .args .waiting .now) (s .args .flight .now) (s .args .event) (s .args .found) (s .pre .0) _ (c .refused .ensures),
+        bad-beside (s .args .gate) (s .args .guests .now) (s .args .waiting .now) (s .args .flight .now) _ _ (c .refused .ensures) _ (s .pre .1),
+      ),
     )
 
 pub answer-spec : {M : Type 1} → statement M
@@ -50,5 +56,6 @@ answer-spec =
     same-length
     same-length-2
     same-length-3
+    same-length-4
     returns
     returns-2)

@@ -1,4 +1,5 @@
 -- One row: read, done, answered. Assumes nothing.
+use native.Mathlib.Omega.{arith}
 use Rattle.batch.proofs.Going.{turned}
 use borrow.Author.Needs.{needs}
 use Rattle.bulk.proofs.answer_row.Statement.{statement}
@@ -8,13 +9,13 @@ event-at-requires : tie.Need-event-at-requires
 event-at-requires c κs = search needs
 
 answer-requires : tie.Need-answer-requires
-answer-requires c κs = search needs
+answer-requires c κs = c .before .before .before .before .before .before .before .before .before .before .before .pre .1
 
 mul-put-answer : tie.Need-mul-put-answer
-mul-put-answer c = search needs
+mul-put-answer c = let p = c .before .before .before .before .before .before .before .before .before .before .before .before .before .before .before .before .before .before .before .before .before .pre .0 in omega (arith, p .0, p .1)
 
 put-answer-requires : tie.Need-put-answer-requires
-put-answer-requires c κs = search needs
+put-answer-requires c κs = let p = c .before .before .before .before .before .before .before .before .before .before .before .before .before .before .before .before .before .before .before .before .before .pre .0 in omega (arith, p .0, p .1)
 
 same-length : tie.Need-same-length
 same-length c = search needs
@@ -28,13 +29,14 @@ same-length-3 c = search needs
 same-length-4 : tie.Need-same-length-4
 same-length-4 c = search needs
 
+same-length-5 : tie.Need-same-length-5
+same-length-5 c = search needs
+
 returns : tie.Need-returns
 returns c =
-    let s = c .before .before .before .before .before .before .before .before .before .before .before .before .before .before .before .before .before .before .before .before .before in
-    let o = c .before .before .before .before .before .before .before .before .before .before .before .answer in (
-      turned _ (s .args .k) _ (s .args .answers .now) _ (c .before .before .before .before .before .before .before .before .before .before .before .before .before .before .before .event-at .ensures) (o .result, _, _, _) (o .ensures .0) _ (c .before .before .before .put-answer .ensures),
-      o .ensures .1,
-    )
+    let s = c .before .before .before .before .before .before .before .before .before .before .before .before .before .before .before .before .before .before .before .before .before .before .before .before .before in
+    let o = c .before .before .before .before .before .before .before .before .before .before .before .before .before .answer in
+    (turned _ (s .args .k) _ (s .args .answers .now) _ (c .before .before .before .before .before .before .before .before .before .before .before .before .before .before .before .before .before .before .event-at .ensures) (o .result, _, _, _) (o .ensures .0) _ (c .before .before .before .put-answer .ensures), o .ensures .1)
 
 pub answer-row-spec : {M : Type 1} → statement M
 answer-row-spec =
@@ -48,4 +50,5 @@ answer-row-spec =
     same-length-2
     same-length-3
     same-length-4
+    same-length-5
     returns)

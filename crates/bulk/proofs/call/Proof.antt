@@ -21,8 +21,8 @@ returns-2 c =
 judge-requires : tie.Need-judge-requires
 judge-requires c κs = search needs
 
-answer-rows-requires : tie.Need-answer-rows-requires
-answer-rows-requires c κs = search needs
+answer-all-requires : tie.Need-answer-all-requires
+answer-all-requires c κs = search needs
 
 same-length : tie.Need-same-length
 same-length c = search needs
@@ -39,7 +39,7 @@ same-length-4 c = search needs
 returns-3 : tie.Need-returns-3
 returns-3 c =
     let a = c .before .before .before .before .before .before .before .before .before .before .before .before .before .before .before .before .before .before .before .before .before .before .before .before .args in
-    all-done (a .events .now) (a .answers .now) (a .gate) (a .guests .now) (a .waiting .now) (a .flight .now) (good-judged (a .events .now) (a .answers .now) (c .before .before .before .before .before .before .before .before .before .before .before .before .before .before .before .before .before .before .if1 .left) (c .before .before .before .before .before .before .before .before .before .before .before .before .before .before .before .before .before .if2 .left)) _ _ _ _ _ (c .before .before .before .before .before .before .before .before .answer-rows .ensures)
+    all-done (a .events .now) (a .answers .now) (a .gate) (a .guests .now) (a .waiting .now) (a .flight .now) (good-judged (a .events .now) (a .answers .now) (c .before .before .before .before .before .before .before .before .before .before .before .before .before .before .before .before .before .before .if1 .left) (c .before .before .before .before .before .before .before .before .before .before .before .before .before .before .before .before .before .if2 .left)) _ _ _ _ _ (c .before .before .before .before .before .before .before .before .answer-all .ensures)
 
 pub call-spec : {M : Type 1} → statement M
 call-spec =
@@ -48,7 +48,7 @@ call-spec =
     returns
     returns-2
     judge-requires
-    answer-rows-requires
+    answer-all-requires
     same-length
     same-length-2
     same-length-3

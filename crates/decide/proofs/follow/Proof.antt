@@ -1,11 +1,10 @@
 use native.Mathlib.Omega.{arith}
 use Prim.Native.Nat.{ℕ}
 use mathlib.Core.Path.{_≡_, ap, _∙_}
-use mathlib.Core.Bool.{true, false}
 use lib.Dec.{ltb}
 use lib.ListN.{length, take}
 use lib.Seq.{length-take-le}
-use borrow.Author.Tests.{lt-ltb, le-ltb, not-true, not-false}
+use borrow.Author.Tests.{not-true, not-false}
 use Rattle.lines.specs.Line.{titleLine}
 use Rattle.trace.specs.Printed.{printed}
 use Rattle.stream.specs.Outcome.{MOST}
@@ -53,20 +52,20 @@ returns c =
     (title-next (a .log .now) (take (a .have) (a .buffer .now)) (a .version) (a .depth) (a .known) (a .capacity) (a .rule) (p .1 .1 .1) (p .1 .0))
     (not-true _ (c .if1 .taken))
 
-close-requires : tie.Need-close-requires
-close-requires c κs =
-    let a = c .before .before .before .before .before .before .before .before .before .before .before .before .before .before .before .before .before .before .before .before .before .before .before .before .before .before .before .before .before .before .before .before .before .before .before .before .args in
-    let p = c .before .before .before .before .before .before .before .before .before .before .before .before .before .before .before .before .before .before .before .before .before .before .before .before .before .before .before .before .before .before .before .before .before .before .before .before .pre in
-    let b = c .before .before .before .before .before .before .before .before .before .before .before .before .before .before .before .before .before .before .before .before .before .before .before .before .begin in
-    let t = c .before .before .before .before .before .before .before .before .before .before .title in
+run-requires : tie.Need-run-requires
+run-requires c κs =
+    let a = c .before .before .before .before .before .before .before .before .before .before .before .before .before .before .before .before .before .before .before .before .before .before .before .before .before .before .before .before .before .before .before .before .before .before .before .args in
+    let p = c .before .before .before .before .before .before .before .before .before .before .before .before .before .before .before .before .before .before .before .before .before .before .before .before .before .before .before .before .before .before .before .before .before .before .before .pre in
+    let b = c .before .before .before .before .before .before .before .before .before .before .before .before .before .before .before .before .before .before .before .before .before .before .before .begin in
+    let t = c .before .before .before .before .before .before .before .before .before .title in
     let bs = take (a .have) (a .buffer .now) in
     let l : length bs ≡ a .have = length-take-le (a .have) (a .buffer .now) (omega (arith, p .0)) in (
       (b .kept .0 ∙ p .0 .0, omega (arith, b .ensures .1, p .0 .1), t .kept .0 ∙ p .0 .2),
       (
         b .ensures .0 .known,
-        title-standing (a .log .now) bs (a .version) (a .depth) (a .known) (a .capacity) (a .rule) (p .1 .1 .1) (p .1 .0) (t .last .1 .0) (t .result) true _ (t .ensures)
-            (not-false _ (c .before .before .before .before .before .before .before .if1 .left))
-            (ap (λ (k : ℕ). ltb k 4096) l ∙ lt-ltb (a .have) 4096 (omega (arith, c .before .before .before .before .before .before .if2 .taken)))
+        title-standing (a .log .now) bs (a .version) (a .depth) (a .known) (a .capacity) (a .rule) (p .1 .1 .1) (p .1 .0) (t .last .1 .0) (t .result) _ _ (t .ensures)
+            (not-false _ (c .before .before .before .before .before .before .if1 .left))
+            (ap (λ (k : ℕ). ltb k 4096) l)
             (λ i. record { version = a .version; bytes = b .ensures .0 .bytes i; table = b .ensures .0 .table i; number = 0 }),
       ),
     )
@@ -92,45 +91,6 @@ same-length-12 c = search needs
 returns-2 : tie.Need-returns-2
 returns-2 c = search needs
 
-pump-requires : tie.Need-pump-requires
-pump-requires c κs =
-    let a = c .before .before .before .before .before .before .before .before .before .before .before .before .before .before .before .before .before .before .before .before .before .before .before .before .before .before .before .before .before .before .before .before .before .before .before .before .args in
-    let p = c .before .before .before .before .before .before .before .before .before .before .before .before .before .before .before .before .before .before .before .before .before .before .before .before .before .before .before .before .before .before .before .before .before .before .before .before .pre in
-    let b = c .before .before .before .before .before .before .before .before .before .before .before .before .before .before .before .before .before .before .before .before .before .before .before .before .begin in
-    let t = c .before .before .before .before .before .before .before .before .before .before .title in
-    let bs = take (a .have) (a .buffer .now) in
-    let l : length bs ≡ a .have = length-take-le (a .have) (a .buffer .now) (omega (arith, p .0)) in (
-      (b .kept .0 ∙ p .0 .0, omega (arith, b .ensures .1, p .0 .1), t .kept .0 ∙ p .0 .2),
-      (
-        b .ensures .0 .known,
-        title-standing (a .log .now) bs (a .version) (a .depth) (a .known) (a .capacity) (a .rule) (p .1 .1 .1) (p .1 .0) (t .last .1 .0) (t .result) false _ (t .ensures)
-            (not-false _ (c .before .before .before .before .before .before .before .if1 .left))
-            (ap (λ (k : ℕ). ltb k 4096) l ∙ le-ltb (a .have) 4096 (omega (arith, c .before .before .before .before .before .before .if2 .left)))
-            (λ i. record { version = a .version; bytes = b .ensures .0 .bytes i; table = b .ensures .0 .table i; number = 0 }),
-      ),
-    )
-
-same-length-13 : tie.Need-same-length-13
-same-length-13 c = search needs
-
-same-length-14 : tie.Need-same-length-14
-same-length-14 c = search needs
-
-same-length-15 : tie.Need-same-length-15
-same-length-15 c = search needs
-
-same-length-16 : tie.Need-same-length-16
-same-length-16 c = search needs
-
-same-length-17 : tie.Need-same-length-17
-same-length-17 c = search needs
-
-same-length-18 : tie.Need-same-length-18
-same-length-18 c = search needs
-
-returns-3 : tie.Need-returns-3
-returns-3 c = search needs
-
 pub follow-spec : {M : Type 1} → statement M
 follow-spec =
     tie.close
@@ -144,19 +104,11 @@ follow-spec =
     same-length-5
     same-length-6
     returns
-    close-requires
+    run-requires
     same-length-7
     same-length-8
     same-length-9
     same-length-10
     same-length-11
     same-length-12
-    returns-2
-    pump-requires
-    same-length-13
-    same-length-14
-    same-length-15
-    same-length-16
-    same-length-17
-    same-length-18
-    returns-3)
+    returns-2)

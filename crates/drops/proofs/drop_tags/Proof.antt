@@ -1,12 +1,8 @@
-use Prim.Native.Nat.{ℕ, _+_, _*_, _-_}
-use mathlib.Core.Path.{_≡_, ap, _∙_}
 use native.Mathlib.Omega.{arith}
-use lib.ListN.{set}
 use Rattle.rules.specs.Numbers.{down}
 use Rattle.rules.proofs.Spacings.{down-le, cost-le}
-use Rattle.table.specs.Columns.{RESERVATION, RNEXT, guestWide, guestAt}
-use Rattle.moves.specs.Moves.{fallOf, lastPast, tagsDropped}
-use Rattle.drops.specs.Lower.{no-next-dropped, no-tags-dropped}
+use Rattle.table.specs.Columns.{RESERVATION, guestAt}
+use Rattle.drops.specs.Lower.{no-next-dropped, no-tags-dropped, dropped-is}
 use borrow.Author.Needs.{needs}
 use Rattle.drops.proofs.drop_tags.Statement.{statement}
 use Rattle.drops.proofs.drop_tags.Tie as tie
@@ -77,18 +73,9 @@ same-length-2 c = search needs
 returns-2 : tie.Need-returns-2
 returns-2 c =
     let a = c .before .before .before .before .before .before .before .before .before .before .before .args in
-    let s = c .before .before .before .before .before .before .spacing-down in
     let w = c .before .before .lower in
-    let gs = a .guests .now in
-    let ws = a .waiting .now in
-    let next : w .result ≡ lastPast (a .guest) (fallOf (a .guest) (a .cost) gs) (down (guestAt gs (a .guest) RESERVATION)) (guestAt gs (a .guest) RNEXT - fallOf (a .guest) (a .cost) gs) ws (a .count) =
-    w .ensures .1
-    ∙ ap (λ (m : ℕ). lastPast (a .guest) (a .cost * s .result) (s .result) m ws (a .count)) (c .before .before .before .cut .ensures)
-    ∙ ap (λ (x : ℕ). lastPast (a .guest) (a .cost * x) x (guestAt gs (a .guest) RNEXT - a .cost * x) ws (a .count)) (s .ensures)
-    in (
-      ap (set gs (a .guest * guestWide + RNEXT)) next,
-      w .ensures .0 ∙ ap (λ (x : ℕ). tagsDropped (a .guest) (a .cost * x) ws (a .count)) (s .ensures),
-    )
+    dropped-is (a .guest) (a .cost) (a .count) (a .guests .now) (a .waiting .now) (c .before .before .before .before .before .before .spacing-down .ensures) (c .before .before .before .cut .ensures)
+    (w .ensures .0) (w .ensures .1)
 
 pub drop-tags-spec : {M : Type 1} → statement M
 drop-tags-spec =

@@ -6,7 +6,9 @@ use lib.ListN.{take, drop}
 use Rattle.trace.specs.Event.{eventOf}
 use Rattle.trace.proofs.EventLaws.{event-take}
 use Rattle.trace.proofs.Shown.{read-shown-once}
+use Rattle.judge.specs.declared.Said.{Said}
 use Rattle.judge.proofs.Heard.{read-good, read-bad}
+use Rattle.hears.proofs.Besides.{beside-said}
 use borrow.Author.Needs.{needs}
 use Rattle.hears.proofs.hear.Statement.{statement}
 use Rattle.hears.proofs.hear.Tie as tie
@@ -30,7 +32,7 @@ enum-known-event : tie.Need-enum-known-event
 enum-known-event c = search needs
 
 hear-good-requires : tie.Need-hear-good-requires
-hear-good-requires c κs = search needs
+hear-good-requires c κs = c .before .before .before .before .before .before .before .before .before .before .before .before .before .before .before .before .before .pre .1
 
 enum-told : tie.Need-enum-told
 enum-told c = search needs
@@ -50,24 +52,29 @@ same-length-3 c = search needs
 same-length-4 : tie.Need-same-length-4
 same-length-4 c = search needs
 
-returns : tie.Need-returns
-returns c =
-    let s = c .before .before .before .before .before .before .before .before .before .before .before .before .before .before .before .before .before .before .before .before .before .before .before .before in
-    let x = c .before .before .before .before .before .before .before .before .before .before .before .before .before .before .before .before .read-event in
-    let n : s .args .from + 14 - s .args .from ≡ 14 = omega arith in
-    let e = read-shown-once (x .result) _ (x .ensures) ∙ ap (λ (k : ℕ). eventOf (s .args .version) (take k (drop (s .args .from) (s .args .bytes .now)))) n ∙ event-take (s .args .version) (drop (s .args .from) (s .args .bytes .now)) in
-    read-good (s .args .gate) (s .args .guests .now) (s .args .waiting .now) (s .args .flight .now) (s .pre .1 .0) (s .args .number) (s .args .said .now) (x .result) _ e _ (c .before .before .before .before .before .before .before .before .before .before .before .before .before .before .event .given .1) (c .before .before .before .before .before .before .before .before .hear-good .ensures)
-
 same-length-5 : tie.Need-same-length-5
 same-length-5 c = search needs
 
+returns : tie.Need-returns
+returns c =
+    let s = c .before .before .before .before .before .before .before .before .before .before .before .before .before .before .before .before .before .before .before .before .before .before .before .before .before .before .before .before in
+    let x = c .before .before .before .before .before .before .before .before .before .before .before .before .before .before .before .before .before .before .before .read-event in
+    let n : s .args .from + 14 - s .args .from ≡ 14 = omega arith in
+    let e = read-shown-once (x .result) _ (x .ensures) ∙ ap (λ (k : ℕ). eventOf (s .args .version) (take k (drop (s .args .from) (s .args .bytes .now)))) n ∙ event-take (s .args .version) (drop (s .args .from) (s .args .bytes .now)) in
+    let d = c .before .before .before .before .before .before .before .before .before .before .hear-good .ensures in
+    (read-good (s .args .gate) (s .args .guests .now) (s .args .waiting .now) (s .args .flight .now) (s .pre .1 .0) (s .args .number) (s .args .said .now) (x .result) _ e _ (c .before .before .before .before .before .before .before .before .before .before .before .before .before .before .before .before .before .event .given .1) (d .0), d .1)
+
+same-length-6 : tie.Need-same-length-6
+same-length-6 c = search needs
+
 returns-2 : tie.Need-returns-2
 returns-2 c =
-    let s = c .before .before .before .before .before .before .before .before .before .before .before .before .before .before in
+    let s = c .before .before .before .before .before .before .before .before .before .before .before .before .before .before .before in
     let x = c .before .before .before .before .before .before .read-event in
     let n : s .args .from + 14 - s .args .from ≡ 14 = omega arith in
     let e = read-shown-once (x .result) _ (x .ensures) ∙ ap (λ (k : ℕ). eventOf (s .args .version) (take k (drop (s .args .from) (s .args .bytes .now)))) n ∙ event-take (s .args .version) (drop (s .args .from) (s .args .bytes .now)) in
-    read-bad (s .args .gate) (s .args .guests .now) (s .args .waiting .now) (s .args .flight .now) (s .pre .1 .0) (s .args .number) (s .args .said .now) (x .result) _ e (c .before .before .before .before .enum-told .given .1) _ (c .before .before .hear-plain .ensures)
+    let p = c .before .before .hear-plain in
+    (read-bad (s .args .gate) (s .args .guests .now) (s .args .waiting .now) (s .args .flight .now) (s .pre .1 .0) (s .args .number) (s .args .said .now) (x .result) _ e (c .before .before .before .before .enum-told .given .1) (p .result) (p .ensures), beside-said (s .args .gate) (p .result) (ap Said.gate (p .ensures)) (s .pre .1 .1 .1))
 
 pub hear-spec : {M : Type 1} → statement M
 hear-spec =
@@ -86,6 +93,7 @@ hear-spec =
     same-length-2
     same-length-3
     same-length-4
-    returns
     same-length-5
+    returns
+    same-length-6
     returns-2)

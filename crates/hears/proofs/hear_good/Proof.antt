@@ -1,12 +1,15 @@
 -- `hears::hear_good` meets its contract: a refusal, or the choice on what entered. Assumes nothing.
-use mathlib.Core.Path.{_∙_}
+use mathlib.Core.Path.{ap, _∙_}
+use Rattle.judge.specs.declared.Said.{Said}
 use Rattle.judge.proofs.Heard.{good-refused, good-known, good-entered}
+use Rattle.enter.proofs.Besides.{beside-barred, beside-entered}
+use Rattle.hears.proofs.Besides.{beside-said}
 use borrow.Author.Needs.{needs}
 use Rattle.hears.proofs.hear_good.Statement.{statement}
 use Rattle.hears.proofs.hear_good.Tie as tie
 
 enter-requires : tie.Need-enter-requires
-enter-requires c κs = search needs
+enter-requires c κs = let s = c .before .before .before .before .before .before .before .before .before .before in (s .pre .0, s .pre .1 .1)
 
 enum-known-entered : tie.Need-enum-known-entered
 enum-known-entered c = search needs
@@ -19,8 +22,10 @@ enum-known-entered-2 c = search needs
 
 hear-choice-requires : tie.Need-hear-choice-requires
 hear-choice-requires c κs =
-    let s = c .before .before .before .before .before .before .before .before .before .before .before .before .before .before .before .before .before .before .before .before .before .before in
-    (good-known (s .args .gate) (s .args .guests .now) (s .args .waiting .now) (s .args .flight .now) (s .pre .0) (s .args .event) (s .args .number) (s .args .said .now) (c .before .before .before .before .before .before .before .before .before .before .before .before .before .enter .result) _ _ _ (c .before .before .before .before .before .before .before .before .before .before .before .before .before .enter .ensures) _ (c .before .before .before .before .before .entered2 .given .1), s .pre .1)
+    let s = c .before .before .before .before .before .before .before .before .before .before .before .before .before .before .before .before .before .before .before .before .before .before .before .before .before .before .before in
+    let x = c .before .before .before .before .before .before .before .before .before .before .before .before .before .before .before .before .enter in
+    let e = c .before .before .before .before .before .before .entered2 .given .1 in
+    (good-known (s .args .gate) (s .args .guests .now) (s .args .waiting .now) (s .args .flight .now) (s .pre .0) (s .args .event) (s .args .number) (s .args .said .now) (x .result) _ _ _ (x .ensures .0) _ e, (s .pre .1 .0, beside-entered (s .args .gate) (x .result) _ e (x .ensures .1)))
 
 same-length : tie.Need-same-length
 same-length c = search needs
@@ -34,27 +39,38 @@ same-length-3 c = search needs
 same-length-4 : tie.Need-same-length-4
 same-length-4 c = search needs
 
+same-length-5 : tie.Need-same-length-5
+same-length-5 c = search needs
+
 returns : tie.Need-returns
 returns c =
-    let s = c .before .before .before .before .before .before .before .before .before .before .before .before .before .before .before .before .before .before .before .before .before .before in
-    good-refused (s .args .gate) (s .args .guests .now) (s .args .waiting .now) (s .args .flight .now) (s .pre .0) (s .args .event) (s .args .number) (s .args .said .now) (c .before .before .before .before .before .before .before .before .before .before .before .before .before .enter .result) _ _ _ (c .before .before .before .before .before .before .before .before .before .before .before .before .before .enter .ensures) _ (c .before .before .before .before .before .entered .given .1) _ (c .before .before .hear-plain .ensures)
-
-same-length-5 : tie.Need-same-length-5
-same-length-5 c = c .before .before .before .before .before .before .before .before .hear-choice .kept .1 .0 ∙ c .before .before .before .before .before .before .before .before .before .before .before .before .before .before .before .before .before .before .before .before .before .before .enter .kept .1 .0
+    let s = c .before .before .before .before .before .before .before .before .before .before .before .before .before .before .before .before .before .before .before .before .before .before .before .before .before .before in
+    let x = c .before .before .before .before .before .before .before .before .before .before .before .before .before .before .before .enter in
+    let e = c .before .before .before .before .before .entered .given .1 in
+    let p = c .before .before .hear-plain in
+    (good-refused (s .args .gate) (s .args .guests .now) (s .args .waiting .now) (s .args .flight .now) (s .pre .0) (s .args .event) (s .args .number) (s .args .said .now) (x .result) _ _ _ (x .ensures .0) _ e (p .result) (p .ensures), beside-said (s .args .gate) (p .result) (ap Said.gate (p .ensures)) (beside-barred (s .args .gate) (x .result) _ e (x .ensures .1)))
 
 same-length-6 : tie.Need-same-length-6
-same-length-6 c = search needs
+same-length-6 c = c .before .before .before .before .before .before .before .before .before .before .hear-choice .kept .1 .0 ∙ c .before .before .before .before .before .before .before .before .before .before .before .before .before .before .before .before .before .before .before .before .before .before .before .before .before .before .before .enter .kept .1 .0
 
 same-length-7 : tie.Need-same-length-7
-same-length-7 c = search needs
+same-length-7 c = c .before .before .before .before .before .before .before .before .before .before .hear-choice .kept .1 .1 .0 ∙ c .before .before .before .before .before .before .before .before .before .before .before .before .before .before .before .before .before .before .before .before .before .before .before .before .before .before .before .enter .kept .1 .1 .0
 
 same-length-8 : tie.Need-same-length-8
-same-length-8 c = search needs
+same-length-8 c = c .before .before .before .before .before .before .before .before .before .before .hear-choice .kept .1 .1 .1 .0 ∙ c .before .before .before .before .before .before .before .before .before .before .before .before .before .before .before .before .before .before .before .before .before .before .before .before .before .before .before .enter .kept .1 .1 .1 .0
+
+same-length-9 : tie.Need-same-length-9
+same-length-9 c = search needs
+
+same-length-10 : tie.Need-same-length-10
+same-length-10 c = c .before .before .before .before .before .before .before .before .before .before .hear-choice .kept .1 .1 .1 .1 .1 .1 .1 .0 ∙ c .before .before .before .before .before .before .before .before .before .before .before .before .before .before .before .before .before .before .before .before .before .before .before .before .before .before .before .enter .kept .1 .1 .1 .1 .1 .0
 
 returns-2 : tie.Need-returns-2
 returns-2 c =
-    let s = c .before .before .before .before .before .before .before .before .before .before .before .before .before .before .before .before .before .before .before .before .before .before .before .before .before .before .before .before .before .before .before in
-    good-entered (s .args .gate) (s .args .guests .now) (s .args .waiting .now) (s .args .flight .now) (s .pre .0) (s .args .event) (s .args .number) (s .args .said .now) (c .before .before .before .before .before .before .before .before .before .before .before .before .before .before .before .before .before .before .before .before .before .before .enter .result) _ _ _ (c .before .before .before .before .before .before .before .before .before .before .before .before .before .before .before .before .before .before .before .before .before .before .enter .ensures) _ (c .before .before .before .before .before .before .before .before .before .before .before .before .before .before .entered2 .given .1) (c .before .before .before .before .before .before .before .before .hear-choice .ensures)
+    let s = c .before .before .before .before .before .before .before .before .before .before .before .before .before .before .before .before .before .before .before .before .before .before .before .before .before .before .before .before .before .before .before .before .before .before .before .before .before .before in
+    let x = c .before .before .before .before .before .before .before .before .before .before .before .before .before .before .before .before .before .before .before .before .before .before .before .before .before .before .before .enter in
+    let d = c .before .before .before .before .before .before .before .before .before .before .hear-choice .ensures in
+    (good-entered (s .args .gate) (s .args .guests .now) (s .args .waiting .now) (s .args .flight .now) (s .pre .0) (s .args .event) (s .args .number) (s .args .said .now) (x .result) _ _ _ (x .ensures .0) _ (c .before .before .before .before .before .before .before .before .before .before .before .before .before .before .before .before .before .entered2 .given .1) (d .0), d .1)
 
 pub hear-good-spec : {M : Type 1} → statement M
 hear-good-spec =
@@ -69,9 +85,11 @@ hear-good-spec =
     same-length-2
     same-length-3
     same-length-4
-    returns
     same-length-5
+    returns
     same-length-6
     same-length-7
     same-length-8
+    same-length-9
+    same-length-10
     returns-2)

@@ -9,13 +9,13 @@ use Rattle.hears.proofs.hear_send.Tie as tie
 
 send-of-requires : tie.Need-send-of-requires
 send-of-requires c κs =
-    let s = c .before .before .before .before .before .before in
+    let s = c .before .before .before .before .before .before .before in
     let h = place-here (s .args .gate) (s .args .guests .now) (s .args .waiting .now) (s .args .flight .now) (s .pre .0) (s .args .place) (s .args .phase) (s .pre .1 .1 .0) in
     (row-there (s .args .gate) (s .args .guests .now) (s .args .waiting .now) (s .args .flight .now) (s .pre .0) (s .args .place) h .0, id-there (s .args .gate) (s .args .guests .now) (s .args .waiting .now) (s .args .flight .now) (s .pre .0) (s .args .place) h)
 
 find-send-requires : tie.Need-find-send-requires
 find-send-requires c κs =
-    let s = c .before .before .before .before .before .before .before .before .before .before in
+    let s = c .before .before .before .before .before .before .before .before .before .before .before .before in
     ((s .args .flight .now, s .pre .0), (λ fs. picks-any (s .args .gate) (s .args .guests .now) (s .args .waiting .now) (s .args .flight .now) fs (s .args .phase) (s .args .place) (s .pre .1 .1 .0), s .pre .1 .1 .1))
 
 same-length : tie.Need-same-length
@@ -27,19 +27,20 @@ same-length-2 c = search needs
 same-length-3 : tie.Need-same-length-3
 same-length-3 c = search needs
 
+same-length-4 : tie.Need-same-length-4
+same-length-4 c = search needs
+
 returns : tie.Need-returns
 returns c =
-    let s = c .before .before .before .before .before .before .before .before .before .before .before .before .before .before in
-    send-wrong (s .args .gate) (s .args .guests .now) (s .args .waiting .now) (s .args .flight .now) (s .pre .0) (s .args .place) (s .args .phase) (s .pre .1 .1 .0) (s .args .number) (s .args .said .now) _ _ (c .before .before .before .find-send .ensures (s .args .flight .now)) _ (c .before .before .before .before .before .before .before .send-of .ensures) (c .if1 .taken) _ _ _
+    let s = c .before .before .before .before .before .before .before .before .before .before .before .before .before .before .before .before in
+    (send-wrong (s .args .gate) (s .args .guests .now) (s .args .waiting .now) (s .args .flight .now) (s .pre .0) (s .args .place) (s .args .phase) (s .pre .1 .1 .0) (s .args .number) (s .args .said .now) _ _ (c .before .before .before .find-send .ensures (s .args .flight .now)) _ (c .before .before .before .before .before .before .before .before .send-of .ensures) (c .if1 .taken) _ _ _, s .pre .1 .1 .1 .1)
 
 send-in-requires : tie.Need-send-in-requires
 send-in-requires c κs =
-    let s = c .before .before .before .before .before .before .before .before .before .before .before .before .before .before .before .before .before in
-    let some : 0 < c .before .before .before .before .before .before .find-send .result .long = omega arith in
-    (s .pre .0, ((s .pre .1 .0, there-here (s .args .gate) (s .args .guests .now) (s .args .waiting .now) (s .args .flight .now) (s .pre .0) (s .args .place) (s .args .phase) (s .pre .1 .1 .0) (s .args .number) (s .args .said .now) _ _ (c .before .before .before .before .before .before .find-send .ensures (s .args .flight .now)) some), there-first (s .args .gate) (s .args .guests .now) (s .args .waiting .now) (s .args .flight .now) (s .pre .0) (s .args .place) (s .args .phase) (s .pre .1 .1 .0) (s .args .number) (s .args .said .now) _ _ (c .before .before .before .before .before .before .find-send .ensures (s .args .flight .now)) some))
-
-same-length-4 : tie.Need-same-length-4
-same-length-4 c = search needs
+    let s = c .before .before .before .before .before .before .before .before .before .before .before .before .before .before .before .before .before .before .before .before in
+    let some : 0 < c .before .before .before .before .before .before .before .find-send .result .long = omega arith in
+    let f = c .before .before .before .before .before .before .before .find-send .ensures (s .args .flight .now) in
+    (s .pre .0, ((s .pre .1 .0, there-here (s .args .gate) (s .args .guests .now) (s .args .waiting .now) (s .args .flight .now) (s .pre .0) (s .args .place) (s .args .phase) (s .pre .1 .1 .0) (s .args .number) (s .args .said .now) _ _ f some), (there-first (s .args .gate) (s .args .guests .now) (s .args .waiting .now) (s .args .flight .now) (s .pre .0) (s .args .place) (s .args .phase) (s .pre .1 .1 .0) (s .args .number) (s .args .said .now) _ _ f some, s .pre .1 .1 .1 .1)))
 
 same-length-5 : tie.Need-same-length-5
 same-length-5 c = search needs
@@ -50,10 +51,17 @@ same-length-6 c = search needs
 same-length-7 : tie.Need-same-length-7
 same-length-7 c = search needs
 
+same-length-8 : tie.Need-same-length-8
+same-length-8 c = search needs
+
+same-length-9 : tie.Need-same-length-9
+same-length-9 c = search needs
+
 returns-2 : tie.Need-returns-2
 returns-2 c =
-    let s = c .before .before .before .before .before .before .before .before .before .before .before .before .before .before .before .before .before .before .before .before .before .before .before .before in
-    send-right (s .args .gate) (s .args .guests .now) (s .args .waiting .now) (s .args .flight .now) (s .pre .0) (s .args .place) (s .args .phase) (s .pre .1 .1 .0) (s .args .number) (s .args .said .now) _ _ (c .before .before .before .before .before .before .before .before .before .before .before .before .before .find-send .ensures (s .args .flight .now)) (omega arith) _ (c .before .before .before .before .before .before .before .before .before .before .before .before .before .before .before .before .before .send-of .ensures) _ _ _ _ (c .before .before .before .before .before .before .send-in .ensures)
+    let s = c .before .before .before .before .before .before .before .before .before .before .before .before .before .before .before .before .before .before .before .before .before .before .before .before .before .before .before .before .before in
+    let d = c .before .before .before .before .before .before .before .before .send-in .ensures in
+    (send-right (s .args .gate) (s .args .guests .now) (s .args .waiting .now) (s .args .flight .now) (s .pre .0) (s .args .place) (s .args .phase) (s .pre .1 .1 .0) (s .args .number) (s .args .said .now) _ _ (c .before .before .before .before .before .before .before .before .before .before .before .before .before .before .before .before .find-send .ensures (s .args .flight .now)) (omega (arith, c .before .before .before .before .before .before .before .before .before .before .before .before .before .if1 .left)) _ (c .before .before .before .before .before .before .before .before .before .before .before .before .before .before .before .before .before .before .before .before .before .send-of .ensures) _ _ _ _ (d .0), d .1)
 
 pub hear-send-spec : {M : Type 1} → statement M
 hear-send-spec =
@@ -64,10 +72,12 @@ hear-send-spec =
     same-length
     same-length-2
     same-length-3
+    same-length-4
     returns
     send-in-requires
-    same-length-4
     same-length-5
     same-length-6
     same-length-7
+    same-length-8
+    same-length-9
     returns-2)

@@ -9,13 +9,13 @@ enum-told : tie.Need-enum-told
 enum-told c = search needs
 
 send-by-reservation-requires : tie.Need-send-by-reservation-requires
-send-by-reservation-requires c κs = search needs
+send-by-reservation-requires c κs = c .before .before .before .before .before .before .before .before .before .before .pre
 
 enum-told-2 : tie.Need-enum-told-2
 enum-told-2 c = search needs
 
 send-by-weight-requires : tie.Need-send-by-weight-requires
-send-by-weight-requires c κs = search needs
+send-by-weight-requires c κs = c .before .before .before .before .before .before .before .before .before .before .pre
 
 same-length : tie.Need-same-length
 same-length c = search needs
@@ -26,13 +26,14 @@ same-length-2 c = search needs
 same-length-3 : tie.Need-same-length-3
 same-length-3 c = search needs
 
-returns : tie.Need-returns
-returns c =
-    let s = c .before .before .before .before .before .before .before .before .before .before .before .before .before .before in
-    send-left (s .args .gate) (s .args .guests .now) (s .args .waiting .now) (s .args .flight .now) (s .pre .0) (s .pre .1 .0 .0) (s .args .place) (s .pre .1 .0 .1) (s .pre .1 .1) (s .args .phase) Reservation (c .before .before .before .before .before .before .before .before .before .enum-told .given .1) (c .before .before .before .before .before .send-by-reservation .result) _ _ _ (c .before .before .before .before .before .send-by-reservation .ensures)
-
 same-length-4 : tie.Need-same-length-4
 same-length-4 c = search needs
+
+returns : tie.Need-returns
+returns c =
+    let s = c .before .before .before .before .before .before .before .before .before .before .before .before .before .before .before .before .before .before in
+    let d = c .before .before .before .before .before .before .before .send-by-reservation in
+    (send-left (s .args .gate) (s .args .guests .now) (s .args .waiting .now) (s .args .flight .now) (s .pre .0) (s .pre .1 .0 .0) (s .args .place) (s .pre .1 .0 .1) (s .pre .1 .1 .0) (s .args .phase) Reservation (c .before .before .before .before .before .before .before .before .before .before .before .before .enum-told .given .1) (d .result) _ _ _ (d .ensures .0), d .ensures .1)
 
 same-length-5 : tie.Need-same-length-5
 same-length-5 c = search needs
@@ -40,10 +41,17 @@ same-length-5 c = search needs
 same-length-6 : tie.Need-same-length-6
 same-length-6 c = search needs
 
+same-length-7 : tie.Need-same-length-7
+same-length-7 c = search needs
+
+same-length-8 : tie.Need-same-length-8
+same-length-8 c = search needs
+
 returns-2 : tie.Need-returns-2
 returns-2 c =
-    let s = c .before .before .before .before .before .before .before .before .before .before .before .before .before .before .before .before in
-    send-left (s .args .gate) (s .args .guests .now) (s .args .waiting .now) (s .args .flight .now) (s .pre .0) (s .pre .1 .0 .0) (s .args .place) (s .pre .1 .0 .1) (s .pre .1 .1) (s .args .phase) Weight (c .before .before .before .before .before .before .before .before .before .before .before .enum-told2 .given .1) (c .before .before .before .before .before .before .before .send-by-weight .result) _ _ _ (c .before .before .before .before .before .before .before .send-by-weight .ensures)
+    let s = c .before .before .before .before .before .before .before .before .before .before .before .before .before .before .before .before .before .before .before .before in
+    let d = c .before .before .before .before .before .before .before .before .before .send-by-weight in
+    (send-left (s .args .gate) (s .args .guests .now) (s .args .waiting .now) (s .args .flight .now) (s .pre .0) (s .pre .1 .0 .0) (s .args .place) (s .pre .1 .0 .1) (s .pre .1 .1 .0) (s .args .phase) Weight (c .before .before .before .before .before .before .before .before .before .before .before .before .before .before .enum-told2 .given .1) (d .result) _ _ _ (d .ensures .0), d .ensures .1)
 
 pub send-in-spec : {M : Type 1} → statement M
 send-in-spec =
@@ -56,8 +64,10 @@ send-in-spec =
     same-length
     same-length-2
     same-length-3
-    returns
     same-length-4
+    returns
     same-length-5
     same-length-6
+    same-length-7
+    same-length-8
     returns-2)

@@ -32,8 +32,8 @@ enum-known-event c = search needs
 
 turn-requires : tie.Need-turn-requires
 turn-requires c κs =
-    let p = c .before .before .before .before .before .before .before .before .before .before .before .before .before .before .before .before .pre in
-    (p .1 .known, (p .1 .kept, p .0 .1))
+    let p = c .before .before .before .before .before .before .before .before .before .before .before .before .before .before .before .before .before .before .pre in
+    (p .1 .0 .known, (p .1 .0 .kept, (p .0 .1, p .1 .1)))
 
 enum-told : tie.Need-enum-told
 enum-told c = search needs
@@ -53,22 +53,26 @@ same-length-4 c = search needs
 same-length-5 : tie.Need-same-length-5
 same-length-5 c = search needs
 
+same-length-6 : tie.Need-same-length-6
+same-length-6 c = search needs
+
 returns : tie.Need-returns
 returns c =
-    let a = c .before .before .before .before .before .before .before .before .before .before .before .before .before .before .before .before .before .before .before .before .before .before .before .before .before .before .before .args in
+    let a = c .before .before .before .before .before .before .before .before .before .before .before .before .before .before .before .before .before .before .before .before .before .before .before .before .before .before .before .before .before .before .before .args in
     let n : a .from + 14 - a .from ≡ 14 = omega arith in
-    let x = c .before .before .before .before .before .before .before .before .before .before .before .before .before .before .before .before .before .before .before .read-event in
+    let x = c .before .before .before .before .before .before .before .before .before .before .before .before .before .before .before .before .before .before .before .before .before .before .read-event in
     let e = read-shown-once (x .result) _ (x .ensures) ∙ ap (λ (k : ℕ). eventOf (a .version) (take k (drop (a .from) (a .bytes .now)))) n ∙ event-take (a .version) (drop (a .from) (a .bytes .now)) in
-    let t = c .before .before .before .before .before .before .before .before .before .before .turn .ensures in
-    (t .0 ∙ ap (read (pageOf (a .gate) (a .guests .now) (a .waiting .now) (a .flight .now) (a .book .now) (a .figures .now))) (sym (c .before .before .before .before .before .before .before .before .before .before .before .before .before .before .before .before .before .event .given .1) ∙ e), record { known = t .1 .0; kept = t .1 .1 })
+    let t = c .before .before .before .before .before .before .before .before .before .before .before .before .turn .ensures in
+    (t .0 ∙ ap (read (pageOf (a .gate) (a .guests .now) (a .waiting .now) (a .flight .now) (a .book .now) (a .figures .now))) (sym (c .before .before .before .before .before .before .before .before .before .before .before .before .before .before .before .before .before .before .before .before .event .given .1) ∙ e), (record { known = t .1 .0; kept = t .1 .1 .0 }, t .1 .1 .1))
 
 returns-2 : tie.Need-returns-2
 returns-2 c =
-    let a = c .before .before .before .before .before .before .before .before .before .before .args in
+    let a = c .before .before .before .before .before .before .before .before .before .before .before .args in
+    let p = c .before .before .before .before .before .before .before .before .before .before .before .pre in
     let n : a .from + 14 - a .from ≡ 14 = omega arith in
     let x = c .before .before .read-event in
     let e = read-shown-once (x .result) _ (x .ensures) ∙ ap (λ (k : ℕ). eventOf (a .version) (take k (drop (a .from) (a .bytes .now)))) n ∙ event-take (a .version) (drop (a .from) (a .bytes .now)) in
-    (ap (read (pageOf (a .gate) (a .guests .now) (a .waiting .now) (a .flight .now) (a .book .now) (a .figures .now))) (sym (c .enum-told .given .1) ∙ e), firm-passed (a .number) (a .gate) _ _ _ _ _ (c .before .before .before .before .before .before .before .before .before .before .pre .1))
+    (ap (read (pageOf (a .gate) (a .guests .now) (a .waiting .now) (a .flight .now) (a .book .now) (a .figures .now))) (sym (c .enum-told .given .1) ∙ e), (firm-passed (a .number) (a .gate) _ _ _ _ _ (p .1 .0), p .1 .1))
 
 pub one-spec : {M : Type 1} → statement M
 one-spec =
@@ -87,5 +91,6 @@ one-spec =
     same-length-3
     same-length-4
     same-length-5
+    same-length-6
     returns
     returns-2)

@@ -1,91 +1,60 @@
-use native.Mathlib.Omega.{arith}
-use Prim.Native.Nat.{ℕ, _-_, _≤_}
-use mathlib.Core.Path.{_≡_, refl, _∙_, subst}
+-- `turn_all` meets its contract: the index is that of the known rows, or there is none. Assumes nothing.
+use Prim.Native.Nat.{_≤_}
+use mathlib.Core.Path.{sym}
 use lib.ListN.{length}
-use Rattle.trace.specs.Event.{whole}
-use Rattle.tally.specs.Kept.{pageOf}
-use Rattle.rolls.proofs.Going.{Going, going-none, going-next}
+use lib.Seq.{length-take-le}
+use Rattle.index.proofs.Begun.{build-asks}
+use borrow.Author.Needs.{needs}
 use Rattle.rolls.proofs.turn_all.Statement.{statement}
 use Rattle.rolls.proofs.turn_all.Tie as tie
 
-abbrev Inv-loop : tie.InvT-loop
-Inv-loop version bytes number guests₀ waiting₀ flight₀ book₀ figures₀ n gate₀ i₀ guests waiting flight book figures gate i =
-    (i ≤ n) × (length guests ≡ length guests₀) × (length waiting ≡ length waiting₀) × (length flight ≡ length flight₀) × (length book ≡ length book₀) × (length figures ≡ length figures₀)
-    × Going version (pageOf gate₀ guests₀ waiting₀ flight₀ book₀ figures₀) bytes number i gate guests waiting flight book figures
+slice-aggregate-begin : tie.Need-slice-aggregate-begin
+slice-aggregate-begin c = search needs
 
-abbrev μ-loop : tie.MeasureT-loop
-μ-loop version bytes number guests₀ waiting₀ flight₀ book₀ figures₀ n gate₀ i₀ guests waiting flight book figures gate i = n - i
+begin-requires : tie.Need-begin-requires
+begin-requires c κs =
+    let s = c .before .before .before .before .before .before .before .before in
+    (search needs, λ e. build-asks (s .args .first) (s .args .guests .now) (s .args .waiting .now) (s .args .flight .now) (s .pre .1 .known))
 
-loop-holds : tie.Need-loop-holds Inv-loop μ-loop
-loop-holds c = (omega arith, refl, refl, refl, refl, refl, going-none _ (c .before .before .before .before .before .before .args .bytes .now) (c .before .before .before .before .before .before .args .number) _ _ _ _ _ _ (c .before .before .before .before .before .before .pre .1))
+array-borrow-prefix-room : tie.Need-array-borrow-prefix-room
+array-borrow-prefix-room c = search needs
 
-mul-one : tie.Need-mul-one Inv-loop μ-loop
-mul-one c = omega arith
+slice-aggregate-turn-beside : tie.Need-slice-aggregate-turn-beside
+slice-aggregate-turn-beside c =
+    let b = c .before .before .before .before .before .before .before .begin in
+    let h : b .result ≤ length (b .last .1 .1 .1 .0) = search needs in
+    sym (length-take-le (b .result) (b .last .1 .1 .1 .0) h)
 
-add-one : tie.Need-add-one Inv-loop μ-loop
-add-one c = omega arith
+turn-beside-requires : tie.Need-turn-beside-requires
+turn-beside-requires c κs = let s = c .before .before .before .before .before .before .before .before .before .before .before .before .before .before .before .before in (s .pre .0, (s .pre .1, c .before .before .before .before .before .before .before .begin .ensures .1))
 
-one-requires : tie.Need-one-requires Inv-loop μ-loop
-one-requires c κs =
-    let l = c .before .before .before .before .before .before .loop in
-    ((omega (arith, l .inv .0, c .before .before .before .before .before .loop-test .taken), omega (arith, l .inv .0, c .before .before .before .before .before .loop-test .taken, c .before .before .before .before .before .before .before .before .before .before .before .before .before .pre .0)), l .inv .6 .firm)
+same-length : tie.Need-same-length
+same-length c = search needs
 
-add-i : tie.Need-add-i Inv-loop μ-loop
-add-i c = omega arith
+same-length-2 : tie.Need-same-length-2
+same-length-2 c = search needs
 
-loop-less : tie.Need-loop-less Inv-loop μ-loop
-loop-less c = omega arith
+same-length-3 : tie.Need-same-length-3
+same-length-3 c = search needs
 
-loop-again : tie.Need-loop-again Inv-loop μ-loop
-loop-again c =
-    let s = c .before .before .before .before .before .before .before .before .before .before .before .before .before .before .before .before .before .loop in
-    let o = c .before .before .before .before .before .before .before .before .before .before .one in
-    let k = o .kept .1 .1 .1 .1 .1 in (
-      omega (arith, c .before .before .before .before .before .before .before .before .before .before .before .before .before .before .before .before .loop-test .taken),
-      k .0 ∙ s .inv .1,
-      k .1 .0 ∙ s .inv .2,
-      k .1 .1 .0 ∙ s .inv .3,
-      k .1 .1 .1 .0 ∙ s .inv .4,
-      k .1 .1 .1 .1 .0 ∙ s .inv .5,
-      going-next _ _ (c .before .before .before .before .before .before .before .before .before .before .before .before .before .before .before .before .before .before .before .before .before .before .before .before .args .bytes .now) (c .before .before .before .before .before .before .before .before .before .before .before .before .before .before .before .before .before .before .before .before .before .before .before .before .args .number) (s .i) _ _ _ _ _ _ _ _ _ _ _ _ (s .inv .6) (o .ensures .0) (o .ensures .1),
-    )
+same-length-4 : tie.Need-same-length-4
+same-length-4 c = search needs
 
-same-length : tie.Need-same-length Inv-loop μ-loop
-same-length c = c .before .loop .inv .1
+same-length-5 : tie.Need-same-length-5
+same-length-5 c = search needs
 
-same-length-2 : tie.Need-same-length-2 Inv-loop μ-loop
-same-length-2 c = c .before .loop .inv .2
-
-same-length-3 : tie.Need-same-length-3 Inv-loop μ-loop
-same-length-3 c = c .before .loop .inv .3
-
-same-length-4 : tie.Need-same-length-4 Inv-loop μ-loop
-same-length-4 c = c .before .loop .inv .4
-
-same-length-5 : tie.Need-same-length-5 Inv-loop μ-loop
-same-length-5 c = c .before .loop .inv .5
-
-returns : tie.Need-returns Inv-loop μ-loop
-returns c =
-    let s = c .before .loop in
-    let a = c .before .before .before .before .before .before .before .before .args in
-    let e : s .i ≡ whole (a .bytes .now) = omega (arith, c .loop-test .left, s .inv .0) in
-    let w = subst (λ (k : ℕ). Going (a .version) (pageOf (a .first) (a .guests .now) (a .waiting .now) (a .flight .now) (a .book .now) (a .figures .now)) (a .bytes .now) (a .number) k (s .gate) (s .guests) (s .waiting) (s .flight) (s .book) (s .figures)) e (s .inv .6) in
-    (w .page, w .firm)
+returns : tie.Need-returns
+returns c = c .before .before .before .before .before .before .before .before .before .before .before .turn-beside .ensures
 
 pub turn-all-spec : {M : Type 1} → statement M
 turn-all-spec =
     tie.close
     (tie.spec
-    Inv-loop
-    μ-loop
-    loop-holds
-    mul-one
-    add-one
-    one-requires
-    add-i
-    loop-less
-    loop-again
+    slice-aggregate-begin
+    begin-requires
+    array-borrow-prefix-room
+    slice-aggregate-turn-beside
+    turn-beside-requires
     same-length
     same-length-2
     same-length-3

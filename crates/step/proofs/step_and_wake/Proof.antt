@@ -3,13 +3,14 @@
 use mathlib.Core.Path.{_≡_}
 use mathlib.Core.Logic.{_⊎_, ⊎-elim}
 use native.Mathlib.Omega.{arith}
+use Rattle.step.proofs.Besides.{beside-handed}
 use Rattle.step.proofs.Moves.{refused-told, woken-told}
 use borrow.Author.Needs.{needs}
 use Rattle.step.proofs.step_and_wake.Statement.{statement}
 use Rattle.step.proofs.step_and_wake.Tie as tie
 
 step-requires : tie.Need-step-requires
-step-requires c κs = search needs
+step-requires c κs = c .before .before .before .before .before .before .before .before .pre
 
 enum-known-answer : tie.Need-enum-known-answer
 enum-known-answer c = search needs
@@ -18,7 +19,7 @@ refused-requires : tie.Need-refused-requires
 refused-requires c κs = search needs
 
 wake-of-requires : tie.Need-wake-of-requires
-wake-of-requires c κs = search needs
+wake-of-requires c κs = let m = c .before .before .before .before .before .before .before .before .before .before .before .before .before .step .ensures in ((_, m .1 .0), m .1 .1)
 
 answered-requires : tie.Need-answered-requires
 answered-requires c κs = search needs
@@ -32,14 +33,15 @@ same-length-2 c = search needs
 same-length-3 : tie.Need-same-length-3
 same-length-3 c = search needs
 
-returns : tie.Need-returns
-returns c =
-    let s = c .before .before .before .before .before .before .before .before .before .before .before .before .before .before .before .before .before .before in
-    let m = c .before .before .before .before .before .before .before .before .before .before .before .step in
-    refused-told (s .args .gate) (s .args .guests .now) (s .args .waiting .now) (s .args .flight .now) (s .pre) (s .args .event) (m .result) _ _ _ (m .ensures .0) (m .ensures .1) _ (c .before .before .answer .given .1) _ (c .refused .ensures)
-
 same-length-4 : tie.Need-same-length-4
 same-length-4 c = search needs
+
+returns : tie.Need-returns
+returns c =
+    let s = c .before .before .before .before .before .before .before .before .before .before .before .before .before .before .before .before .before .before .before .before .before .before in
+    let m = c .before .before .before .before .before .before .before .before .before .before .before .before .before .step in
+    let h = refused-told (s .args .gate) (s .args .guests .now) (s .args .waiting .now) (s .args .flight .now) (s .pre .0) (s .args .event) (m .result) _ _ _ (m .ensures .0) (m .ensures .1 .0) _ (c .before .before .answer .given .1) _ (c .refused .ensures) in
+    (h .0, (h .1, beside-handed (m .result .gate) _ _ _ (c .refused .ensures) (m .ensures .1 .1)))
 
 same-length-5 : tie.Need-same-length-5
 same-length-5 c = search needs
@@ -47,28 +49,20 @@ same-length-5 c = search needs
 same-length-6 : tie.Need-same-length-6
 same-length-6 c = search needs
 
+same-length-7 : tie.Need-same-length-7
+same-length-7 c = search needs
+
+same-length-8 : tie.Need-same-length-8
+same-length-8 c = search needs
+
 returns-2 : tie.Need-returns-2
 returns-2 c =
-    let s = c .before .before .before .before .before .before .before .before .before .before .before .before .before .before .before .before .before .before .before in
-    let m = c .before .before .before .before .before .before .before .before .before .before .before .before .step in
-    woken-told (s .args .gate) (s .args .guests .now) (s .args .waiting .now) (s .args .flight .now) (s .pre) (s .args .event) (m .result) _ _ _ (m .ensures .0) (m .ensures .1)
-    (λ r e. let z : (2 ≡ 0) ⊎ (2 ≡ 1) = rw e at (c .before .before .before .before .match .keys2) in ⊎-elim (λ x. omega arith) (λ x. omega arith) z)
-    _ (c .before .wake-of .ensures _) _ (c .answered .ensures)
+    let s = c .before .before .before .before .before .before .before .before .before .before .before .before .before .before .before .before .before .before .before .before .before .before .before .before in
+    let m = c .before .before .before .before .before .before .before .before .before .before .before .before .before .before .before .step in
+    let h = woken-told (s .args .gate) (s .args .guests .now) (s .args .waiting .now) (s .args .flight .now) (s .pre .0) (s .args .event) (m .result) _ _ _ (m .ensures .0) (m .ensures .1 .0)
+    (λ r e. let z : (2 ≡ 0) ⊎ (2 ≡ 1) = rw e at (c .before .before .before .before .before .match .keys2) in ⊎-elim (λ x. omega arith) (λ x. omega arith) z)
+    _ (c .before .wake-of .ensures _) _ (c .answered .ensures) in
+    (h .0, (h .1, beside-handed (m .result .gate) _ _ _ (c .answered .ensures) (m .ensures .1 .1)))
 
 pub step-and-wake-spec : {M : Type 1} → statement M
-step-and-wake-spec =
-    tie.close
-    (tie.spec
-    step-requires
-    enum-known-answer
-    refused-requires
-    wake-of-requires
-    answered-requires
-    same-length
-    same-length-2
-    same-length-3
-    returns
-    same-length-4
-    same-length-5
-    same-length-6
-    returns-2)
+step-and-wake-spec = tie.close (tie.spec step-requires enum-known-answer refused-requires wake-of-requires answered-requires same-length same-length-2 same-length-3 same-length-4 returns same-length-5 same-length-6 same-length-7 same-length-8 returns-2)

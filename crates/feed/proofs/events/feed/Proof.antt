@@ -1,95 +1,57 @@
-use native.Mathlib.Omega.{arith}
-use Prim.Native.Nat.{ℕ, _-_, _*_, _≤_}
-use mathlib.Core.Path.{_≡_, refl, subst, _∙_}
+-- `events::feed` meets its contract: the index is that of the known rows, or there is none. Assumes nothing.
+use Prim.Native.Nat.{_≤_}
+use mathlib.Core.Path.{sym}
 use lib.ListN.{length}
-use Rattle.feed.proofs.Going.{Going, going-none, going-next}
+use lib.Seq.{length-take-le}
+use Rattle.index.proofs.Begun.{build-asks}
+use borrow.Author.Needs.{needs}
 use Rattle.feed.proofs.events.feed.Statement.{statement}
 use Rattle.feed.proofs.events.feed.Tie as tie
 
-abbrev Inv-loop : tie.InvT-loop
-Inv-loop version bytes number guests₀ waiting₀ flight₀ out₀ n gate₀ i₀ at₀ guests waiting flight out gate i at =
-    (i ≤ n) × (at ≤ 65 * i) × (length guests ≡ length guests₀) × (length waiting ≡ length waiting₀) × (length flight ≡ length flight₀) × (length out ≡ length out₀)
-    × (Going version gate₀ guests₀ waiting₀ flight₀ bytes number out₀ i gate guests waiting flight out at)
+slice-aggregate-begin : tie.Need-slice-aggregate-begin
+slice-aggregate-begin c = search needs
 
-abbrev μ-loop : tie.MeasureT-loop
-μ-loop version bytes number guests₀ waiting₀ flight₀ out₀ n gate₀ i₀ at₀ guests waiting flight out gate i at = n - i
+begin-requires : tie.Need-begin-requires
+begin-requires c κs =
+    let s = c .before .before .before .before .before .before .before in
+    (search needs, λ e. build-asks (s .args .first) (s .args .guests .now) (s .args .waiting .now) (s .args .flight .now) (s .pre .0))
 
-least-requires : tie.Need-least-requires Inv-loop μ-loop
-least-requires c κs = tt
+array-borrow-prefix-room : tie.Need-array-borrow-prefix-room
+array-borrow-prefix-room c = search needs
 
-loop-holds : tie.Need-loop-holds Inv-loop μ-loop
-loop-holds c = (omega arith, omega arith, refl, refl, refl, refl, going-none _ _ _ _ (c .before .before .before .before .before .before .pre .0) _ _ _ _)
+slice-aggregate-feed-beside : tie.Need-slice-aggregate-feed-beside
+slice-aggregate-feed-beside c =
+    let b = c .before .before .before .before .before .before .begin in
+    let h : b .result ≤ length (b .last .1 .1 .1 .0) = search needs in
+    sym (length-take-le (b .result) (b .last .1 .1 .1 .0) h)
 
-mul-one : tie.Need-mul-one Inv-loop μ-loop
-mul-one c = omega arith
+feed-beside-requires : tie.Need-feed-beside-requires
+feed-beside-requires c κs = let s = c .before .before .before .before .before .before .before .before .before .before .before .before .before .before in (s .pre .0, (s .pre .1, c .before .before .before .before .before .before .begin .ensures .1))
 
-add-one : tie.Need-add-one Inv-loop μ-loop
-add-one c = omega arith
+same-length : tie.Need-same-length
+same-length c = search needs
 
-add-one-2 : tie.Need-add-one-2 Inv-loop μ-loop
-add-one-2 c = omega arith
+same-length-2 : tie.Need-same-length-2
+same-length-2 c = search needs
 
-one-requires : tie.Need-one-requires Inv-loop μ-loop
-one-requires c κs =
-    let l = c .before .before .before .before .before .loop in
-    (omega (arith, l .inv .0, c .before .before .before .before .before .before .least .ensures), (l .inv .6 .became .known, omega (arith, l .inv .1, l .inv .5, c .before .before .before .before .before .before .least .ensures)))
+same-length-3 : tie.Need-same-length-3
+same-length-3 c = search needs
 
-add-i : tie.Need-add-i Inv-loop μ-loop
-add-i c = omega arith
+same-length-4 : tie.Need-same-length-4
+same-length-4 c = search needs
 
-loop-less : tie.Need-loop-less Inv-loop μ-loop
-loop-less c = omega arith
-
-loop-again : tie.Need-loop-again Inv-loop μ-loop
-loop-again c =
-    let s = c .before .before .before .before .before .before .before .before .before .before .before .before .before .before .before .loop in
-    let o = c .before .before .before .before .before .before .before .before .before .one in
-    let k = o .kept .1 .1 .1 .1 .1 in (
-      omega (arith, c .before .before .before .before .before .before .before .before .before .before .before .before .before .before .loop-test .taken),
-      omega (arith, o .ensures .short, s .inv .1),
-      k .0 ∙ s .inv .2,
-      k .1 .0 ∙ s .inv .3,
-      k .1 .1 .0 ∙ s .inv .4,
-      k .1 .1 .1 .0 ∙ s .inv .5,
-      going-next _ _ _ _ (c .before .before .before .before .before .before .before .before .before .before .before .before .before .before .before .before .before .before .before .before .before .before .pre .0) _ _ _ _ (s .i) _ _ _ _ (s .out) (s .at) _ _ _ _ _ _ (s .inv .6) (o .ensures),
-    )
-
-same-length : tie.Need-same-length Inv-loop μ-loop
-same-length c = c .before .loop .inv .2
-
-same-length-2 : tie.Need-same-length-2 Inv-loop μ-loop
-same-length-2 c = c .before .loop .inv .3
-
-same-length-3 : tie.Need-same-length-3 Inv-loop μ-loop
-same-length-3 c = c .before .loop .inv .4
-
-same-length-4 : tie.Need-same-length-4 Inv-loop μ-loop
-same-length-4 c = c .before .loop .inv .5
-
-returns : tie.Need-returns Inv-loop μ-loop
-returns c =
-    let s = c .before .loop in
-    let a = c .before .before .before .before .before .before .before .before .args in
-    let n = c .before .before .least in
-    let e : s .i ≡ n .result = omega (arith, c .loop-test .left, s .inv .0) in
-    let w = subst (λ (k : ℕ). Going (a .version) (a .first) (a .guests .now) (a .waiting .now) (a .flight .now) (a .bytes .now) (a .number) (a .out .now) k (s .gate) (s .guests) (s .waiting) (s .flight) (s .out) (s .at)) e (s .inv .6) in
-    record { taken = n .ensures; became = w .became; lines = w .lines; room = omega (arith, n .ensures, s .inv .1, e) }
+returns : tie.Need-returns
+returns c = c .before .before .before .before .before .before .before .before .before .feed-beside .ensures
 
 pub feed-spec : {M : Type 1} → statement M
 feed-spec =
     tie.close
     (tie.spec
-    Inv-loop
-    μ-loop
-    least-requires
-    loop-holds
-    mul-one
-    add-one
-    add-one-2
-    one-requires
-    add-i
-    loop-less
-    loop-again
+    slice-aggregate-begin
+    begin-requires
+    array-borrow-prefix-room
+    slice-aggregate-feed-beside
+    feed-beside-requires
     same-length
     same-length-2
     same-length-3

@@ -1,5 +1,5 @@
 -- `events::judge` meets its contract: a good event is the step, a bad one leaves all as it stood. Assumes nothing.
-use Rattle.feed.proofs.Judging.{good-answers, bad-answers}
+use Rattle.feed.proofs.Judging.{good-answers, bad-answers, bad-beside}
 use borrow.Author.Needs.{needs}
 use Rattle.feed.proofs.events.judge.Statement.{statement}
 use Rattle.feed.proofs.events.judge.Tie as tie
@@ -8,7 +8,7 @@ enum-known-event : tie.Need-enum-known-event
 enum-known-event c = search needs
 
 step-requires : tie.Need-step-requires
-step-requires c κs = search needs
+step-requires c κs = c .before .before .before .before .before .before .before .before .before .before .before .pre
 
 enum-told : tie.Need-enum-told
 enum-told c = search needs
@@ -25,16 +25,21 @@ same-length-2 c = search needs
 same-length-3 : tie.Need-same-length-3
 same-length-3 c = search needs
 
+same-length-4 : tie.Need-same-length-4
+same-length-4 c = search needs
+
 returns : tie.Need-returns
 returns c =
-    let s = c .before .before .before .before .before .before .before .before .before .before .before .before .before .before .before .before in
-    let v = c .before .before .before .before .before .before .before .before .before .before .before .event .given in
-    (good-answers (s .args .gate) (s .args .guests .now) (s .args .waiting .now) (s .args .flight .now) (s .args .event) _ (v .1) (c .before .before .before .before .before .before .step .ensures .0), c .before .before .before .before .before .before .step .ensures .1)
+    let a = c .before .before .before .before .before .before .before .before .before .before .before .before .before .before .before .before .before .before .before .before .args in
+    let m = c .before .before .before .before .before .before .before .before .step .ensures in
+    (good-answers (a .gate) (a .guests .now) (a .waiting .now) (a .flight .now) (a .event) _ (c .before .before .before .before .before .before .before .before .before .before .before .before .before .before .event .given .1) (m .0), (m .1 .0, m .1 .1))
 
 returns-2 : tie.Need-returns-2
 returns-2 c =
-    let s = c .before .before .before .before .before .before in
-    bad-answers (s .args .gate) (s .args .guests .now) (s .args .waiting .now) (s .args .flight .now) (s .args .event) (s .pre) (c .before .enum-told .given .1) _ (c .decided .ensures)
+    let s = c .before .before .before .before .before .before .before in
+    let d = c .decided .ensures in
+    let m = bad-answers (s .args .gate) (s .args .guests .now) (s .args .waiting .now) (s .args .flight .now) (s .args .event) (s .pre .0) (c .before .enum-told .given .1) _ d in
+    (m .0, (m .1, bad-beside (s .args .gate) (s .args .guests .now) (s .args .waiting .now) (s .args .flight .now) (s .args .event) _ d (s .pre .1)))
 
 pub judge-spec : {M : Type 1} → statement M
 judge-spec =
@@ -47,5 +52,6 @@ judge-spec =
     same-length
     same-length-2
     same-length-3
+    same-length-4
     returns
     returns-2)

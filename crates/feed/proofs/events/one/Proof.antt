@@ -26,10 +26,10 @@ read-event-requires : tie.Need-read-event-requires
 read-event-requires c κs = search needs
 
 judge-requires : tie.Need-judge-requires
-judge-requires c κs = search needs
+judge-requires c κs = let p = c .before .before .before .before .before .before .before .before .before .before .before .before .pre in (p .1 .0, p .1 .1 .1)
 
 put-line-requires : tie.Need-put-line-requires
-put-line-requires c κs = search needs
+put-line-requires c κs = c .before .before .before .before .before .before .before .before .before .before .before .before .before .before .before .before .before .before .before .before .before .before .before .pre .1 .1 .0
 
 same-length : tie.Need-same-length
 same-length c = search needs
@@ -43,15 +43,18 @@ same-length-3 c = search needs
 same-length-4 : tie.Need-same-length-4
 same-length-4 c = search needs
 
+same-length-5 : tie.Need-same-length-5
+same-length-5 c = search needs
+
 returns : tie.Need-returns
 returns c =
-    let a = c .before .before .before .before .before .before .before .before .before .before .before .before .before .before .before .before .before .before .before .before .before .before .args in
+    let a = c .before .before .before .before .before .before .before .before .before .before .before .before .before .before .before .before .before .before .before .before .before .before .before .before .before .before .args in
     let n : a .from + 14 - a .from ≡ 14 = omega arith in
-    let x = c .before .before .before .before .before .before .before .before .before .before .before .before .before .before .before .read-event in
+    let x = c .before .before .before .before .before .before .before .before .before .before .before .before .before .before .before .before .before .before .read-event in
     let e = read-shown-once (x .result) _ (x .ensures) ∙ ap (λ (k : ℕ). eventOf (a .version) (take k (drop (a .from) (a .bytes .now)))) n ∙ event-take (a .version) (drop (a .from) (a .bytes .now)) in
-    let j = c .before .before .before .before .before .before .before .before .before .before .before .judge in
+    let j = c .before .before .before .before .before .before .before .before .before .before .before .before .before .judge in
     let l = c .before .before .put-line in
-    judged-by (a .gate) (a .guests .now) (a .waiting .now) (a .flight .now) _ _ e (a .number) (a .at) (l .result) (a .out .now) _ (j .result) _ _ _ (j .ensures .0) (j .ensures .1) (l .ensures .0) (l .ensures .1)
+    (judged-by (a .gate) (a .guests .now) (a .waiting .now) (a .flight .now) _ _ e (a .number) (a .at) (l .result) (a .out .now) _ (j .result) _ _ _ (j .ensures .0) (j .ensures .1 .0) (l .ensures .0) (l .ensures .1), j .ensures .1 .1)
 
 pub one-spec : {M : Type 1} → statement M
 one-spec =
@@ -68,4 +71,5 @@ one-spec =
     same-length-2
     same-length-3
     same-length-4
+    same-length-5
     returns)

@@ -1,168 +1,51 @@
--- `events::judge_events` meets its contract. The loop's invariant: what is left to judge, from the tables and the place in the lines that were reached, is what was to
--- judge. The measure is what is left of the events. Assumes nothing.
-use Prim.Native.Nat.{_-_, _≤_}
-use mathlib.Core.Path.{_≡_, refl}
-use native.Mathlib.Omega.{arith}
-use lib.ListN.{length}
-use Rattle.judge.proofs.Going.{Reached, reached-none, reached-wrong, reached-fits, reached-next, reached-all}
+-- `events::judge_events` meets its contract: the index is built, and stands beside the rows. Assumes nothing.
+use Rattle.index.proofs.Begun.{build-asks}
+use borrow.Author.Needs.{needs}
 use Rattle.judges.proofs.events.judge_events.Statement.{statement}
 use Rattle.judges.proofs.events.judge_events.Tie as tie
 
-abbrev Inv-loop : tie.InvT-loop
-Inv-loop version bytes guests₀ waiting₀ flight₀ said text₀ n gate₀ at₀ i₀ guests waiting flight text gate at i =
-    (i ≤ n) × (length guests ≡ length guests₀) × (length waiting ≡ length waiting₀) × (length flight ≡ length flight₀) × (length text ≡ length text₀)
-    × Reached version gate₀ guests₀ waiting₀ flight₀ bytes said n i gate guests waiting flight at
+slice-aggregate-build : tie.Need-slice-aggregate-build
+slice-aggregate-build c = search needs
 
-abbrev μ-loop : tie.MeasureT-loop
-μ-loop version bytes guests₀ waiting₀ flight₀ said text₀ n gate₀ at₀ i₀ guests waiting flight text gate at i = n - i
+build-requires : tie.Need-build-requires
+build-requires c κs =
+    let s = c .before .before .before .before .before .before .before .before in
+    let r = build-asks (s .args .first) (s .args .guests .now) (s .args .waiting .now) (s .args .flight .now) (s .pre .0) in
+    ((r .0, r .1, search needs), r .2)
 
-loop-holds : tie.Need-loop-holds Inv-loop μ-loop
-loop-holds c = let s = c .before .before .before .before .before .before in (omega arith, refl, refl, refl, refl, reached-none (s .args .version) (s .args .first) (s .args .guests .now) (s .args .waiting .now) (s .args .flight .now) (s .args .bytes .now) (s .args .said .now) (s .pre .0))
+slice-aggregate-judge-beside : tie.Need-slice-aggregate-judge-beside
+slice-aggregate-judge-beside c = search needs
 
-mul-hear : tie.Need-mul-hear Inv-loop μ-loop
-mul-hear c = omega arith
+judge-beside-requires : tie.Need-judge-beside-requires
+judge-beside-requires c κs =
+    let s = c .before .before .before .before .before .before .before .before .before .before .before .before .before .before .before in
+    (s .pre .0, (s .pre .1, λ some. c .before .before .before .before .before .before .build .ensures))
 
-add-hear : tie.Need-add-hear Inv-loop μ-loop
-add-hear c = omega arith
+same-length : tie.Need-same-length
+same-length c = search needs
 
-sub-hear : tie.Need-sub-hear Inv-loop μ-loop
-sub-hear c = omega (arith, c .before .before .before .before .loop .inv .5 .fits)
+same-length-2 : tie.Need-same-length-2
+same-length-2 c = search needs
 
-part-hear-start : tie.Need-part-hear-start Inv-loop μ-loop
-part-hear-start c = omega (arith, c .before .before .before .before .loop .inv .5 .fits)
+same-length-3 : tie.Need-same-length-3
+same-length-3 c = search needs
 
-part-hear-end : tie.Need-part-hear-end Inv-loop μ-loop
-part-hear-end c = omega arith
+same-length-4 : tie.Need-same-length-4
+same-length-4 c = search needs
 
-hear-requires : tie.Need-hear-requires Inv-loop μ-loop
-hear-requires c κs =
-    let l = c .before .before .before .before .before .before .loop in
-    (omega arith, (l .inv .5 .known, omega (arith, l .inv .4, c .before .before .before .before .before .before .before .before .before .before .before .before .before .pre .1)))
-
-add-wrong-at : tie.Need-add-wrong-at Inv-loop μ-loop
-add-wrong-at c = omega (arith, c .before .before .before .before .before .before .before .before .before .before .before .before .before .before .before .loop-test .taken, c .before .before .before .before .before .before .before .before .before .before .before .before .before .before .before .before .before .before .before .before .before .before .before .good .1 .0 .0)
-
-wrong-at-requires : tie.Need-wrong-at-requires Inv-loop μ-loop
-wrong-at-requires c κs = omega arith
-
-same-length : tie.Need-same-length Inv-loop μ-loop
-same-length c = omega arith
-
-same-length-2 : tie.Need-same-length-2 Inv-loop μ-loop
-same-length-2 c = omega arith
-
-same-length-3 : tie.Need-same-length-3 Inv-loop μ-loop
-same-length-3 c = omega arith
-
-same-length-4 : tie.Need-same-length-4 Inv-loop μ-loop
-same-length-4 c = omega arith
-
-returns : tie.Need-returns Inv-loop μ-loop
-returns c =
-    let s = c .before .before .before .before .before .before .before .before .before .before .before .before .before .before .before .before .before .before .before .before .before .before .before .before in
-    let l = c .before .before .before .before .before .before .before .before .before .before .before .before .before .before .before .before .before .loop in
-    reached-wrong (s .args .version) (s .args .first) (s .args .guests .now) (s .args .waiting .now) (s .args .flight .now) (s .args .bytes .now) (s .args .said .now) (l .i) (c .before .before .before .before .before .before .before .before .before .before .before .before .before .before .before .before .loop-test .taken) (l .gate) (l .guests) (l .waiting) (l .flight) (l .at) (l .inv .5) (c .before .before .before .before .before .before .before .before .before .before .hear .result) _ _ _ (c .before .before .before .before .before .before .before .before .before .before .hear .ensures) (c .before .if1 .taken) _ (c .wrong-at .ensures)
-
-add-at : tie.Need-add-at Inv-loop μ-loop
-add-at c =
-    let s = c .before .before .before .before .before .before .before .before .before .before .before .before .before .before .before .before .before .before .before .before .before .before .before .before in
-    let l = c .before .before .before .before .before .before .before .before .before .before .before .before .before .before .before .before .before .loop in
-    omega (arith, reached-fits (s .args .version) (s .args .first) (s .args .guests .now) (s .args .waiting .now) (s .args .flight .now) (s .args .bytes .now) (s .args .said .now) (l .i) (c .before .before .before .before .before .before .before .before .before .before .before .before .before .before .before .before .loop-test .taken) (l .gate) (l .guests) (l .waiting) (l .flight) (l .at) (l .inv .5) (c .before .before .before .before .before .before .before .before .before .before .hear .result) _ _ _ (c .before .before .before .before .before .before .before .before .before .before .hear .ensures) (omega (arith, c .before .if1 .left)))
-
-add-i : tie.Need-add-i Inv-loop μ-loop
-add-i c = omega (arith, c .before .before .before .before .before .before .before .before .before .before .before .before .before .before .before .before .loop-test .taken, c .before .before .before .before .before .before .before .before .before .before .before .before .before .before .before .before .before .before .before .before .before .before .before .before .good .1 .0 .0)
-
-loop-less : tie.Need-loop-less Inv-loop μ-loop
-loop-less c = omega arith
-
-loop-again : tie.Need-loop-again Inv-loop μ-loop
-loop-again c =
-    let s = c .before .before .before .before .before .before .before .before .before .before .before .before .before .before .before .before .before .before .before .before .before .before .before .before in
-    let l = c .before .before .before .before .before .before .before .before .before .before .before .before .before .before .before .before .before .loop in (
-      omega (arith, c .before .before .before .before .before .before .before .before .before .before .before .before .before .before .before .before .loop-test .taken),
-      omega arith,
-      omega arith,
-      omega arith,
-      omega arith,
-      reached-next (s .args .version) (s .args .first) (s .args .guests .now) (s .args .waiting .now) (s .args .flight .now) (s .args .bytes .now) (s .args .said .now) (l .i) (c .before .before .before .before .before .before .before .before .before .before .before .before .before .before .before .before .loop-test .taken) (l .gate) (l .guests) (l .waiting) (l .flight) (l .at) (l .inv .5) (c .before .before .before .before .before .before .before .before .before .before .hear .result) _ _ _ (c .before .before .before .before .before .before .before .before .before .before .hear .ensures) (omega (arith, c .before .if1 .left)),
-    )
-
-mul-judge-rest : tie.Need-mul-judge-rest Inv-loop μ-loop
-mul-judge-rest c = omega arith
-
-sub-judge-rest : tie.Need-sub-judge-rest Inv-loop μ-loop
-sub-judge-rest c = omega arith
-
-part-judge-rest-start : tie.Need-part-judge-rest-start Inv-loop μ-loop
-part-judge-rest-start c = omega arith
-
-part-judge-rest-end : tie.Need-part-judge-rest-end Inv-loop μ-loop
-part-judge-rest-end c = omega arith
-
-sub-judge-rest-2 : tie.Need-sub-judge-rest-2 Inv-loop μ-loop
-sub-judge-rest-2 c = omega arith
-
-part-judge-rest-start-2 : tie.Need-part-judge-rest-start-2 Inv-loop μ-loop
-part-judge-rest-start-2 c = omega arith
-
-part-judge-rest-end-2 : tie.Need-part-judge-rest-end-2 Inv-loop μ-loop
-part-judge-rest-end-2 c = omega arith
-
-judge-rest-requires : tie.Need-judge-rest-requires Inv-loop μ-loop
-judge-rest-requires c κs = (omega arith, omega (arith, c .before .before .before .before .loop .inv .4, c .before .before .before .before .before .before .before .before .before .before .before .pre .1))
-
-same-length-5 : tie.Need-same-length-5 Inv-loop μ-loop
-same-length-5 c = c .before .before .before .before .before .before .before .loop .inv .1
-
-same-length-6 : tie.Need-same-length-6 Inv-loop μ-loop
-same-length-6 c = c .before .before .before .before .before .before .before .loop .inv .2
-
-same-length-7 : tie.Need-same-length-7 Inv-loop μ-loop
-same-length-7 c = c .before .before .before .before .before .before .before .loop .inv .3
-
-same-length-8 : tie.Need-same-length-8 Inv-loop μ-loop
-same-length-8 c = omega arith
-
-returns-2 : tie.Need-returns-2 Inv-loop μ-loop
-returns-2 c =
-    let s = c .before .before .before .before .before .before .before .before .before .before .before .before .before .before in
-    let l = c .before .before .before .before .before .before .before .loop in
-    reached-all (s .args .version) (s .args .first) (s .args .guests .now) (s .args .waiting .now) (s .args .flight .now) (s .args .bytes .now) (s .args .said .now) (l .i) (omega (arith, c .before .before .before .before .before .before .loop-test .left, l .inv .0)) (l .gate) (l .guests) (l .waiting) (l .flight) (l .at) (l .inv .5) _ (c .before .before .judge-rest .ensures)
+returns : tie.Need-returns
+returns c = c .before .before .before .before .before .before .before .before .before .judge-beside .ensures
 
 pub judge-events-spec : {M : Type 1} → statement M
 judge-events-spec =
     tie.close
     (tie.spec
-    Inv-loop
-    μ-loop
-    loop-holds
-    mul-hear
-    add-hear
-    sub-hear
-    part-hear-start
-    part-hear-end
-    hear-requires
-    add-wrong-at
-    wrong-at-requires
+    slice-aggregate-build
+    build-requires
+    slice-aggregate-judge-beside
+    judge-beside-requires
     same-length
     same-length-2
     same-length-3
     same-length-4
-    returns
-    add-at
-    add-i
-    loop-less
-    loop-again
-    mul-judge-rest
-    sub-judge-rest
-    part-judge-rest-start
-    part-judge-rest-end
-    sub-judge-rest-2
-    part-judge-rest-start-2
-    part-judge-rest-end-2
-    judge-rest-requires
-    same-length-5
-    same-length-6
-    same-length-7
-    same-length-8
-    returns-2)
+    returns)

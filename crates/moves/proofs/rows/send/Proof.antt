@@ -64,20 +64,20 @@ mul-flight-2 c = search needs
 slice-write-flight-2 : tie.Need-slice-write-flight-2
 slice-write-flight-2 c = simp length-set (omega arith)
 
-mul-close-up : tie.Need-mul-close-up
-mul-close-up c = search needs
+mul-close-rows : tie.Need-mul-close-rows
+mul-close-rows c = search needs
 
-sub-close-up : tie.Need-sub-close-up
-sub-close-up c = search needs
+sub-close-rows : tie.Need-sub-close-rows
+sub-close-rows c = search needs
 
-part-close-up-start : tie.Need-part-close-up-start
-part-close-up-start c = search needs
+part-close-rows-start : tie.Need-part-close-rows-start
+part-close-rows-start c = search needs
 
-part-close-up-end : tie.Need-part-close-up-end
-part-close-up-end c = search needs
+part-close-rows-end : tie.Need-part-close-rows-end
+part-close-rows-end c = search needs
 
-close-up-requires : tie.Need-close-up-requires
-close-up-requires c κs = search needs
+close-rows-requires : tie.Need-close-rows-requires
+close-rows-requires c κs = search needs
 
 same-length : tie.Need-same-length
 same-length c = search needs
@@ -88,7 +88,7 @@ same-length-2 c = search needs
 returns : tie.Need-returns
 returns c =
     let a = c .before .before .before .before .before .before .before .before .before .args in (
-      ap (λ (ys : List ℕ). back (a .place * waitingWide) (a .count * waitingWide) ys (a .waiting .now)) (c .before .before .close-up .ensures),
+      ap (λ (ys : List ℕ). back (a .place * waitingWide) (a .count * waitingWide) ys (a .waiting .now)) (c .before .before .close-rows .ensures),
       (unfold stores in refl, (refl, refl, refl)),
     )
 
@@ -114,11 +114,11 @@ send-spec =
     add-flight-2
     mul-flight-2
     slice-write-flight-2
-    mul-close-up
-    sub-close-up
-    part-close-up-start
-    part-close-up-end
-    close-up-requires
+    mul-close-rows
+    sub-close-rows
+    part-close-rows-start
+    part-close-rows-end
+    close-rows-requires
     same-length
     same-length-2
     returns)

@@ -1,0 +1,5 @@
+mod Passes
+pub mod Laws
+mod Linked
+mod Unlinked
+pub mod Begun
