@@ -14,12 +14,13 @@ use tally::columns::LIMITED;
 use tally::columns::NOTE_WIDE;
 use tally::columns::SINCE;
 ghost use mathlib.Core.Path.{_≡_};
-ghost use Prim.Native.Nat.{_+_, _^_, _<_};
+ghost use Prim.Native.Nat.{_+_, _^_, _≤_, _<_};
+ghost use lib.ListN.{length};
 ghost use Rattle.rules.specs.Choice.{choice};
 ghost use Rattle.rules.specs.declared.Event.the-variants.{Arrival};
 ghost use Rattle.table.specs.View.{Known};
 ghost use Rattle.table.specs.Does.{Leaves};
-ghost use Rattle.index.specs.Index.{Beside};
+ghost use Rattle.index.specs.Index.{Beside, stands, shifted, Snug};
 ghost use Rattle.book.specs.Page.{turned};
 ghost use Rattle.tally.specs.Kept.{pageOf, Kept};
 ghost use Rattle.tally.specs.Notes.{struckAt, sentFor};
@@ -100,11 +101,11 @@ fn accepted(
 ) -> Decision
     requires { ⌜ Known gate (now guests) (now waiting) (now flight) ⌝ }
     requires { ⌜ Entering number event gate (now waiting) (now book) (now figures) ⌝ }
-    requires { ⌜ Beside (now waiting) (now index) (gate .waiting) ⌝ }
-    ensures { λ r. ⌜ Leaves choice gate (now (guests .entry)) (now (waiting .entry)) (now (flight .entry)) r (now (guests .exit)) (now (waiting .exit)) (now (flight .exit)) ⌝ }
+    requires { ⌜ Beside (now waiting) (now index) (gate .waiting) × Snug gate (now waiting) (now index) ⌝ }
+    ensures { λ r. ⌜ Leaves choice gate (now (guests .entry)) (now (waiting .entry)) (now (flight .entry)) r (now (guests .exit)) (stands (now (index .entry)) (r .answer) (now (waiting .exit))) (now (flight .exit)) ⌝ }
     ensures { λ r. ⌜ now (book .exit) ≡ struckIn (r .answer) gate (notedIn event gate (now (waiting .entry)) (now (book .entry))) ⌝ }
     ensures { λ r. ⌜ now (figures .exit) ≡ sentIn (r .answer) gate (notedIn event gate (now (waiting .entry)) (now (book .entry))) (countedIn event (now (figures .entry))) ⌝ }
-    ensures { λ r. ⌜ Beside (now (waiting .exit)) (now (index .exit)) (r .gate .waiting) ⌝ }
+    ensures { λ r. ⌜ Beside (stands (now (index .entry)) (r .answer) (now (waiting .exit))) (now (index .exit)) (r .gate .waiting) ⌝ }
 {
     noted(gate, &waiting[..], book, figures, event);
     let made = choose::choose(gate, guests, waiting, flight, index);
@@ -113,9 +114,14 @@ fn accepted(
     made
 }
 
+// The gate after an event, and how many rows further back the waiting table stands.
+pub struct After {
+    pub gate: Gate,
+    pub gone: usize,
+}
+
 // One event: refused, and every number stands as it did; or it enters, is noted and counted, the choice is made, and what is sent is struck and
-// counted; the index follows the waiting rows. The gate afterwards. `number` events were judged before it: it bounds the counts, and the code does not
-// read it.
+// counted; the index follows the waiting rows. `number` events were judged before it: it bounds the counts, and the code does not read it.
 pub fn turn(
     number: u64,
     gate: Gate,
@@ -126,19 +132,20 @@ pub fn turn(
     figures: &mut [u64],
     event: Event,
     index: &mut [u16],
-) -> Gate
+) -> After
     requires { ⌜ Known gate (now guests) (now waiting) (now flight) ⌝ }
     requires { ⌜ Kept number gate (now waiting) (now book) (now figures) ⌝ }
     requires { ⌜ number + 1 < 2 ^ 64 ⌝ }
-    requires { ⌜ Beside (now waiting) (now index) (gate .waiting) ⌝ }
-    ensures { λ r. ⌜ pageOf r (now (guests .exit)) (now (waiting .exit)) (now (flight .exit)) (now (book .exit)) (now (figures .exit)) ≡ turned (pageOf gate (now (guests .entry)) (now (waiting .entry)) (now (flight .entry)) (now (book .entry)) (now (figures .entry))) event ⌝ }
-    ensures { λ r. ⌜ Known r (now (guests .exit)) (now (waiting .exit)) (now (flight .exit)) ⌝ }
-    ensures { λ r. ⌜ Kept (number + 1) r (now (waiting .exit)) (now (book .exit)) (now (figures .exit)) ⌝ }
-    ensures { λ r. ⌜ Beside (now (waiting .exit)) (now (index .exit)) (r .waiting) ⌝ }
+    requires { ⌜ Beside (now waiting) (now index) (gate .waiting) × Snug gate (now waiting) (now index) ⌝ }
+    ensures { λ r. ⌜ (r .gone ≤ 1) × (0 < r .gone → 0 < length (now (index .entry))) ⌝ }
+    ensures { λ r. ⌜ pageOf (r .gate) (now (guests .exit)) (shifted (r .gone) (now (waiting .exit))) (now (flight .exit)) (now (book .exit)) (now (figures .exit)) ≡ turned (pageOf gate (now (guests .entry)) (now (waiting .entry)) (now (flight .entry)) (now (book .entry)) (now (figures .entry))) event ⌝ }
+    ensures { λ r. ⌜ Known (r .gate) (now (guests .exit)) (shifted (r .gone) (now (waiting .exit))) (now (flight .exit)) ⌝ }
+    ensures { λ r. ⌜ Kept (number + 1) (r .gate) (shifted (r .gone) (now (waiting .exit))) (now (book .exit)) (now (figures .exit)) ⌝ }
+    ensures { λ r. ⌜ Beside (shifted (r .gone) (now (waiting .exit))) (now (index .exit)) (r .gate .waiting) ⌝ }
 {
     let entered = enter::enter(gate, guests, waiting, flight, event, index);
     match entered {
-        Entered::Refused(_) => gate,
+        Entered::Refused(_) => After { gate, gone: 0 },
         Entered::At(moved) => {
             let made = accepted(
                 number,
@@ -151,7 +158,10 @@ pub fn turn(
                 event,
                 index,
             );
-            made.gate
+            let after = made.gate;
+            let answer = made.answer;
+            let gone = index::gone_on(answer, &index[..]);
+            After { gate: after, gone }
         }
     }
 }

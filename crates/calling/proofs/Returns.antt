@@ -15,7 +15,7 @@ use Rattle.table.specs.View.{Handed, countable, short, soundNumbers, Known}
 use Rattle.sound.specs.Fitting.{Fitting}
 use Rattle.sound.proofs.Fitted.{fitting}
 use Rattle.table.specs.Does.{does, refusing}
-use Rattle.index.specs.Index.{Beside}
+use Rattle.index.specs.Index.{Beside, stands}
 use Rattle.gate.specs.Promise.{seen, unchanged, called}
 use Rattle.gate.specs.Judges.{Judges}
 use Rattle.gate.specs.declared.Judged.{Judged}
@@ -74,3 +74,8 @@ module _ (g : Gate) (gs ws fs : List ℕ) where
   -- and so does the index of the rows
   pub bad-beside : (r : Refusal) (o : Outcome) → o ≡ refusing r g → (ix : List ℕ) → Beside ws ix (g .waiting) → Beside ws ix (o .gate .waiting)
   bad-beside r o q ix b = subst (λ (x : Outcome). Beside ws ix (x .gate .waiting)) (sym q) b
+
+  -- nothing has moved
+  pub bad-stands : (r : Refusal) (o : Outcome) → o ≡ refusing r g → (ix : List ℕ) → stands ix (o .answer) ws ≡ ws
+  unfolding stands
+  bad-stands r o q ix = ap (λ (x : Outcome). stands ix (x .answer) ws) q

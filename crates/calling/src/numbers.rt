@@ -15,7 +15,7 @@ ghost use mathlib.Core.Path.{_≡_};
 ghost use Rattle.rules.specs.declared.Event.the-variants.{Arrival, Completion, Tick};
 ghost use Rattle.gate.specs.Promise.{seen, called};
 ghost use Rattle.gate.specs.Judges.{Judges};
-ghost use Rattle.index.specs.Index.{Beside};
+ghost use Rattle.index.specs.Index.{Beside, stands, Snug};
 
 // The lent tables judged, 2 before 3; counts out of range give 3 at once.
 pub fn judge(gate: Gate, guests: &[u64], waiting: &[u64], flight: &[u64]) -> Judged
@@ -45,10 +45,10 @@ pub fn follow(
     index: &mut [u16],
 ) -> Outcome
     requires { ⌜ Judges gate (now guests) (now waiting) (now flight) found ⌝ }
-    requires { ⌜ Beside (now waiting) (now index) (gate .waiting) ⌝ }
-    ensures { λ r. ⌜ seen (r, now (guests .exit), now (waiting .exit), now (flight .exit)) ≡ seen (called event gate (now (guests .entry)) (now (waiting .entry)) (now (flight .entry))) ⌝ }
-    ensures { λ r. ⌜ Judges (r .gate) (now (guests .exit)) (now (waiting .exit)) (now (flight .exit)) found ⌝ }
-    ensures { λ r. ⌜ Beside (now (waiting .exit)) (now (index .exit)) (r .gate .waiting) ⌝ }
+    requires { ⌜ Beside (now waiting) (now index) (gate .waiting) × Snug gate (now waiting) (now index) ⌝ }
+    ensures { λ r. ⌜ seen (r, now (guests .exit), stands (now (index .entry)) (r .answer) (now (waiting .exit)), now (flight .exit)) ≡ seen (called event gate (now (guests .entry)) (now (waiting .entry)) (now (flight .entry))) ⌝ }
+    ensures { λ r. ⌜ Judges (r .gate) (now (guests .exit)) (stands (now (index .entry)) (r .answer) (now (waiting .exit))) (now (flight .exit)) found ⌝ }
+    ensures { λ r. ⌜ Beside (stands (now (index .entry)) (r .answer) (now (waiting .exit))) (now (index .exit)) (r .gate .waiting) ⌝ }
 {
     match found {
         Judged::Bad(why) => gates::refused(gate, why),

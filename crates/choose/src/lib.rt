@@ -19,7 +19,7 @@ ghost use Rattle.rules.specs.Choice.{dueAt, choice};
 ghost use Rattle.table.specs.Columns.{guestWide, waitingWide, mostGuests, mostCapacity};
 ghost use Rattle.table.specs.View.{guestsOf, waitingOf, Known};
 ghost use Rattle.walks.specs.Walks.{Picks, Owned, Rising, SharesFit};
-ghost use Rattle.index.specs.Index.{Beside};
+ghost use Rattle.index.specs.Index.{Beside, stands, Snug};
 ghost use Rattle.table.specs.Does.{Leaves, weightPhase, reservationPhase};
 
 // What each phase would send: by the first rows of the guests where there is an index, and more rows than are as well walked.
@@ -57,9 +57,9 @@ fn by_weight(
     requires { ⌜ Known gate (now guests) (now waiting) (now flight) ⌝ }
     requires { ⌜ gate .flight < gate .setup .depth ⌝ }
     requires { ⌜ Picks (λ q. leb (q .ltag) (gate .time)) Request.stag (waitingOf (now waiting) (gate .waiting)) found ⌝ }
-    requires { ⌜ Beside (now waiting) (now index) (gate .waiting) ⌝ }
-    ensures { λ r. ⌜ Leaves weightPhase gate (now (guests .entry)) (now (waiting .entry)) (now (flight .entry)) r (now (guests .exit)) (now (waiting .exit)) (now (flight .exit)) ⌝ }
-    ensures { λ r. ⌜ Beside (now (waiting .exit)) (now (index .exit)) (r .gate .waiting) ⌝ }
+    requires { ⌜ Beside (now waiting) (now index) (gate .waiting) × Snug gate (now waiting) (now index) ⌝ }
+    ensures { λ r. ⌜ Leaves weightPhase gate (now (guests .entry)) (now (waiting .entry)) (now (flight .entry)) r (now (guests .exit)) (stands (now (index .entry)) (r .answer) (now (waiting .exit))) (now (flight .exit)) ⌝ }
+    ensures { λ r. ⌜ Beside (stands (now (index .entry)) (r .answer) (now (waiting .exit))) (now (index .exit)) (r .gate .waiting) ⌝ }
 {
     match found {
         Found::At(place) => send_by_weight(gate, guests, waiting, flight, place, index),
@@ -77,9 +77,9 @@ fn by_reservation(
 ) -> Decision
     requires { ⌜ Known gate (now guests) (now waiting) (now flight) ⌝ }
     requires { ⌜ gate .flight < gate .setup .depth ⌝ }
-    requires { ⌜ Beside (now waiting) (now index) (gate .waiting) ⌝ }
-    ensures { λ r. ⌜ Leaves reservationPhase gate (now (guests .entry)) (now (waiting .entry)) (now (flight .entry)) r (now (guests .exit)) (now (waiting .exit)) (now (flight .exit)) ⌝ }
-    ensures { λ r. ⌜ Beside (now (waiting .exit)) (now (index .exit)) (r .gate .waiting) ⌝ }
+    requires { ⌜ Beside (now waiting) (now index) (gate .waiting) × Snug gate (now waiting) (now index) ⌝ }
+    ensures { λ r. ⌜ Leaves reservationPhase gate (now (guests .entry)) (now (waiting .entry)) (now (flight .entry)) r (now (guests .exit)) (stands (now (index .entry)) (r .answer) (now (waiting .exit))) (now (flight .exit)) ⌝ }
+    ensures { λ r. ⌜ Beside (stands (now (index .entry)) (r .answer) (now (waiting .exit))) (now (index .exit)) (r .gate .waiting) ⌝ }
 {
     let known = gate.guests as usize;
     let count = gate.waiting as usize;
@@ -111,9 +111,9 @@ pub fn choose(
     index: &mut [u16],
 ) -> Decision
     requires { ⌜ Known gate (now guests) (now waiting) (now flight) ⌝ }
-    requires { ⌜ Beside (now waiting) (now index) (gate .waiting) ⌝ }
-    ensures { λ r. ⌜ Leaves choice gate (now (guests .entry)) (now (waiting .entry)) (now (flight .entry)) r (now (guests .exit)) (now (waiting .exit)) (now (flight .exit)) ⌝ }
-    ensures { λ r. ⌜ Beside (now (waiting .exit)) (now (index .exit)) (r .gate .waiting) ⌝ }
+    requires { ⌜ Beside (now waiting) (now index) (gate .waiting) × Snug gate (now waiting) (now index) ⌝ }
+    ensures { λ r. ⌜ Leaves choice gate (now (guests .entry)) (now (waiting .entry)) (now (flight .entry)) r (now (guests .exit)) (stands (now (index .entry)) (r .answer) (now (waiting .exit))) (now (flight .exit)) ⌝ }
+    ensures { λ r. ⌜ Beside (stands (now (index .entry)) (r .answer) (now (waiting .exit))) (now (index .exit)) (r .gate .waiting) ⌝ }
 {
     if gate.flight < gate.setup.depth {
         by_reservation(gate, guests, waiting, flight, index)

@@ -27,7 +27,7 @@ use Rattle.shares.specs.Shares.{movedTags}
 use Rattle.sends.proofs.Rising.{rising-rows}
 use Rattle.stamps.specs.declared.Stamp.{Stamp}
 use Rattle.stamps.specs.Arrive.{requestOf, Ready, Placeable, Placed}
-use Rattle.index.specs.Index.{Beside, Gains}
+use Rattle.index.specs.Index.{Beside, Gains, Snug}
 use Rattle.index.proofs.Laws.{beside-alike, alike-column, gains-appended}
 use Rattle.enter.specs.Enters.{Enters, EntersBeside}
 use Rattle.enter.specs.declared.Entered.{Entered}
@@ -80,6 +80,14 @@ module _ (g : Gate) (gs ws fs : List ℕ) (k : Known g gs ws fs) where
       ap (λ (y : Lent). y .2) (c .shows) ∙ (λ i. overRows requestForm (s i .capacity) (same i) ws) ∙ over-same requestForm request-exact (g .setup .capacity) (g .waiting) ws (k .whole .waitingUnused) in
       let n : h .waiting ≡ g .waiting = ap (λ (y : Lent). y .0 .waiting) (c .shows) ∙ ap length same ∙ length-rows requestForm ws (g .waiting) in
       subst (λ (y : List ℕ × ℕ). Beside (y .0) ix (y .1)) (λ i. (sym l i, sym n i)) b
+
+  -- beside an index the table is still lent with just the places of the gate
+  pub entered-snug : (e : Event) (x : Entered) (hs vs es ix ix' : List ℕ) → Enters e g gs ws fs x hs vs es → (h : Gate) → x ≡ At h → length vs ≡ length ws → length ix' ≡ length ix → Snug g ws ix → Snug h vs ix'
+  entered-snug e x hs vs es ix ix' c h p long same snug some =
+      let a : Enters e g gs ws fs (At h) hs vs es = subst (λ (y : Entered). Enters e g gs ws fs y hs vs es) p c in
+      let s = enter-settings t e .setup in
+      let q : h .setup .capacity ≡ g .setup .capacity = ap (λ (y : Lent). y .0 .setup .capacity) (a .shows) ∙ (λ i. s i .capacity) in
+      long ∙ snug (rw (sym same) some) ∙ ap (λ (n : ℕ). n * waitingWide) (sym q)
 
   -- as a tick does
   pub tick-leaves : (now : ℕ) → enter t (Tick now) .waiting ≡ t .waiting

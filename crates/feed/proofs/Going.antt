@@ -32,10 +32,10 @@ pub record Going (v : ℕ) (g₀ : Gate) (gs₀ ws₀ fs₀ bs : List ℕ) (numb
 run-firm : (t : Table) (es : List Read) → sound t ≡ true → sound (tableAfter t es) ≡ true
 run-firm t es h = ap sound (table-run t es) ∙ run-sound (run es) t h
 
-run-same : (t : Table) (es : List Read) → SameSettings (tableAfter t es) t
+pub run-same : (t : Table) (es : List Read) → SameSettings (tableAfter t es) t
 run-same t es = subst (λ (u : Table). SameSettings u t) (sym (table-run t es)) (run-settings (run es) t)
 
-one-same : (t : Table) (e : Read) → SameSettings (answered t e .table) t
+pub one-same : (t : Table) (e : Read) → SameSettings (answered t e .table) t
 unfolding tableAfter
 one-same t e = run-same t (e ∷ [])
 

@@ -12,13 +12,15 @@ use rules::Refusal;
 use sends::latest_limit;
 use sends::send_by_reservation;
 use sends::send_by_weight;
+use table::columns::WAITING_WIDE;
 use ties::find_send;
 use ties::hear_plain;
 use ties::send_of;
 use trace::Read;
 use walks::Found;
 ghost use mathlib.Core.Bool.{_&&_};
-ghost use Prim.Native.Nat.{_+_, _≤_, _<_};
+ghost use mathlib.Core.List.{List};
+ghost use Prim.Native.Nat.{ℕ, _+_, _≤_, _<_};
 ghost use lib.Dec.{leb};
 ghost use lib.ListN.{length, drop};
 ghost use Rattle.rules.specs.Tables.{Request, settingsOf};
@@ -29,7 +31,8 @@ ghost use Rattle.rules.specs.declared.Phase.the-variants.{Reservation};
 ghost use Rattle.table.specs.View.{guestsOf, waitingOf, tableOf, Known};
 ghost use Rattle.walks.specs.Walks.{Picks};
 ghost use Rattle.walks.specs.declared.Found.the-variants.{At};
-ghost use Rattle.index.specs.Index.{Beside};
+ghost use Rattle.index.specs.Index.{Beside, stood, stands, Snug};
+ghost use Rattle.windows.specs.Window.{Window};
 ghost use Rattle.sends.specs.Firsts.{FirstOf};
 ghost use Rattle.lines.specs.Line.{LINE};
 ghost use Rattle.trace.specs.Event.{eventOf};
@@ -52,9 +55,9 @@ fn send_in(
     requires { ⌜ Known gate (now guests) (now waiting) (now flight) ⌝ }
     requires { ⌜ (gate .flight < gate .setup .depth) × (place < gate .waiting) ⌝ }
     requires { ⌜ FirstOf (waitingOf (now waiting) (gate .waiting)) place ⌝ }
-    requires { ⌜ Beside (now waiting) (now index) (gate .waiting) ⌝ }
-    ensures { λ r. ⌜ Sends (sentAt phase (tableOf gate (now (guests .entry)) (now (waiting .entry)) (now (flight .entry))) place) r (now (guests .exit)) (now (waiting .exit)) (now (flight .exit)) ⌝ }
-    ensures { λ r. ⌜ Beside (now (waiting .exit)) (now (index .exit)) (r .waiting) ⌝ }
+    requires { ⌜ Beside (now waiting) (now index) (gate .waiting) × Snug gate (now waiting) (now index) ⌝ }
+    ensures { λ r. ⌜ Sends (sentAt phase (tableOf gate (now (guests .entry)) (now (waiting .entry)) (now (flight .entry))) place) r (now (guests .exit)) (stood (now (index .entry)) (now (waiting .exit))) (now (flight .exit)) ⌝ }
+    ensures { λ r. ⌜ Beside (stood (now (index .entry)) (now (waiting .exit))) (now (index .exit)) (r .waiting) ⌝ }
 {
     match phase {
         Phase::Reservation => {
@@ -85,9 +88,9 @@ fn hear_send(
     requires { ⌜ gate .flight < gate .setup .depth ⌝ }
     requires { ⌜ Picks (okIn phase (tableOf gate (now guests) (now waiting) (now flight))) (tagIn phase) (waitingOf (now waiting) (gate .waiting)) (At place) ⌝ }
     requires { ⌜ LINE ≤ length (now text) ⌝ }
-    requires { ⌜ Beside (now waiting) (now index) (gate .waiting) ⌝ }
-    ensures { λ r. ⌜ Hears (heardIn number (now (said .entry)) phase (tableOf gate (now (guests .entry)) (now (waiting .entry)) (now (flight .entry))) (tagIn phase (at (waitingOf (now (waiting .entry)) (gate .waiting)) place))) (sentAt phase (tableOf gate (now (guests .entry)) (now (waiting .entry)) (now (flight .entry))) place .answer) number r (now (guests .exit)) (now (waiting .exit)) (now (flight .exit)) ⌝ }
-    ensures { λ r. ⌜ Beside (now (waiting .exit)) (now (index .exit)) (r .gate .waiting) ⌝ }
+    requires { ⌜ Beside (now waiting) (now index) (gate .waiting) × Snug gate (now waiting) (now index) ⌝ }
+    ensures { λ r. ⌜ Hears (heardIn number (now (said .entry)) phase (tableOf gate (now (guests .entry)) (now (waiting .entry)) (now (flight .entry))) (tagIn phase (at (waitingOf (now (waiting .entry)) (gate .waiting)) place))) (sentAt phase (tableOf gate (now (guests .entry)) (now (waiting .entry)) (now (flight .entry))) place .answer) number r (now (guests .exit)) (stands (now (index .entry)) (r .answer) (now (waiting .exit))) (now (flight .exit)) ⌝ }
+    ensures { λ r. ⌜ (0 < r .long → Beside (stands (now (index .entry)) (r .answer) (now (waiting .exit))) (now (index .exit)) (r .gate .waiting)) ⌝ }
 {
     let answer = send_of(&waiting[..], place, phase);
     let told = find_send(
@@ -141,9 +144,9 @@ fn hear_choice(
 ) -> Said
     requires { ⌜ Known gate (now guests) (now waiting) (now flight) ⌝ }
     requires { ⌜ LINE ≤ length (now text) ⌝ }
-    requires { ⌜ Beside (now waiting) (now index) (gate .waiting) ⌝ }
-    ensures { λ r. ⌜ Hears (heardChoice number (now (said .entry)) (tableOf gate (now (guests .entry)) (now (waiting .entry)) (now (flight .entry)))) (choice (tableOf gate (now (guests .entry)) (now (waiting .entry)) (now (flight .entry))) .answer) number r (now (guests .exit)) (now (waiting .exit)) (now (flight .exit)) ⌝ }
-    ensures { λ r. ⌜ Beside (now (waiting .exit)) (now (index .exit)) (r .gate .waiting) ⌝ }
+    requires { ⌜ Beside (now waiting) (now index) (gate .waiting) × Snug gate (now waiting) (now index) ⌝ }
+    ensures { λ r. ⌜ Hears (heardChoice number (now (said .entry)) (tableOf gate (now (guests .entry)) (now (waiting .entry)) (now (flight .entry)))) (choice (tableOf gate (now (guests .entry)) (now (waiting .entry)) (now (flight .entry))) .answer) number r (now (guests .exit)) (stands (now (index .entry)) (r .answer) (now (waiting .exit))) (now (flight .exit)) ⌝ }
+    ensures { λ r. ⌜ (0 < r .long → Beside (stands (now (index .entry)) (r .answer) (now (waiting .exit))) (now (index .exit)) (r .gate .waiting)) ⌝ }
 {
     if gate.setup.depth <= gate.flight {
         return hear_plain(gate, Answer::Nothing, number, said, text);
@@ -196,9 +199,9 @@ fn hear_good(
 ) -> Said
     requires { ⌜ Known gate (now guests) (now waiting) (now flight) ⌝ }
     requires { ⌜ LINE ≤ length (now text) ⌝ }
-    requires { ⌜ Beside (now waiting) (now index) (gate .waiting) ⌝ }
-    ensures { λ r. ⌜ Hears (heard number (now (said .entry)) (tableOf gate (now (guests .entry)) (now (waiting .entry)) (now (flight .entry))) (entire (Good event))) (step (tableOf gate (now (guests .entry)) (now (waiting .entry)) (now (flight .entry))) event .answer) number r (now (guests .exit)) (now (waiting .exit)) (now (flight .exit)) ⌝ }
-    ensures { λ r. ⌜ Beside (now (waiting .exit)) (now (index .exit)) (r .gate .waiting) ⌝ }
+    requires { ⌜ Beside (now waiting) (now index) (gate .waiting) × Snug gate (now waiting) (now index) ⌝ }
+    ensures { λ r. ⌜ Hears (heard number (now (said .entry)) (tableOf gate (now (guests .entry)) (now (waiting .entry)) (now (flight .entry))) (entire (Good event))) (step (tableOf gate (now (guests .entry)) (now (waiting .entry)) (now (flight .entry))) event .answer) number r (now (guests .exit)) (stands (now (index .entry)) (r .answer) (now (waiting .exit))) (now (flight .exit)) ⌝ }
+    ensures { λ r. ⌜ (0 < r .long → Beside (stands (now (index .entry)) (r .answer) (now (waiting .exit))) (now (index .exit)) (r .gate .waiting)) ⌝ }
 {
     let entered = enter::enter(gate, guests, waiting, flight, event, index);
     match entered {
@@ -217,7 +220,7 @@ fn hear_good(
 }
 
 // The event whose bytes begin at `from`.
-pub fn hear(
+fn hear(
     version: u64,
     bytes: &[u8],
     from: usize,
@@ -233,9 +236,9 @@ pub fn hear(
     requires { ⌜ from + 14 ≤ length (now bytes) ⌝ }
     requires { ⌜ Known gate (now guests) (now waiting) (now flight) ⌝ }
     requires { ⌜ LINE ≤ length (now text) ⌝ }
-    requires { ⌜ Beside (now waiting) (now index) (gate .waiting) ⌝ }
-    ensures { λ r. ⌜ Hears (heard number (now (said .entry)) (tableOf gate (now (guests .entry)) (now (waiting .entry)) (now (flight .entry))) (entire (eventOf version (drop from (now (bytes .entry)))))) (answered (tableOf gate (now (guests .entry)) (now (waiting .entry)) (now (flight .entry))) (eventOf version (drop from (now (bytes .entry)))) .answer) number r (now (guests .exit)) (now (waiting .exit)) (now (flight .exit)) ⌝ }
-    ensures { λ r. ⌜ Beside (now (waiting .exit)) (now (index .exit)) (r .gate .waiting) ⌝ }
+    requires { ⌜ Beside (now waiting) (now index) (gate .waiting) × Snug gate (now waiting) (now index) ⌝ }
+    ensures { λ r. ⌜ Hears (heard number (now (said .entry)) (tableOf gate (now (guests .entry)) (now (waiting .entry)) (now (flight .entry))) (entire (eventOf version (drop from (now (bytes .entry)))))) (answered (tableOf gate (now (guests .entry)) (now (waiting .entry)) (now (flight .entry))) (eventOf version (drop from (now (bytes .entry)))) .answer) number r (now (guests .exit)) (stands (now (index .entry)) (r .answer) (now (waiting .exit))) (now (flight .exit)) ⌝ }
+    ensures { λ r. ⌜ (0 < r .long → Beside (stands (now (index .entry)) (r .answer) (now (waiting .exit))) (now (index .exit)) (r .gate .waiting)) ⌝ }
 {
     let event = items::read_event(version, &bytes[from..from + 14]);
     match event {
@@ -252,4 +255,41 @@ pub fn hear(
         ),
         Read::Bad => hear_plain(gate, Answer::Refused(Refusal::BadEvent), number, said, text),
     }
+}
+
+// The event, on the table that stands in a window from row `start` on.
+pub fn hear_in(
+    version: u64,
+    bytes: &[u8],
+    from: usize,
+    gate: Gate,
+    guests: &mut [u64],
+    window: &mut [u64],
+    start: usize,
+    size: usize,
+    flight: &mut [u64],
+    number: u64,
+    said: &[u8],
+    text: &mut [u8],
+    index: &mut [u16],
+) -> Said
+    requires { ⌜ from + 14 ≤ length (now bytes) ⌝ }
+    requires { ⌜ LINE ≤ length (now text) ⌝ }
+    requires { ⌜ ((ws : List ℕ) × Window size start (now window) ws × Known gate (now guests) ws (now flight) × Beside ws (now index) (gate .waiting) × Snug gate ws (now index)) ⌝ }
+    ensures { λ r. ⌜ ((ws : List ℕ) → Window size start (now (window .entry)) ws → (vs : List ℕ) × Window size start (now (window .exit)) vs × Hears (heard number (now (said .entry)) (tableOf gate (now (guests .entry)) ws (now (flight .entry))) (entire (eventOf version (drop from (now (bytes .entry)))))) (answered (tableOf gate (now (guests .entry)) ws (now (flight .entry))) (eventOf version (drop from (now (bytes .entry)))) .answer) number r (now (guests .exit)) (stands (now (index .entry)) (r .answer) vs) (now (flight .exit)) × (0 < r .long → Beside (stands (now (index .entry)) (r .answer) vs) (now (index .exit)) (r .gate .waiting))) ⌝ }
+{
+    let first = start * WAITING_WIDE;
+    hear(
+        version,
+        bytes,
+        from,
+        gate,
+        guests,
+        &mut window[first..first + size],
+        flight,
+        number,
+        said,
+        text,
+        index,
+    )
 }

@@ -5,18 +5,25 @@ use mathlib.Core.Path.{_≡_, refl, sym, ap, _∙_}
 use mathlib.Core.Logic.{⊎-elim}
 use mathlib.Core.List.{List}
 use native.Mathlib.Omega.{arith}
-use lib.Dec.{eqb}
+use lib.Dec.{eqb, ltb}
 use lib.ListN.{length, getD}
-use borrow.Author.Tests.{eq-eqb, ne-eqb}
+use borrow.Author.Tests.{eq-eqb, ne-eqb, lt-ltb, le-ltb}
 use Rattle.lists.specs.Words.{if_then_else_}
 use Rattle.lists.specs.Tab.{lt-or-le}
 use Rattle.lists.specs.Stores.{stores, stores-other, stores-at}
-use Rattle.lists.specs.Parts.{shut-before, shut-moved}
+use Rattle.lists.specs.Parts.{closed, shut-before, shut-moved}
 use Rattle.rules.specs.Tables.{Request}
+use Rattle.rules.specs.declared.Gate.{Gate}
+use Rattle.rules.specs.declared.Phase.{Phase}
+use Rattle.rules.specs.declared.Refusal.{Refusal}
+use Rattle.rules.specs.declared.Answer.{Answer}
+use Rattle.rules.specs.declared.Answer.the-variants.{Sent, Nothing, Refused}
+use Rattle.table.specs.declared.gates.Decision.{Decision}
+use Rattle.table.specs.Does.{sending}
 use Rattle.table.specs.Columns.{GUEST, waitingWide}
-use Rattle.table.specs.View.{requestForm}
+use Rattle.table.specs.View.{decisionOf, requestForm}
 use Rattle.moves.specs.Moves.{gone, appended}
-use Rattle.index.specs.Index.{firstAt, lastAt, nextAt, ownerOf, NoRow, Head, Tail, Leads, Trails, Indexed, Beside, Alike, Gains, Loses}
+use Rattle.index.specs.Index.{firstAt, lastAt, nextAt, ownerOf, NoRow, Head, Tail, Leads, Trails, Indexed, Beside, Alike, Gains, Loses, stood, stands}
 
 -- THE SAME GUESTS
 
@@ -195,3 +202,63 @@ ahead-less {ws} {g} {n} {x} k h l =
     rw (ne-eqb x 0 (λ q. omega (arith, q, some)), ne-eqb (k + 1) 0 (λ q. omega (arith, q))) (omega (arith, f .0, f .1 .low)))
     (λ (none : x ≤ 0). rw (eq-eqb x 0 (omega arith), ne-eqb (k + 1) 0 (λ q. omega (arith, q))) (omega arith))
     (lt-or-le 0 x)
+
+-- WHERE THE ROWS STAND
+
+module _ (ix ws : List ℕ) where
+  -- without an index, where they stood
+  pub stood-none : length ix ≡ 0 → stood ix ws ≡ ws
+  unfolding stood
+  stood-none e = rw (le-ltb 0 (length ix) (omega (arith, e)))
+
+  -- beside one, a row further back
+  pub stood-some : 0 < length ix → stood ix ws ≡ closed waitingWide ws
+  unfolding stood
+  stood-some l = rw (lt-ltb 0 (length ix) l)
+
+-- an index as long says the same
+pub stood-kept : (ix ix' ws : List ℕ) → length ix' ≡ length ix → stood ix' ws ≡ stood ix ws
+unfolding stood
+stood-kept ix ix' ws e = ap (λ (n : ℕ). if ltb 0 n then closed waitingWide ws else ws) e
+
+-- whatever the answer
+pub stands-kept : (ix ix' ws : List ℕ) (a : Answer) → length ix' ≡ length ix → stands ix' a ws ≡ stands ix a ws
+unfolding stands
+stands-kept ix ix' ws (Sent p g i) e = stood-kept ix ix' ws e
+stands-kept ix ix' ws Nothing e = refl
+stands-kept ix ix' ws (Refused r) e = refl
+
+-- without an index nothing has moved
+pub stands-none : (ix ws : List ℕ) (a : Answer) → length ix ≡ 0 → stands ix a ws ≡ ws
+unfolding stands
+stands-none ix ws (Sent p g i) e = stood-none ix ws e
+stands-none ix ws Nothing e = refl
+stands-none ix ws (Refused r) e = refl
+
+-- nor where nothing was sent
+pub stands-else : (ix ws : List ℕ) (a : Answer) → ((p : Phase) (g i : ℕ) → a ≡ Sent p g i → ⊥) → stands ix a ws ≡ ws
+unfolding stands
+stands-else ix ws (Sent p g i) n = absurd (n p g i refl)
+stands-else ix ws Nothing n = refl
+stands-else ix ws (Refused r) n = refl
+
+-- beside one a send has moved the rows
+pub stands-moved : (ix ws : List ℕ) (a : Answer) {p : Phase} {g i : ℕ} → 0 < length ix → a ≡ Sent p g i → stands ix a ws ≡ closed waitingWide ws
+unfolding stands
+stands-moved ix ws a l e = ap (λ (x : Answer). stands ix x ws) e ∙ stood-some ix ws l
+
+module _ (ix ws : List ℕ) (d : Decision) (g : Gate) where
+  -- a request was sent
+  pub stands-sent : {p : Phase} {guest id : ℕ} → d ≡ sending p guest id g → stands ix (d .answer) ws ≡ stood ix ws
+  unfolding stands
+  stands-sent e = ap (λ (x : Decision). stands ix (x .answer) ws) e
+
+  -- nothing went
+  pub stands-still : d ≡ decisionOf g Nothing → stands ix (d .answer) ws ≡ ws
+  unfolding stands
+  stands-still e = ap (λ (x : Decision). stands ix (x .answer) ws) e
+
+  -- the event was refused
+  pub stands-refused : {r : Refusal} → d ≡ decisionOf g (Refused r) → stands ix (d .answer) ws ≡ ws
+  unfolding stands
+  stands-refused e = ap (λ (x : Decision). stands ix (x .answer) ws) e

@@ -1,12 +1,16 @@
 -- The index over the waiting rows: for each guest where its first and its last row stand, and for each row where the next one of its guest stands. It says nothing
 -- that the rows do not say, and of the rows only the guests matter. A place k is written as k + 1; 0 says that there is none.
-use Prim.Native.Nat.{ℕ, _+_, _-_, _≤_, _<_}
+use Prim.Native.Nat.{ℕ, zero, suc, _+_, _-_, _*_, _≤_, _<_}
 use mathlib.Core.Path.{_≡_}
 use mathlib.Core.List.{List}
 use lib.Dec.{ltb}
 use lib.ListN.{length, getD}
 use Rattle.lists.specs.Words.{if_then_else_}
-use Rattle.table.specs.Columns.{GUEST, mostGuests, mostCapacity, waitingAt}
+use Rattle.lists.specs.Parts.{closed}
+use Rattle.rules.specs.declared.Gate.{Gate}
+use Rattle.rules.specs.declared.Answer.{Answer}
+use Rattle.rules.specs.declared.Answer.the-variants.{Sent, Nothing, Refused}
+use Rattle.table.specs.Columns.{GUEST, waitingWide, mostGuests, mostCapacity, waitingAt}
 
 -- WHERE ITS NUMBERS STAND: the first rows of the guests, then their last rows, then the next rows
 
@@ -94,6 +98,32 @@ pub record Gains (ws ws' : List ℕ) (n g : ℕ) : Type 0 where
 pub record Loses (ws ws' : List ℕ) (n place : ℕ) : Type 0 where
   pub same : Alike ws ws' place
   pub moved : (k : ℕ) → place ≤ k → k + 1 < n → ownerOf ws' k ≡ ownerOf ws (k + 1)
+
+-- WHERE THE ROWS STAND
+
+-- the same number at every place, and zeros where one list is longer
+abbrev pub Even : (xs ys : List ℕ) → Type 0
+Even xs ys = (i : ℕ) → getD xs i 0 ≡ getD ys i 0
+
+-- the table after a send that left ws: with an index the rows before the one that went have closed up to those behind, and it stands a row further back, with zeros at
+-- its end; without one it stands where it stood
+unfoldable pub stood : (ix ws : List ℕ) → List ℕ
+stood ix ws = if ltb 0 (length ix) then closed waitingWide ws else ws
+
+-- the table after an event with this answer
+unfoldable pub stands : (ix : List ℕ) → Answer → List ℕ → List ℕ
+stands ix (Sent p g i) ws = stood ix ws
+stands ix Nothing ws = ws
+stands ix (Refused r) ws = ws
+
+-- the same told by how many rows further back it stands
+abbrev pub shifted : (n : ℕ) → List ℕ → List ℕ
+shifted zero ws = ws
+shifted (suc n) ws = closed waitingWide ws
+
+-- beside an index the waiting table is lent with just as many places as the gate has
+abbrev pub Snug : Gate → (ws ix : List ℕ) → Type 0
+Snug g ws ix = 0 < length ix → length ws ≡ g .setup .capacity * waitingWide
 
 -- WHAT BECOMES OF THE NUMBERS
 

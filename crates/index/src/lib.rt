@@ -1,17 +1,18 @@
 // An index over the waiting rows, so that an event need not walk them: for each guest the place of its first and of its last row, for each row the place of the next
 // one of its guest. It is built by one walk of the rows and kept beside them; a place is written one higher, and 0 says that there is none. Functions for this
 // repository's own crates.
+use rules::Answer;
 use table::columns::GUEST;
 use table::columns::MOST_CAPACITY;
 use table::columns::MOST_GUESTS;
 use table::columns::WAITING_WIDE;
 ghost use mathlib.Core.Path.{_≡_};
-ghost use mathlib.Core.Bool.{true, false};
+ghost use mathlib.Core.Bool.{false};
 ghost use mathlib.Core.List.{List};
 ghost use Prim.Native.Nat.{ℕ, _+_, _-_, _*_, _≤_, _<_};
-ghost use lib.ListN.{length, getD, take};
+ghost use lib.ListN.{length, getD};
 ghost use Rattle.table.specs.Columns.{waitingWide, mostGuests, mostCapacity};
-ghost use Rattle.index.specs.Index.{NEXTS, indexWide, ownerOf, Head, Indexed, Beside, Gains, Loses, fallen, Rewritten};
+ghost use Rattle.index.specs.Index.{NEXTS, indexWide, ownerOf, Head, Indexed, Beside, Gains, Loses, stands, shifted, fallen, Rewritten};
 
 // Where the places of the guests' last rows begin, behind those of their first rows.
 pub const LASTS: usize = MOST_GUESTS;
@@ -132,20 +133,6 @@ pub fn build(waiting: &[u64], count: usize, index: &mut [u16])
     }
 }
 
-// The index is built in the room, where it is worth it: how many numbers of the room it has, all or none.
-pub fn begin(waiting: &[u64], count: usize, worth: bool, room: &mut [u16]) -> usize
-    requires { ⌜ length (now room) ≡ indexWide ⌝ }
-    requires { ⌜ (worth ≡ true → (count ≤ mostCapacity) × (count * waitingWide ≤ length (now waiting)) × ((k : ℕ) → k < count → ownerOf (now waiting) k < mostGuests)) ⌝ }
-    ensures { λ n. ⌜ n ≤ indexWide ⌝ }
-    ensures { λ n. ⌜ Beside (now (waiting .entry)) (take n (now (room .exit))) count ⌝ }
-{
-    if !worth {
-        return 0;
-    }
-    build(waiting, count, room);
-    INDEX_WIDE
-}
-
 // There is no index, or there are so few rows that those who would go by the guests walk them.
 pub fn is_walked(index: &[u16], count: usize) -> bool
     ensures { λ r. ⌜ (r ≡ false → 0 < length (now (index .entry))) ⌝ }
@@ -178,4 +165,22 @@ pub fn keep_sent(index: &mut [u16], place: usize, count: usize, guest: u64)
         return;
     }
     unlink(index, place, count, guest);
+}
+
+// How many rows further back the table stands after an event with this answer.
+pub fn gone_on(answer: Answer, index: &[u16]) -> usize
+    ensures { λ r. ⌜ (r ≤ 1) × (0 < r → 0 < length (now (index .entry))) ⌝ }
+    ensures { λ r. ⌜ ((ws : List ℕ) → stands (now (index .entry)) answer ws ≡ shifted r ws) ⌝ }
+{
+    if index.len() == 0 {
+        return 0;
+    }
+    match answer {
+        Answer::Sent {
+            phase: _,
+            guest: _,
+            id: _,
+        } => 1,
+        _ => 0,
+    }
 }

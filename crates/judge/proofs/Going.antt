@@ -8,22 +8,30 @@ use lib.ListN.{length, drop, length-append, length-drop}
 use lib.Seq.{drop-drop}
 use Rattle.lists.specs.Words.{if_then_else_}
 use Rattle.rules.specs.Tables.{Table}
+use Rattle.rules.specs.Choice.{Result}
+use Rattle.rules.specs.Events.{enter}
+use Rattle.rules.specs.Refusals.{Verdict, accept, refuse, verdict}
 use Rattle.rules.specs.declared.Gate.{Gate}
+use Rattle.rules.specs.declared.Phase.the-variants.{Reservation, Weight}
 use Rattle.rules.specs.declared.Refusal.the-variants.{EventCut}
 use Rattle.rules.specs.declared.Answer.{Answer}
 use Rattle.rules.specs.declared.Answer.the-variants.{Refused}
+use Rattle.rules.proofs.SameSettings.{enter-settings}
 use Rattle.table.specs.View.{tableOf, Known}
 use Rattle.gate.specs.Replies.{fourOf}
 use Rattle.lines.specs.Line.{lineOf}
 use Rattle.trace.specs.Event.{eventOf, eventsOf, whole}
 use Rattle.trace.specs.Printed.{answered}
-use Rattle.judge.specs.Acceptable.{Asked, entire, cutOff, refusing, cutAsked, askedFrom}
+use Rattle.trace.specs.declared.Read.the-variants.{Good, Bad}
+use Rattle.judge.specs.Acceptable.{MayChoose, full, reservation, weight, nothing, Asked, entire, cutOff, refusing, MayDecide, May, cutAsked, askedFrom}
 use Rattle.judge.specs.Judging.{begins, Heard, follows, wrong, told, heard, wrongAt, accepted, ended, onward, judgedFrom}
 use Rattle.judge.specs.Hearing.{sizeIf, Followed, Hears}
 use Rattle.judge.specs.declared.Judged.{Judged}
 use Rattle.judge.specs.declared.Said.{Said}
 use Rattle.judge.proofs.Bytes.{part, part-rest, begins-is}
+use Rattle.judge.proofs.Tied.{first-of}
 use Rattle.judge.proofs.Ties.{size-zero, size-some}
+use Rattle.judge.proofs.Sent.{sent-settings}
 use Rattle.judge.proofs.Follows.{heard-may}
 
 -- THE END
@@ -89,6 +97,25 @@ module _ (n : ℕ) (t : Table) (ls : List ℕ) where
             fits (x ∷ xs) = let i = fits xs in omega arith
         go false e = omega (arith, size ∙ ap (λ (c : Bool). sizeIf c cutLine) e)
 
+-- THE SETUP of the gate
+
+-- a choice leaves it
+choose-setup : (t : Table) (r : Result) → MayChoose t r → r .table .setup ≡ t .setup
+choose-setup t r (full h e) = ap (λ (y : Result). y .table .setup) e
+choose-setup t r (reservation i h m e) = ap (λ (y : Result). y .table .setup) e ∙ sent-settings t i (m .inside) (first-of (t .waiting) i (m .inside) (m .first)) Reservation .setup
+choose-setup t r (weight i h d m e) = ap (λ (y : Result). y .table .setup) e ∙ sent-settings t i (m .inside) (first-of (t .waiting) i (m .inside) (m .first)) Weight .setup
+choose-setup t r (nothing h d o e) = ap (λ (y : Result). y .table .setup) e
+
+-- and so does whatever may stand
+may-setup : (t : Table) (x : Asked) (r : Result) → May t x r → r .table .setup ≡ t .setup
+may-setup t (entire (Good e)) r m = go (verdict t e) m
+  where
+    go : (v : Verdict) → MayDecide v t e r → r .table .setup ≡ t .setup
+    go accept m = choose-setup (enter t e) r m ∙ enter-settings t e .setup
+    go (refuse why) m = ap (λ (y : Result). y .table .setup) m
+may-setup t (entire Bad) r m = ap (λ (y : Result). y .table .setup) m
+may-setup t cutOff r m = ap (λ (y : Result). y .table .setup) m
+
 -- THE EVENTS, one after the other
 
 -- what asks for a line from event i of n on, whose bytes begin at i * 14
@@ -151,6 +178,10 @@ module _ (v : ℕ) (g₀ : Gate) (gs₀ ws₀ fs₀ bs ls : List ℕ) where
 
       spoken : begins (lineOf (i + 1) (f .result .answer)) (drop at ls) ≡ true
       spoken = heard-may (i + 1) (drop at ls) t x (f .result) (f .says) .1
+
+      -- the gate has the places that it had
+      pub reached-setup : s .gate .setup ≡ g .setup
+      reached-setup = ap Table.setup (f .sends .shows) ∙ may-setup t x (f .result) (heard-may (i + 1) (drop at ls) t x (f .result) (f .says) .0)
 
       pub reached-fits : at + s .long ≤ length ls
       reached-fits =

@@ -1,19 +1,24 @@
 // All events of a trace: the other gate's lines are heard one after the other, each at the tables that those before it left.
 use crate::ended;
 use crate::wrong_at;
-use hears::hear;
+use hears::hear_in;
 use index::INDEX_WIDE;
 use judge::Judged;
 use rules::Answer;
 use rules::Gate;
 use rules::Refusal;
+use table::columns::WAITING_WIDE;
 use ties::saying::says;
+use windows::WINDOW_LONG;
 ghost use mathlib.Core.Path.{_≡_};
-ghost use Prim.Native.Nat.{_+_, _≤_, _<_, _^_};
+ghost use mathlib.Core.List.{List};
+ghost use Prim.Native.Nat.{ℕ, _+_, _*_, _≤_, _<_, _^_};
 ghost use lib.ListN.{length};
 ghost use Rattle.rules.specs.Tables.{Table};
+ghost use Rattle.table.specs.Columns.{waitingWide};
 ghost use Rattle.table.specs.View.{tableOf, Known};
-ghost use Rattle.index.specs.Index.{Beside};
+ghost use Rattle.index.specs.Index.{Beside, Snug};
+ghost use Rattle.windows.specs.Window.{spare, Window};
 ghost use Rattle.lines.specs.Line.{LINE};
 ghost use Rattle.judge.specs.Acceptable.{cutAsked, askedFrom};
 ghost use Rattle.judge.specs.Judging.{judgedFrom};
@@ -34,35 +39,40 @@ fn judge_rest(rest: &[u8], number: u64, said: &[u8], text: &mut [u8]) -> Judged
     ended(number + 3, &said[long..])
 }
 
-// Judges the lines behind the header line, with the index of the waiting rows beside them.
+// Judges the lines behind the header line, on the table that stands at the front of a window, with the index of the waiting rows beside it.
 fn judge_beside(
     version: u64,
     bytes: &[u8],
     first: Gate,
     guests: &mut [u64],
-    waiting: &mut [u64],
+    window: &mut [u64],
+    size: usize,
     flight: &mut [u64],
     said: &[u8],
     text: &mut [u8],
     index: &mut [u16],
 ) -> Judged
-    requires { ⌜ Known first (now guests) (now waiting) (now flight) ⌝ }
     requires { ⌜ LINE ≤ length (now text) ⌝ }
-    requires { ⌜ Beside (now waiting) (now index) (first .waiting) ⌝ }
-    ensures { λ r. ⌜ r ≡ judgedFrom 0 (tableOf first (now (guests .entry)) (now (waiting .entry)) (now (flight .entry))) (askedFrom version (now (bytes .entry))) (now (said .entry)) ⌝ }
+    requires { ⌜ spare * waitingWide + size ≤ length (now window) ⌝ }
+    requires { ⌜ ((ws : List ℕ) × Window size 0 (now window) ws × Known first (now guests) ws (now flight) × Beside ws (now index) (first .waiting) × Snug first ws (now index)) ⌝ }
+    ensures { λ r. ⌜ ((ws : List ℕ) → Window size 0 (now (window .entry)) ws → r ≡ judgedFrom 0 (tableOf first (now (guests .entry)) ws (now (flight .entry))) (askedFrom version (now (bytes .entry))) (now (said .entry))) ⌝ }
 {
     let n = bytes.len() / 14;
     let mut gate = first;
+    let mut start: usize = 0;
     let mut at: usize = 0;
     let mut i: usize = 0;
     while i < n {
-        let heard = hear(
+        start = windows::settle(window, start, size);
+        let heard = hear_in(
             version,
             bytes,
             i * 14,
             gate,
             guests,
-            waiting,
+            window,
+            start,
+            size,
             flight,
             i as u64 + 1,
             &said[at..],
@@ -76,13 +86,14 @@ fn judge_beside(
         }
         gate = heard.gate;
         at += long;
+        start += index::gone_on(answer, &index[..]);
         i += 1;
     }
     judge_rest(&bytes[n * 14..], n as u64, &said[at..], text)
 }
 
-// Judges the lines behind the header line, of the events of a trace of this version, from the tables on that its header opens. One
-// walk builds the index of the waiting rows for all of them.
+// Judges the lines behind the header line, of the events of a trace of this version, from the tables on that its header opens. The waiting rows are copied into a
+// window, and one walk builds their index for all events.
 pub fn judge_events(
     version: u64,
     bytes: &[u8],
@@ -97,14 +108,18 @@ pub fn judge_events(
     requires { ⌜ LINE ≤ length (now text) ⌝ }
     ensures { λ r. ⌜ r ≡ judgedFrom 0 (tableOf first (now (guests .entry)) (now (waiting .entry)) (now (flight .entry))) (askedFrom version (now (bytes .entry))) (now (said .entry)) ⌝ }
 {
+    let size = first.setup.capacity as usize * WAITING_WIDE;
+    let rows = first.waiting as usize;
+    let mut window = [0u64; WINDOW_LONG];
     let mut index = [0u16; INDEX_WIDE];
-    index::build(&waiting[..], first.waiting as usize, &mut index);
+    windows::open(&waiting[..], size, rows, &mut window, &mut index);
     judge_beside(
         version,
         bytes,
         first,
         guests,
-        waiting,
+        &mut window,
+        size,
         flight,
         said,
         text,

@@ -3,7 +3,7 @@ use Prim.Native.Nat.{ℕ, zero, suc, _+_, _-_, _*_, _≤_, _<_}
 use mathlib.Core.Path.{_≡_}
 use mathlib.Core.List.{List, map}
 use lib.Dec.{eqb}
-use lib.ListN.{getD, set}
+use lib.ListN.{length, getD, set}
 use Rattle.lists.specs.Stores.{stores}
 use Rattle.lists.specs.Parts.{shut}
 use Rattle.lists.specs.Lines.{whether}
@@ -18,6 +18,15 @@ use Rattle.moves.specs.declared.rows.Sent.{Sent}
 -- the waiting table of n requests once the one at place has gone
 abbrev pub gone : (place n : ℕ) → List ℕ → List ℕ
 gone place n ws = shut waitingWide (place * waitingWide) (n * waitingWide) ws
+
+-- in ys every number of xs stands s places further back, but for the last s, which have gone
+pub record Pushed (s : ℕ) (xs ys : List ℕ) : Type 0 where
+  pub same : length ys ≡ length xs
+  pub moved : (k : ℕ) → k + s < length xs → getD ys (k + s) 0 ≡ getD xs k 0
+
+-- behind n requests there are only zeros
+abbrev pub Blank : (n : ℕ) → List ℕ → Type 0
+Blank n ws = (j : ℕ) → n * waitingWide ≤ j → getD ws j 0 ≡ 0
 
 -- the flight table of n requests once the name of the waiting request at place stands last
 abbrev pub joined : (place n : ℕ) (ws fs : List ℕ) → List ℕ

@@ -1,4 +1,4 @@
--- A run of events on known numbers: what the loop of `turn_all` keeps, turn by turn. Assumes nothing.
+-- A run of events on known numbers: what the loop of `turn_in` keeps, turn by turn. Assumes nothing.
 use Prim.Native.Nat.{ℕ, _+_, _*_}
 use mathlib.Core.Path.{_≡_, sym, ap, _∙_, subst}
 use mathlib.Core.List.{List}

@@ -1,2 +1,4 @@
 pub mod Going
 pub mod Pumping
+pub mod Shown
+pub mod Staged

@@ -1,16 +1,18 @@
 -- The index beside the rows at a send: what goes is the first row of its guest, the index follows it, and the drop behind it moves no row. Assumes nothing.
-use Prim.Native.Nat.{ℕ, zero, suc, _+_, _-_, _*_, _≤_, _<_}
+use Prim.Native.Nat.{ℕ, zero, suc, _+_, _-_, _*_, _/_, _%_, _≤_, _<_}
 use mathlib.Core.Path.{_≡_, refl, sym, ap, _∙_, subst}
 use mathlib.Core.Logic.{_⊎_, inl, inr, ⊎-elim}
 use mathlib.Core.Bool.{Bool, true, false, not, _&&_}
 use mathlib.Core.List.{List, [], _∷_, _++_, map}
+use native.Mathlib.Nat.{mod-lt, div-add-mod'}
 use native.Mathlib.Omega.{arith}
-use lib.ListN.{length}
+use lib.ListN.{length, getD, List·getD-eq-default}
 use borrow.Author.Tests.{eq-eqb}
 use Rattle.lists.specs.Words.{if_then_else_, all}
 use Rattle.lists.specs.WordsLaws.{both, all-at, all-parts, all-of-map}
-use Rattle.lists.specs.Tab.{removeAt}
+use Rattle.lists.specs.Tab.{removeAt, lt-or-le}
 use Rattle.lists.specs.RowsLaws.{length-rows}
+use Rattle.lists.specs.LinesLaws.{tidy-zero}
 use Rattle.rules.specs.Tables.{Request, Table, of, mine, same, lacks, name}
 use Rattle.rules.specs.Sound.{distinct}
 use Rattle.rules.specs.Chosen.{blank, at}
@@ -23,8 +25,8 @@ use Rattle.table.specs.Columns.{RTAG, waitingWide, flightWide, mostGuests, most
 use Rattle.table.specs.View.{decisionOf, requestForm, tableOf, Known}
 use Rattle.table.specs.Does.{sending}
 use Rattle.table.proofs.Facts.{facts, rows-ask, row-is}
-use Rattle.moves.specs.Moves.{gone, tagDropped, tagsDropped}
-use Rattle.index.specs.Index.{ownerOf, Head, Loses, Beside}
+use Rattle.moves.specs.Moves.{gone, Blank, tagDropped, tagsDropped}
+use Rattle.index.specs.Index.{ownerOf, Head, Loses, Beside, Snug}
 use Rattle.index.proofs.Laws.{beside-alike, alike-column, loses-gone}
 use Rattle.sends.specs.Firsts.{FirstOf}
 use Rattle.sends.proofs.Phases.{send-asks}
@@ -62,6 +64,22 @@ module _ (n : ℕ) (q : Request) (fl : List Flight) where
       (λ a. none-before w i r (omega arith) e (both (lacks (name p) (map name w ++ fl)) (distinct (map name w ++ fl)) d .1) (rw a at m) j (omega arith) o)
       (either (of n p))
 
+-- behind the requests of a table that is lent with just its places there are only zeros
+pub snug-blank : (g : Gate) (gs ws fs : List ℕ) → Known g gs ws fs → length ws ≡ g .setup .capacity * waitingWide → Blank (g .waiting) ws
+snug-blank g gs ws fs k long j low =
+    ⊎-elim
+    (λ (l : j < length ws).
+    ap (λ (i : ℕ). getD ws i 0) (rest-of j)
+    ∙ tidy-zero waitingWide (g .setup .capacity) (g .waiting) (omega arith) ws (k .waitingRoom) (k .whole .waitingUnused) (j / waitingWide) (j % waitingWide) (omega (arith, low, rest-of j, below j)) (omega (arith, l, long, rest-of j)) (below j))
+    (λ (l : length ws ≤ j). List·getD-eq-default ws 0 l)
+    (lt-or-le j (length ws))
+  where
+    below : (i : ℕ) → i % waitingWide < waitingWide
+    below i = let some : 0 < waitingWide = omega arith in mod-lt i some
+
+    rest-of : (i : ℕ) → i ≡ (i / waitingWide) * waitingWide + i % waitingWide
+    rest-of i = sym (div-add-mod' i waitingWide)
+
 module _ (g : Gate) (gs ws fs : List ℕ) (k : Known g gs ws fs) (place : ℕ) (here : place < g .waiting) where
   abbrev t : Table
   t = tableOf g gs ws fs
@@ -86,10 +104,10 @@ module _ (g : Gate) (gs ws fs : List ℕ) (k : Known g gs ws fs) (place : ℕ) (
       }
 
   -- what a request asks that leaves the rows and their index
-  pub leave-asks : g .flight < g .setup .depth → FirstOf (t .waiting) place → (ix : List ℕ) → Beside ws ix (g .waiting)
+  pub leave-asks : g .flight < g .setup .depth → FirstOf (t .waiting) place → (ix : List ℕ) → Beside ws ix (g .waiting) × Snug g ws ix
       → ((place < g .waiting) × (g .waiting * waitingWide ≤ length ws) × (g .flight * flightWide + flightWide ≤ length fs))
-      × (((g .waiting ≤ mostCapacity) × (ownerOf ws place < mostGuests) × Head ws (ownerOf ws place) 0 place) × Beside ws ix (g .waiting))
-  leave-asks free h ix b = (send-asks g gs ws fs k free place here, ((rows-ask g gs ws fs k .0, owner-known, first-head h), b))
+      × (((g .waiting ≤ mostCapacity) × (ownerOf ws place < mostGuests) × Head ws (ownerOf ws place) 0 place) × (Beside ws ix (g .waiting) × (0 < length ix → Blank (g .waiting) ws)))
+  leave-asks free h ix b = (send-asks g gs ws fs k free place here, ((rows-ask g gs ws fs k .0, owner-known, first-head h), (b .0, λ some. snug-blank g gs ws fs k (b .1 some))))
 
   -- and the drop behind it
   pub behind-asks : {vs ix : List ℕ} (guest : ℕ) → guest ≡ ownerOf ws place → Beside vs ix (g .waiting - 1) → (guest < mostGuests) × Beside vs ix (g .waiting - 1)

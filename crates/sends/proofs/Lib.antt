@@ -4,5 +4,6 @@ pub mod Phases
 pub mod Returns
 pub mod Rising
 pub mod Sends
+pub mod Slid
 pub mod Wakes
 pub mod WeightSend

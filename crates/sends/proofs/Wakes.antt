@@ -1,6 +1,6 @@
 -- When to wake the gate, from what the walk finds. Assumes nothing.
-use Prim.Native.Nat.{ℕ, _*_, _≤_, _<_, max, min}
-use mathlib.Core.Path.{_≡_, refl, ap, _∙_}
+use Prim.Native.Nat.{ℕ, _+_, _*_, _≤_, _<_, max, min}
+use mathlib.Core.Path.{_≡_, refl, sym, ap, _∙_}
 use mathlib.Core.Bool.{Bool, true, false, not, _&&_}
 use mathlib.Core.List.{List, [], _∷_, map}
 use native.Mathlib.Omega.{arith}
@@ -9,6 +9,9 @@ use lib.ListN.{length}
 use borrow.Author.Tests.{lt-ltb, le-ltb}
 use Rattle.lists.specs.Words.{if_then_else_, empty, lowest}
 use Rattle.lists.specs.WordsLaws.{map-places}
+use Rattle.lists.specs.Tab.{tab}
+use Rattle.lists.specs.Lines.{linesOf}
+use Rattle.lists.specs.Rows.{rowsOf}
 use Rattle.lists.specs.RowsLaws.{length-rows}
 use Rattle.rules.specs.Numbers.{ceiling}
 use Rattle.rules.specs.Tables.{Request, Table, reserved, limited, settingsOf}
@@ -18,10 +21,11 @@ use Rattle.rules.specs.Chosen.{blank, at}
 use Rattle.rules.specs.Waking.{readyAt, readyIn, wake}
 use Rattle.rules.specs.declared.Gate.{Gate}
 use Rattle.rules.specs.declared.Wake.the-variants.{At, Never}
-use Rattle.table.specs.Columns.{guestWide, waitingWide, mostGuests, mostCapacity}
+use Rattle.table.specs.Columns.{guestWide, waitingWide, GUEST, RTAG, LTAG, STAG, mostGuests, mostCapacity}
 use Rattle.table.specs.View.{requestForm, flightForm, guestsOf, waitingOf, tableOf, Known}
 use Rattle.table.proofs.Facts.{facts, row-is}
 use Rattle.walks.specs.Walks.{Owned, Rising, LimitsFit, readyBy, readyUnder, readyByTag}
+use Rattle.index.specs.Index.{Even}
 use Rattle.sends.proofs.Phases.{line-asks, limit-zero}
 
 -- where an unlimited guest's limit tags are 0, the limit is told by the tag
@@ -84,3 +88,21 @@ module _ (g : Gate) (gs ws : List ℕ) (k : (fs : List ℕ) × Known g gs ws fs)
         map-places (readyByTag r (t .guests)) (readyIn r (t .guests)) (t .waiting) blank (λ j i. ready-by-tag r (settingsOf (t .guests) (at (t .waiting) j)) (at (t .waiting) j) (limit-zero g gs ws (k .0) (k .1) j i)) in
         rw (length-rows flightForm fs (g .flight), lt-ltb (g .flight) (g .setup .depth) h, some-left (t .waiting) (omega (arith, length-rows requestForm ws (g .waiting))))
         (ap At (e ∙ ap (λ (l : List ℕ). max (g .time) (lowest l)) same))
+
+-- ROWS THAT ARE LENT FROM ELSEWHERE
+
+module _ (n : ℕ) (ws vs : List ℕ) (e : Even ws vs) where
+  -- where every number is the same, so is every request
+  pub rows-even : waitingOf vs n ≡ waitingOf ws n
+  unfolding rowsOf linesOf
+  rows-even = λ i. map (requestForm .read) (tab n (λ k. tab waitingWide (λ j. sym (e (k * waitingWide + j)) i)))
+
+  -- and all that the walk asks of the rows
+  pub even-asks : {m : ℕ} → Owned ws n m × Rising ws n × LimitsFit ws n → Owned vs n m × Rising vs n × LimitsFit vs n
+  even-asks a = (
+    λ k h. rw (sym (e (k * waitingWide + GUEST))) (a .0 k h),
+    λ j k l h own.
+        let r = a .1 j k l h (e (j * waitingWide + GUEST) ∙ own ∙ sym (e (k * waitingWide + GUEST))) in
+        rw (sym (e (j * waitingWide + RTAG)), sym (e (k * waitingWide + RTAG)), sym (e (j * waitingWide + LTAG)), sym (e (k * waitingWide + LTAG)), sym (e (j * waitingWide + STAG)), sym (e (k * waitingWide + STAG))) r,
+    λ k h. rw (sym (e (k * waitingWide + LTAG))) (a .2 k h),
+  )

@@ -5,6 +5,7 @@ use moves::rows::Sent;
 use rules::Gate;
 use rules::Phase;
 use rules::Wake;
+use table::columns::WAITING_WIDE;
 use table::gates;
 use table::gates::Decision;
 use tags::CEILING;
@@ -21,9 +22,30 @@ ghost use Rattle.table.specs.Columns.{guestWide, waitingWide, flightWide, mostG
 ghost use Rattle.table.specs.View.{guestsOf, waitingOf, tableOf, Known};
 ghost use Rattle.table.specs.Does.{Leaves};
 ghost use Rattle.walks.specs.Walks.{Owned, Rising, LimitsFit, readyByTag};
-ghost use Rattle.moves.specs.Moves.{gone, joined, Named, fallOf, nextDropped, tagsDropped, Lawful, Unreserved};
-ghost use Rattle.index.specs.Index.{ownerOf, Head, Beside};
+ghost use Rattle.moves.specs.Moves.{gone, joined, Named, Blank, fallOf, nextDropped, tagsDropped, Lawful, Unreserved};
+ghost use Rattle.index.specs.Index.{ownerOf, Head, Beside, Even, stood, stands, Snug};
 ghost use Rattle.sends.specs.Firsts.{FirstOf};
+
+// The request at `place` goes to the array: those behind it close up, or, beside an index, those before it.
+fn depart(
+    waiting: &mut [u64],
+    flight: &mut [u64],
+    place: usize,
+    count: usize,
+    flying: usize,
+    index: &[u16],
+) -> Sent
+    requires { ⌜ (place < count) × (count * waitingWide ≤ length (now waiting)) × (flying * flightWide + flightWide ≤ length (now flight)) ⌝ }
+    requires { ⌜ (0 < length (now index) → Blank count (now waiting)) ⌝ }
+    ensures { λ _. ⌜ stood (now (index .entry)) (now (waiting .exit)) ≡ gone place count (now (waiting .entry)) ⌝ }
+    ensures { λ _. ⌜ now (flight .exit) ≡ joined place flying (now (waiting .entry)) (now (flight .entry)) ⌝ }
+    ensures { λ r. ⌜ Named place (now (waiting .entry)) r ⌝ }
+{
+    if index.len() == 0 {
+        return moves::rows::send(waiting, flight, place, count, flying);
+    }
+    moves::rows::slide(waiting, flight, place, flying)
+}
 
 // The request at `place`, the first of its guest, goes to the array, and the index follows.
 fn leave(
@@ -36,13 +58,13 @@ fn leave(
 ) -> Sent
     requires { ⌜ (place < count) × (count * waitingWide ≤ length (now waiting)) × (flying * flightWide + flightWide ≤ length (now flight)) ⌝ }
     requires { ⌜ (count ≤ mostCapacity) × (ownerOf (now waiting) place < mostGuests) × Head (now waiting) (ownerOf (now waiting) place) 0 place ⌝ }
-    requires { ⌜ Beside (now waiting) (now index) count ⌝ }
-    ensures { λ _. ⌜ now (waiting .exit) ≡ gone place count (now (waiting .entry)) ⌝ }
+    requires { ⌜ Beside (now waiting) (now index) count × (0 < length (now index) → Blank count (now waiting)) ⌝ }
+    ensures { λ _. ⌜ stood (now (index .entry)) (now (waiting .exit)) ≡ gone place count (now (waiting .entry)) ⌝ }
     ensures { λ _. ⌜ now (flight .exit) ≡ joined place flying (now (waiting .entry)) (now (flight .entry)) ⌝ }
     ensures { λ r. ⌜ Named place (now (waiting .entry)) r ⌝ }
-    ensures { λ _. ⌜ Beside (now (waiting .exit)) (now (index .exit)) (count - 1) ⌝ }
+    ensures { λ _. ⌜ Beside (stood (now (index .entry)) (now (waiting .exit))) (now (index .exit)) (count - 1) ⌝ }
 {
-    let gone = moves::rows::send(waiting, flight, place, count, flying);
+    let gone = depart(waiting, flight, place, count, flying, &index[..]);
     let guest = gone.guest;
     index::keep_sent(index, place, count, guest);
     gone
@@ -57,18 +79,25 @@ fn drop_behind(
     cost: u64,
     index: &[u16],
 )
-    requires { ⌜ (guest * guestWide + guestWide ≤ length (now guests)) × (count * waitingWide ≤ length (now waiting)) ⌝ }
-    requires { ⌜ (cost ≤ mostCost) × Lawful count (now waiting) × Unreserved guest count (now guests) (now waiting) ⌝ }
-    requires { ⌜ (guest < mostGuests) × Beside (now waiting) (now index) count ⌝ }
-    ensures { λ _. ⌜ now (guests .exit) ≡ nextDropped guest cost count (now (waiting .entry)) (now (guests .entry)) ⌝ }
-    ensures { λ _. ⌜ now (waiting .exit) ≡ tagsDropped guest (fallOf guest cost (now (guests .entry))) (now (waiting .entry)) count ⌝ }
-    ensures { λ _. ⌜ Beside (now (waiting .exit)) (now (index .entry)) count ⌝ }
+    requires { ⌜ (guest * guestWide + guestWide ≤ length (now guests)) × (count * waitingWide + waitingWide ≤ length (now waiting)) ⌝ }
+    requires { ⌜ (cost ≤ mostCost) × Lawful count (stood (now index) (now waiting)) × Unreserved guest count (now guests) (stood (now index) (now waiting)) ⌝ }
+    requires { ⌜ (guest < mostGuests) × Beside (stood (now index) (now waiting)) (now index) count ⌝ }
+    ensures { λ _. ⌜ now (guests .exit) ≡ nextDropped guest cost count (stood (now (index .entry)) (now (waiting .entry))) (now (guests .entry)) ⌝ }
+    ensures { λ _. ⌜ stood (now (index .entry)) (now (waiting .exit)) ≡ tagsDropped guest (fallOf guest cost (now (guests .entry))) (stood (now (index .entry)) (now (waiting .entry))) count ⌝ }
+    ensures { λ _. ⌜ Beside (stood (now (index .entry)) (now (waiting .exit))) (now (index .entry)) count ⌝ }
 {
     if index.len() == 0 {
         drops::drop_tags(guests, waiting, count, guest, cost);
         return;
     }
-    trails::drop_along(guests, waiting, count, guest, cost, index);
+    trails::drop_along(
+        guests,
+        &mut waiting[WAITING_WIDE..],
+        count,
+        guest,
+        cost,
+        index,
+    );
 }
 
 // The request at `place`, the first of its guest, goes by reservation.
@@ -83,9 +112,9 @@ pub fn send_by_reservation(
     requires { ⌜ Known gate (now guests) (now waiting) (now flight) ⌝ }
     requires { ⌜ (gate .flight < gate .setup .depth) × (place < gate .waiting) ⌝ }
     requires { ⌜ FirstOf (waitingOf (now waiting) (gate .waiting)) place ⌝ }
-    requires { ⌜ Beside (now waiting) (now index) (gate .waiting) ⌝ }
-    ensures { λ r. ⌜ Leaves (λ t. sentByReservationAt t place) gate (now (guests .entry)) (now (waiting .entry)) (now (flight .entry)) r (now (guests .entry)) (now (waiting .exit)) (now (flight .exit)) ⌝ }
-    ensures { λ r. ⌜ Beside (now (waiting .exit)) (now (index .exit)) (r .gate .waiting) ⌝ }
+    requires { ⌜ Beside (now waiting) (now index) (gate .waiting) × Snug gate (now waiting) (now index) ⌝ }
+    ensures { λ r. ⌜ Leaves (λ t. sentByReservationAt t place) gate (now (guests .entry)) (now (waiting .entry)) (now (flight .entry)) r (now (guests .entry)) (stands (now (index .entry)) (r .answer) (now (waiting .exit))) (now (flight .exit)) ⌝ }
+    ensures { λ r. ⌜ Beside (stands (now (index .entry)) (r .answer) (now (waiting .exit))) (now (index .exit)) (r .gate .waiting) ⌝ }
 {
     let count = gate.waiting as usize;
     let flying = gate.flight as usize;
@@ -107,9 +136,9 @@ pub fn send_by_weight(
     requires { ⌜ Known gate (now guests) (now waiting) (now flight) ⌝ }
     requires { ⌜ (gate .flight < gate .setup .depth) × (place < gate .waiting) ⌝ }
     requires { ⌜ FirstOf (waitingOf (now waiting) (gate .waiting)) place ⌝ }
-    requires { ⌜ Beside (now waiting) (now index) (gate .waiting) ⌝ }
-    ensures { λ r. ⌜ Leaves (λ t. sentByWeightAt t place) gate (now (guests .entry)) (now (waiting .entry)) (now (flight .entry)) r (now (guests .exit)) (now (waiting .exit)) (now (flight .exit)) ⌝ }
-    ensures { λ r. ⌜ Beside (now (waiting .exit)) (now (index .exit)) (r .gate .waiting) ⌝ }
+    requires { ⌜ Beside (now waiting) (now index) (gate .waiting) × Snug gate (now waiting) (now index) ⌝ }
+    ensures { λ r. ⌜ Leaves (λ t. sentByWeightAt t place) gate (now (guests .entry)) (now (waiting .entry)) (now (flight .entry)) r (now (guests .exit)) (stands (now (index .entry)) (r .answer) (now (waiting .exit))) (now (flight .exit)) ⌝ }
+    ensures { λ r. ⌜ Beside (stands (now (index .entry)) (r .answer) (now (waiting .exit))) (now (index .exit)) (r .gate .waiting) ⌝ }
 {
     let count = gate.waiting as usize;
     let flying = gate.flight as usize;
@@ -150,11 +179,11 @@ fn soonest(
     alarms::soonest(waiting, count, guests, known, time, rule, index)
 }
 
-// When to wake the gate: never where no place is free or nothing waits. What is in flight makes no difference but by its count.
+// When to wake the gate: never where no place is free or nothing waits. What is in flight makes no difference but by its count, and what is lent behind the rows none.
 pub fn wake_of(gate: Gate, guests: &[u64], waiting: &[u64], index: &[u16]) -> Wake
-    requires { ⌜ ((fs : List ℕ) × Known gate (now guests) (now waiting) fs) ⌝ }
-    requires { ⌜ Beside (now waiting) (now index) (gate .waiting) ⌝ }
-    ensures { λ r. ⌜ ((fs : List ℕ) → r ≡ wakeAt (tableOf gate (now (guests .entry)) (now (waiting .entry)) fs)) ⌝ }
+    requires { ⌜ ((ws : List ℕ) × (fs : List ℕ) × Known gate (now guests) ws fs × Even ws (now waiting)) ⌝ }
+    requires { ⌜ (gate .waiting * waitingWide ≤ length (now waiting)) × Beside (now waiting) (now index) (gate .waiting) ⌝ }
+    ensures { λ r. ⌜ ((ws fs es : List ℕ) → Known gate (now (guests .entry)) ws fs → Even ws (now (waiting .entry)) → r ≡ wakeAt (tableOf gate (now (guests .entry)) ws es)) ⌝ }
 {
     if gate.setup.depth <= gate.flight {
         return Wake::Never;

@@ -1,3 +1,4 @@
 pub mod After
 pub mod Besides
 pub mod Moves
+mod Slack

@@ -199,10 +199,14 @@ def test_full(tally, house):
     hold_sheet(tally, "a full capacity", hold_record(tally, "a full capacity", house, server.trace), told)
 
 
-def test_killed(tally, house):
-    """A client that is killed leaves at most its quota behind, and the array sees none of that."""
-    log = house.path("requests")
-    words = ["sgq-depth=4", "sgq-guest=room:reservation=200", "sgq-guest=archive:limit=4,quota=4", f"logfile={log}", *ARRAY]
+def died_of_its_own(server):
+    """Nbdkit 1.32.5 ends by an assertion where a client is killed while answers are on their way to it, with any filter and with none."""
+    return server.process.poll() == -signal.SIGABRT and "raw_send_socket" in server.heard()
+
+
+def play_killed(house, archive, log):
+    """A client of the archive is killed; gives the server, how long the next one of its guest waited, and what the room's client told. None where nbdkit died."""
+    words = ["sgq-depth=4", "sgq-guest=room:reservation=200", f"sgq-guest=archive:{archive}", f"logfile={log}", *ARRAY]
     with serving(house, *words, below=["log"]) as server:
         killed = server.client("archive", **{**ARCHIVE, "depth": 30}, seconds=20)
         time.sleep(1)
@@ -211,10 +215,31 @@ def test_killed(tally, house):
         bids = server.client("room", **ROOM, seconds=2)
         time.sleep(0.5)
         began = time.monotonic()
-        told_by(server.client("archive", **ARCHIVE | {"depth": 1}, seconds=0.01))
-        waited = time.monotonic() - began
-        told = {"room": told_by(bids)}
+        try:
+            told_by(server.client("archive", **ARCHIVE | {"depth": 1}, seconds=0.01))
+            waited = time.monotonic() - began
+            told = {"room": told_by(bids)}
+        except Stop as why:
+            bids.kill()
+            bids.communicate()
+            if died_of_its_own(server):
+                return None
+            raise Stop(f"{why}\nnbdkit has status {server.process.poll()} and said: {server.heard()[-1000:]}") from why
         status = server.stop()
+        return None if died_of_its_own(server) else (server, waited, told, status)
+
+
+def test_killed(tally, house):
+    """A client that is killed leaves at most its quota behind, and the array sees none of that."""
+    for _ in range(5):
+        log = house.path("requests")
+        played = play_killed(house, "limit=4,quota=4", log)
+        if played:
+            break
+        print("nbdkit ended by an assertion of its own where a client was killed: once more", flush=True)
+    if not played:
+        raise Stop("nbdkit ended by an assertion of its own five times")
+    server, waited, told, status = played
     tally.add("a killed client: the next one of its guest", None if waited < 4 else f"it waited {waited:.1f} s")
     tally.add("a killed client: the server ends", None if status == 0 else f"status {status}")
     hold_clients(tally, "a killed client", told)

@@ -1,5 +1,5 @@
 -- An event follows what was found of the tables, and what is none is refused 14. Assumes nothing.
-use Rattle.calling.proofs.Returns.{bad-beside}
+use Rattle.calling.proofs.Returns.{bad-beside, bad-stands}
 use Rattle.batch.proofs.Going.{good-one, bad-one, bad-judges}
 use borrow.Author.Needs.{needs}
 use Rattle.bulk.proofs.answer.Statement.{statement}
@@ -37,11 +37,12 @@ returns c =
 
 returns-2 : tie.Need-returns-2
 returns-2 c =
-    let s = c .before .before .before .before .before .before .before in (
+    let s = c .before .before .before .before .before .before .before in
+    rw (bad-stands (s .args .gate) (s .args .guests .now) (s .args .waiting .now) (s .args .flight .now) _ _ (c .refused .ensures) (s .args .index .now)) (
       bad-one (s .args .gate) (s .args .guests .now) (s .args .waiting .now) (s .args .flight .now) (s .args .event) (c .before .enum-told .given .1) _ (c .refused .ensures),
       (
         bad-judges (s .args .gate) (s .args .guests .now) (s .args .waiting .now) (s .args .flight .now) (s .args .event) (s .args .found) (s .pre .0) _ (c .refused .ensures),
-        bad-beside (s .args .gate) (s .args .guests .now) (s .args .waiting .now) (s .args .flight .now) _ _ (c .refused .ensures) _ (s .pre .1),
+        bad-beside (s .args .gate) (s .args .guests .now) (s .args .waiting .now) (s .args .flight .now) _ _ (c .refused .ensures) _ (s .pre .1 .0),
       ),
     )
 

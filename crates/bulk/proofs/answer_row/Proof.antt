@@ -1,5 +1,7 @@
--- One row: read, done, answered. Assumes nothing.
+-- One row: read, done, answered; and the table stands where `gone` says. Assumes nothing.
+use mathlib.Core.Path.{sym, _∙_}
 use native.Mathlib.Omega.{arith}
+use Rattle.index.proofs.Laws.{stands-kept}
 use Rattle.batch.proofs.Going.{turned}
 use borrow.Author.Needs.{needs}
 use Rattle.bulk.proofs.answer_row.Statement.{statement}
@@ -16,6 +18,9 @@ mul-put-answer c = let p = c .before .before .before .before .before .before .be
 
 put-answer-requires : tie.Need-put-answer-requires
 put-answer-requires c κs = let p = c .before .before .before .before .before .before .before .before .before .before .before .before .before .before .before .before .before .before .before .before .before .pre .0 in omega (arith, p .0, p .1)
+
+gone-on-requires : tie.Need-gone-on-requires
+gone-on-requires c κs = tt
 
 same-length : tie.Need-same-length
 same-length c = search needs
@@ -34,9 +39,15 @@ same-length-5 c = search needs
 
 returns : tie.Need-returns
 returns c =
-    let s = c .before .before .before .before .before .before .before .before .before .before .before .before .before .before .before .before .before .before .before .before .before .before .before .before .before in
-    let o = c .before .before .before .before .before .before .before .before .before .before .before .before .before .answer in
-    (turned _ (s .args .k) _ (s .args .answers .now) _ (c .before .before .before .before .before .before .before .before .before .before .before .before .before .before .before .before .before .before .event-at .ensures) (o .result, _, _, _) (o .ensures .0) _ (c .before .before .before .put-answer .ensures), o .ensures .1)
+    let s = c .before .before .before .before .before .before .before .before .before .before .before .before .before .before .before .before .before .before .before .before .before .before .before .before .before .before .before in
+    let o = c .before .before .before .before .before .before .before .before .before .before .before .before .before .before .before .answer in
+    let g = c .gone-on in
+    let n = o .kept .1 .1 .1 .1 .1 .1 .0 in
+    let q = sym (stands-kept (s .args .index .now) (o .last .1 .1 .1 .1 .1 .1 .0) (o .last .1 .1 .0) (o .result .answer) n) ∙ g .ensures .1 (o .last .1 .1 .0) in (
+      (g .ensures .0 .0, λ l. omega (arith, g .ensures .0 .1 l, n)),
+      rw (sym q)
+          (turned _ (s .args .k) _ (s .args .answers .now) _ (c .before .before .before .before .before .before .before .before .before .before .before .before .before .before .before .before .before .before .before .before .event-at .ensures) (o .result, _, _, _) (o .ensures .0) _ (c .before .before .before .before .before .put-answer .ensures), o .ensures .1),
+    )
 
 pub answer-row-spec : {M : Type 1} → statement M
 answer-row-spec =
@@ -46,6 +57,7 @@ answer-row-spec =
     answer-requires
     mul-put-answer
     put-answer-requires
+    gone-on-requires
     same-length
     same-length-2
     same-length-3

@@ -12,7 +12,7 @@ first-in-line-requires : tie.Need-first-in-line-requires
 first-in-line-requires c κs =
     let s = c .before .before .before .before .before .before .before .before in
     let l = line-asks (s .args .gate) (s .args .guests .now) (s .args .waiting .now) (s .args .flight .now) (s .pre .0) in
-    (l .0, (l .1 .0, ((l .1 .1, latest-asks (s .args .gate) (s .args .guests .now) (s .args .waiting .now) (s .args .flight .now) (s .pre .0) _ (c .before .before .before .latest-limit .ensures)), s .pre .1 .1)))
+    (l .0, (l .1 .0, ((l .1 .1, latest-asks (s .args .gate) (s .args .guests .now) (s .args .waiting .now) (s .args .flight .now) (s .pre .0) _ (c .before .before .before .latest-limit .ensures)), s .pre .1 .1 .0)))
 
 enum-known-found : tie.Need-enum-known-found
 enum-known-found c = search needs

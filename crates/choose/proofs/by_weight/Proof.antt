@@ -1,4 +1,5 @@
 -- `by_weight` meets its contract: what the walk found open goes, and else nothing does. Assumes nothing.
+use Rattle.index.proofs.Laws.{stands-still}
 use Rattle.sends.proofs.Besides.{beside-decided}
 use Rattle.sends.proofs.Returns.{open-here, one-open, none-open}
 use borrow.Author.Needs.{needs}
@@ -42,9 +43,10 @@ returns c =
 
 returns-2 : tie.Need-returns-2
 returns-2 c =
-    let s = c .before .before .before .before .before .before .before in (
+    let s = c .before .before .before .before .before .before .before in
+    rw (stands-still (s .args .index .now) (s .args .waiting .now) _ (s .args .gate) (c .decided .ensures)) (
       none-open (s .args .gate) (s .args .guests .now) (s .args .waiting .now) (s .args .flight .now) (s .pre .0) (s .pre .1 .0) (s .args .found) (s .pre .1 .1 .0) (c .before .enum-told .given .1) _ (c .decided .ensures),
-      beside-decided (s .args .gate) _ _ (c .decided .ensures) (s .pre .1 .1 .1),
+      beside-decided (s .args .gate) _ _ (c .decided .ensures) (s .pre .1 .1 .1 .0),
     )
 
 pub by-weight-spec : {M : Type 1} → statement M

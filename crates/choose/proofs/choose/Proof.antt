@@ -1,4 +1,5 @@
 -- `choose` meets its contract: with a place free it is the reservation phase, else nothing goes. Assumes nothing.
+use Rattle.index.proofs.Laws.{stands-still}
 use Rattle.sends.proofs.Besides.{beside-decided}
 use Rattle.sends.proofs.Returns.{place-free, none-free}
 use borrow.Author.Needs.{needs}
@@ -32,7 +33,7 @@ returns c =
 returns-2 : tie.Need-returns-2
 returns-2 c =
     let s = c .before .before .before .before .before .before .before in
-    (none-free (s .args .gate) (s .args .guests .now) (s .args .waiting .now) (s .args .flight .now) (s .pre .0) (c .before .if1 .left) _ (c .decided .ensures), beside-decided (s .args .gate) _ _ (c .decided .ensures) (s .pre .1))
+    rw (stands-still (s .args .index .now) (s .args .waiting .now) _ (s .args .gate) (c .decided .ensures)) (none-free (s .args .gate) (s .args .guests .now) (s .args .waiting .now) (s .args .flight .now) (s .pre .0) (c .before .if1 .left) _ (c .decided .ensures), beside-decided (s .args .gate) _ _ (c .decided .ensures) (s .pre .1 .0))
 
 pub choose-spec : {M : Type 1} → statement M
 choose-spec = tie.close (tie.spec by-reservation-requires decided-requires same-length same-length-2 same-length-3 same-length-4 returns returns-2)

@@ -8,7 +8,7 @@ use Rattle.trace.proofs.EventLaws.{event-take}
 use Rattle.trace.proofs.Shown.{read-shown-once}
 use Rattle.judge.specs.declared.Said.{Said}
 use Rattle.judge.proofs.Heard.{read-good, read-bad}
-use Rattle.hears.proofs.Besides.{beside-said}
+use Rattle.hears.proofs.Besides.{beside-said, refused-stands}
 use borrow.Author.Needs.{needs}
 use Rattle.hears.proofs.hear.Statement.{statement}
 use Rattle.hears.proofs.hear.Tie as tie
@@ -74,7 +74,7 @@ returns-2 c =
     let n : s .args .from + 14 - s .args .from ≡ 14 = omega arith in
     let e = read-shown-once (x .result) _ (x .ensures) ∙ ap (λ (k : ℕ). eventOf (s .args .version) (take k (drop (s .args .from) (s .args .bytes .now)))) n ∙ event-take (s .args .version) (drop (s .args .from) (s .args .bytes .now)) in
     let p = c .before .before .hear-plain in
-    (read-bad (s .args .gate) (s .args .guests .now) (s .args .waiting .now) (s .args .flight .now) (s .pre .1 .0) (s .args .number) (s .args .said .now) (x .result) _ e (c .before .before .before .before .enum-told .given .1) (p .result) (p .ensures), beside-said (s .args .gate) (p .result) (ap Said.gate (p .ensures)) (s .pre .1 .1 .1))
+    rw (refused-stands (s .args .index .now) (s .args .waiting .now) (p .result) (p .ensures)) (read-bad (s .args .gate) (s .args .guests .now) (s .args .waiting .now) (s .args .flight .now) (s .pre .1 .0) (s .args .number) (s .args .said .now) (x .result) _ e (c .before .before .before .before .enum-told .given .1) (p .result) (p .ensures), λ some. beside-said (s .args .gate) (p .result) (ap Said.gate (p .ensures)) (s .pre .1 .1 .1 .0))
 
 pub hear-spec : {M : Type 1} → statement M
 hear-spec =

@@ -3,7 +3,7 @@ use mathlib.Core.Path.{refl, ap}
 use native.Mathlib.Omega.{arith}
 use Rattle.judge.specs.declared.Said.{Said}
 use Rattle.judge.proofs.Heard.{choice-full, due-at, choice-due, open-at, choice-open, choice-none}
-use Rattle.hears.proofs.Besides.{beside-said}
+use Rattle.hears.proofs.Besides.{beside-said, nothing-stands}
 use borrow.Author.Needs.{needs}
 use Rattle.hears.proofs.hear_choice.Statement.{statement}
 use Rattle.hears.proofs.hear_choice.Tie as tie
@@ -18,12 +18,12 @@ returns : tie.Need-returns
 returns c =
     let s = c .before .before .before .before .before .before .before .before .before .before .before .before in
     let p = c .before .before .hear-plain in
-    (choice-full (s .args .gate) (s .args .guests .now) (s .args .waiting .now) (s .args .flight .now) (s .pre .0) (s .args .number) (s .args .said .now) (c .before .before .before .before .if1 .taken) (p .result) (p .ensures), beside-said (s .args .gate) (p .result) (ap Said.gate (p .ensures)) (s .pre .1 .1))
+    rw (nothing-stands (s .args .index .now) (s .args .waiting .now) (p .result) (p .ensures)) (choice-full (s .args .gate) (s .args .guests .now) (s .args .waiting .now) (s .args .flight .now) (s .pre .0) (s .args .number) (s .args .said .now) (c .before .before .before .before .if1 .taken) (p .result) (p .ensures), λ some. beside-said (s .args .gate) (p .result) (ap Said.gate (p .ensures)) (s .pre .1 .1 .0))
 
 firsts-of-requires : tie.Need-firsts-of-requires
 firsts-of-requires c κs =
     let s = c .before .before .before .before .before .before .before .before .before .before .before in
-    ((s .args .flight .now, s .pre .0), s .pre .1 .1)
+    ((s .args .flight .now, s .pre .0), s .pre .1 .1 .0)
 
 enum-known-found : tie.Need-enum-known-found
 enum-known-found c = search needs
@@ -117,7 +117,7 @@ returns-4 c =
     let s = c .before .before .before .before .before .before .before .before .before .before .before .before .before .before .before .before .before .before .before .before in
     let w = c .before .before .before .before .before .before .before .before .firsts-of in
     let p = c .before .before .hear-plain2 in
-    (choice-none (s .args .gate) (s .args .guests .now) (s .args .waiting .now) (s .args .flight .now) (s .pre .0) (s .args .number) (s .args .said .now) (omega (arith, c .before .before .before .before .before .before .before .before .before .before .before .before .if1 .left)) _ refl (w .result .due) (w .ensures .0) (c .before .before .before .before .before .before .enum-told .given .1) (w .result .open) (w .ensures .1) (c .before .before .before .before .enum-told2 .given .1) (p .result) (p .ensures), beside-said (s .args .gate) (p .result) (ap Said.gate (p .ensures)) (s .pre .1 .1))
+    rw (nothing-stands (s .args .index .now) (s .args .waiting .now) (p .result) (p .ensures)) (choice-none (s .args .gate) (s .args .guests .now) (s .args .waiting .now) (s .args .flight .now) (s .pre .0) (s .args .number) (s .args .said .now) (omega (arith, c .before .before .before .before .before .before .before .before .before .before .before .before .if1 .left)) _ refl (w .result .due) (w .ensures .0) (c .before .before .before .before .before .before .enum-told .given .1) (w .result .open) (w .ensures .1) (c .before .before .before .before .enum-told2 .given .1) (p .result) (p .ensures), λ some. beside-said (s .args .gate) (p .result) (ap Said.gate (p .ensures)) (s .pre .1 .1 .0))
 
 pub hear-choice-spec : {M : Type 1} → statement M
 hear-choice-spec =

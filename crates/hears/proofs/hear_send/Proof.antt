@@ -3,6 +3,7 @@ use Prim.Native.Nat.{_<_}
 use native.Mathlib.Omega.{arith}
 use Rattle.judge.proofs.Ties.{row-there, id-there, place-here, picks-any}
 use Rattle.judge.proofs.Heard.{send-wrong, send-right, there-here, there-first}
+use Rattle.hears.proofs.Besides.{send-stood}
 use borrow.Author.Needs.{needs}
 use Rattle.hears.proofs.hear_send.Statement.{statement}
 use Rattle.hears.proofs.hear_send.Tie as tie
@@ -16,7 +17,7 @@ send-of-requires c κs =
 find-send-requires : tie.Need-find-send-requires
 find-send-requires c κs =
     let s = c .before .before .before .before .before .before .before .before .before .before .before .before in
-    ((s .args .flight .now, s .pre .0), (λ fs. picks-any (s .args .gate) (s .args .guests .now) (s .args .waiting .now) (s .args .flight .now) fs (s .args .phase) (s .args .place) (s .pre .1 .1 .0), s .pre .1 .1 .1))
+    ((s .args .flight .now, s .pre .0), (λ fs. picks-any (s .args .gate) (s .args .guests .now) (s .args .waiting .now) (s .args .flight .now) fs (s .args .phase) (s .args .place) (s .pre .1 .1 .0), (s .pre .1 .1 .1 .0, s .pre .1 .1 .1 .1 .0)))
 
 same-length : tie.Need-same-length
 same-length c = search needs
@@ -33,7 +34,7 @@ same-length-4 c = search needs
 returns : tie.Need-returns
 returns c =
     let s = c .before .before .before .before .before .before .before .before .before .before .before .before .before .before .before .before in
-    (send-wrong (s .args .gate) (s .args .guests .now) (s .args .waiting .now) (s .args .flight .now) (s .pre .0) (s .args .place) (s .args .phase) (s .pre .1 .1 .0) (s .args .number) (s .args .said .now) _ _ (c .before .before .before .find-send .ensures (s .args .flight .now)) _ (c .before .before .before .before .before .before .before .before .send-of .ensures) (c .if1 .taken) _ _ _, s .pre .1 .1 .1 .1)
+    (send-wrong (s .args .gate) (s .args .guests .now) (s .args .waiting .now) (s .args .flight .now) (s .pre .0) (s .args .place) (s .args .phase) (s .pre .1 .1 .0) (s .args .number) (s .args .said .now) _ _ (c .before .before .before .find-send .ensures (s .args .flight .now)) _ (c .before .before .before .before .before .before .before .before .send-of .ensures) (c .if1 .taken) _ _ _, λ some. absurd (omega (arith, some, c .if1 .taken)))
 
 send-in-requires : tie.Need-send-in-requires
 send-in-requires c κs =
@@ -60,8 +61,9 @@ same-length-9 c = search needs
 returns-2 : tie.Need-returns-2
 returns-2 c =
     let s = c .before .before .before .before .before .before .before .before .before .before .before .before .before .before .before .before .before .before .before .before .before .before .before .before .before .before .before .before .before in
-    let d = c .before .before .before .before .before .before .before .before .send-in .ensures in
-    (send-right (s .args .gate) (s .args .guests .now) (s .args .waiting .now) (s .args .flight .now) (s .pre .0) (s .args .place) (s .args .phase) (s .pre .1 .1 .0) (s .args .number) (s .args .said .now) _ _ (c .before .before .before .before .before .before .before .before .before .before .before .before .before .before .before .before .find-send .ensures (s .args .flight .now)) (omega (arith, c .before .before .before .before .before .before .before .before .before .before .before .before .before .if1 .left)) _ (c .before .before .before .before .before .before .before .before .before .before .before .before .before .before .before .before .before .before .before .before .before .send-of .ensures) _ _ _ _ (d .0), d .1)
+    let x = c .before .before .before .before .before .before .before .before .send-in in
+    let a = c .before .before .before .before .before .before .before .before .before .before .before .before .before .before .before .before .before .before .before .before .before .send-of .ensures in
+    rw (send-stood (s .args .index .now) (x .last .1 .1 .0) _ a) (send-right (s .args .gate) (s .args .guests .now) (s .args .waiting .now) (s .args .flight .now) (s .pre .0) (s .args .place) (s .args .phase) (s .pre .1 .1 .0) (s .args .number) (s .args .said .now) _ _ (c .before .before .before .before .before .before .before .before .before .before .before .before .before .before .before .before .find-send .ensures (s .args .flight .now)) (omega (arith, c .before .before .before .before .before .before .before .before .before .before .before .before .before .if1 .left)) _ a _ _ _ _ (x .ensures .0), λ some. x .ensures .1)
 
 pub hear-send-spec : {M : Type 1} → statement M
 hear-send-spec =

@@ -1,3 +1,4 @@
+-- `one` meets its contract: a good event is the turn, a bad one leaves all as it stood. Assumes nothing.
 use native.Mathlib.Omega.{arith}
 use Prim.Native.Nat.{ℕ, _+_, _-_}
 use mathlib.Core.Path.{_≡_, sym, ap, _∙_}
@@ -63,7 +64,7 @@ returns c =
     let x = c .before .before .before .before .before .before .before .before .before .before .before .before .before .before .before .before .before .before .before .before .before .before .read-event in
     let e = read-shown-once (x .result) _ (x .ensures) ∙ ap (λ (k : ℕ). eventOf (a .version) (take k (drop (a .from) (a .bytes .now)))) n ∙ event-take (a .version) (drop (a .from) (a .bytes .now)) in
     let t = c .before .before .before .before .before .before .before .before .before .before .before .before .turn .ensures in
-    (t .0 ∙ ap (read (pageOf (a .gate) (a .guests .now) (a .waiting .now) (a .flight .now) (a .book .now) (a .figures .now))) (sym (c .before .before .before .before .before .before .before .before .before .before .before .before .before .before .before .before .before .before .before .before .event .given .1) ∙ e), (record { known = t .1 .0; kept = t .1 .1 .0 }, t .1 .1 .1))
+    (t .0, (t .1 .0 ∙ ap (read (pageOf (a .gate) (a .guests .now) (a .waiting .now) (a .flight .now) (a .book .now) (a .figures .now))) (sym (c .before .before .before .before .before .before .before .before .before .before .before .before .before .before .before .before .before .before .before .before .event .given .1) ∙ e), (record { known = t .1 .1 .0; kept = t .1 .1 .1 .0 }, t .1 .1 .1 .1)))
 
 returns-2 : tie.Need-returns-2
 returns-2 c =
@@ -72,7 +73,7 @@ returns-2 c =
     let n : a .from + 14 - a .from ≡ 14 = omega arith in
     let x = c .before .before .read-event in
     let e = read-shown-once (x .result) _ (x .ensures) ∙ ap (λ (k : ℕ). eventOf (a .version) (take k (drop (a .from) (a .bytes .now)))) n ∙ event-take (a .version) (drop (a .from) (a .bytes .now)) in
-    (ap (read (pageOf (a .gate) (a .guests .now) (a .waiting .now) (a .flight .now) (a .book .now) (a .figures .now))) (sym (c .enum-told .given .1) ∙ e), (firm-passed (a .number) (a .gate) _ _ _ _ _ (p .1 .0), p .1 .1))
+    ((omega arith, λ l. absurd (omega (arith, l))), (ap (read (pageOf (a .gate) (a .guests .now) (a .waiting .now) (a .flight .now) (a .book .now) (a .figures .now))) (sym (c .enum-told .given .1) ∙ e), (firm-passed (a .number) (a .gate) _ _ _ _ _ (p .1 .0), p .1 .1 .0)))
 
 pub one-spec : {M : Type 1} → statement M
 one-spec =

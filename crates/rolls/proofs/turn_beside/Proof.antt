@@ -1,106 +1,96 @@
+-- `turn_beside` meets its contract: what the events made of the places that the gate has is what they make of all that are lent. Assumes nothing.
+use Prim.Native.Nat.{_*_}
+use mathlib.Core.Path.{refl}
 use native.Mathlib.Omega.{arith}
-use Prim.Native.Nat.{ℕ, _-_, _≤_}
-use mathlib.Core.Path.{_≡_, refl, _∙_, subst}
-use lib.ListN.{length}
-use Rattle.index.specs.Index.{Beside}
-use Rattle.trace.specs.Event.{whole}
-use Rattle.tally.specs.Kept.{pageOf}
-use Rattle.rolls.proofs.Going.{Going, going-none, going-next}
+use lib.ListN.{take}
+use Rattle.windows.proofs.Windows.{window-blank, window-long}
+use Rattle.windows.proofs.Longer.{open-asks, front-fits, front-long}
+use Rattle.rolls.proofs.Shown.{front-firm, front-after}
+use borrow.Author.Needs.{needs}
 use Rattle.rolls.proofs.turn_beside.Statement.{statement}
 use Rattle.rolls.proofs.turn_beside.Tie as tie
 
-abbrev Inv-loop : tie.InvT-loop
-Inv-loop version bytes number guests₀ waiting₀ flight₀ book₀ figures₀ index₀ n gate₀ i₀ guests waiting flight book figures index gate i =
-    (i ≤ n) × (length guests ≡ length guests₀) × (length waiting ≡ length waiting₀) × (length flight ≡ length flight₀) × (length book ≡ length book₀) × (length figures ≡ length figures₀)
-    × Going version (pageOf gate₀ guests₀ waiting₀ flight₀ book₀ figures₀) bytes number i gate guests waiting flight book figures
-    × (length index ≡ length index₀) × Beside waiting index (gate .waiting)
+mul-size : tie.Need-mul-size
+mul-size c = search needs
 
-abbrev μ-loop : tie.MeasureT-loop
-μ-loop version bytes number guests₀ waiting₀ flight₀ book₀ figures₀ index₀ n gate₀ i₀ guests waiting flight book figures index gate i = n - i
+slice-aggregate-open : tie.Need-slice-aggregate-open
+slice-aggregate-open c = search needs
 
-loop-holds : tie.Need-loop-holds Inv-loop μ-loop
-loop-holds c =
-    let s = c .before .before .before .before .before .before .before in
-    (omega arith, refl, refl, refl, refl, refl, going-none _ (s .args .bytes .now) (s .args .number) _ _ _ _ _ _ (s .pre .1 .0), refl, s .pre .1 .1)
+slice-aggregate-open-2 : tie.Need-slice-aggregate-open-2
+slice-aggregate-open-2 c = search needs
 
-mul-one : tie.Need-mul-one Inv-loop μ-loop
-mul-one c = omega arith
+open-requires : tie.Need-open-requires
+open-requires c κs =
+    let s = c .before .before .before .before .before .before .before .before .before in
+    let o = open-asks (s .args .first) (s .args .guests .now) (s .args .waiting .now) (s .args .flight .now) (s .pre .1 .known) in
+    let f = front-fits (s .args .first) (s .args .guests .now) (s .args .waiting .now) (s .args .flight .now) (s .pre .1 .known) in
+    ((s .pre .1 .known .waitingRoom, omega (arith, f), window-blank 7680), ((o .0, o .1, refl), o .2))
 
-add-one : tie.Need-add-one Inv-loop μ-loop
-add-one c = omega arith
+slice-aggregate-turn-in : tie.Need-slice-aggregate-turn-in
+slice-aggregate-turn-in c = search needs
 
-one-requires : tie.Need-one-requires Inv-loop μ-loop
-one-requires c κs =
-    let l = c .before .before .before .before .before .before .before .loop in
-    let t = c .before .before .before .before .before .before .loop-test .taken in
-    ((omega (arith, l .inv .0, t), omega (arith, l .inv .0, t, c .before .before .before .before .before .before .before .before .before .before .before .before .before .before .before .pre .0)), (l .inv .6 .firm, l .inv .8))
+slice-aggregate-turn-in-2 : tie.Need-slice-aggregate-turn-in-2
+slice-aggregate-turn-in-2 c = search needs
 
-add-i : tie.Need-add-i Inv-loop μ-loop
-add-i c = omega (arith, c .before .before .before .before .before .before .before .before .before .before .before .before .before .before .before .before .before .before .before .loop-test .taken, c .before .before .before .before .before .before .before .before .before .before .before .before .before .before .before .before .before .before .before .before .before .before .before .before .before .before .before .before .pre .0)
+turn-in-requires : tie.Need-turn-in-requires
+turn-in-requires c κs =
+    let s = c .before .before .before .before .before .before .before .before .before .before .before .before .before .before .before .before .before .before in
+    let a = s .args in
+    let o = c .before .before .before .before .before .before .before .before .«open» in
+    let f = front-fits (a .first) (a .guests .now) (a .waiting .now) (a .flight .now) (s .pre .1 .known) in
+    let long = front-long (a .first) (a .guests .now) (a .waiting .now) (a .flight .now) (s .pre .1 .known) in
+    (s .pre .0, ((λ some. omega (arith, f, o .kept .1 .1 .1 .0)), (take (a .first .setup .capacity * 6) (a .waiting .now), o .ensures .0, front-firm (a .number) (a .first) (a .guests .now) (a .waiting .now) (a .flight .now) (a .book .now) (a .figures .now) (s .pre .1), (λ some. o .ensures .1), (λ some. long))))
 
-loop-less : tie.Need-loop-less Inv-loop μ-loop
-loop-less c = omega arith
+slice-aggregate-close : tie.Need-slice-aggregate-close
+slice-aggregate-close c = search needs
 
-loop-again : tie.Need-loop-again Inv-loop μ-loop
-loop-again c =
-    let a = c .before .before .before .before .before .before .before .before .before .before .before .before .before .before .before .before .before .before .before .before .before .before .before .before .before .before .before .before .args in
-    let s = c .before .before .before .before .before .before .before .before .before .before .before .before .before .before .before .before .before .before .before .before .loop in
-    let o = c .before .before .before .before .before .before .before .before .before .before .before .before .one in
-    let k = o .kept .1 .1 .1 .1 .1 in (
-      omega (arith, c .before .before .before .before .before .before .before .before .before .before .before .before .before .before .before .before .before .before .before .loop-test .taken),
-      k .0 ∙ s .inv .1,
-      k .1 .0 ∙ s .inv .2,
-      k .1 .1 .0 ∙ s .inv .3,
-      k .1 .1 .1 .0 ∙ s .inv .4,
-      k .1 .1 .1 .1 .0 ∙ s .inv .5,
-      going-next _ _ (a .bytes .now) (a .number) (s .i) _ _ _ _ _ _ _ _ _ _ _ _ (s .inv .6) (o .ensures .0) (o .ensures .1 .0),
-      k .1 .1 .1 .1 .1 .0 ∙ s .inv .7,
-      o .ensures .1 .1,
-    )
+close-requires : tie.Need-close-requires
+close-requires c κs =
+    let s = c .before .before .before .before .before .before .before .before .before .before .before .before .before .before .before .before .before .before .before .before .before .before .before .before .before .before .before .before .before .before .before in
+    let x = c .before .before .before .before .before .before .before .before .before .before .before .before .turn-in .ensures (take (s .args .first .setup .capacity * 6) (s .args .waiting .now)) (c .before .before .before .before .before .before .before .before .before .before .before .before .before .before .before .before .before .before .before .before .before .«open» .ensures .0) in
+    ((x .0, x .1), s .pre .1 .known .waitingRoom)
 
-same-length : tie.Need-same-length Inv-loop μ-loop
-same-length c = c .before .loop .inv .1
+same-length : tie.Need-same-length
+same-length c = search needs
 
-same-length-2 : tie.Need-same-length-2 Inv-loop μ-loop
-same-length-2 c = c .before .loop .inv .2
+same-length-2 : tie.Need-same-length-2
+same-length-2 c = search needs
 
-same-length-3 : tie.Need-same-length-3 Inv-loop μ-loop
-same-length-3 c = c .before .loop .inv .3
+same-length-3 : tie.Need-same-length-3
+same-length-3 c = search needs
 
-same-length-4 : tie.Need-same-length-4 Inv-loop μ-loop
-same-length-4 c = c .before .loop .inv .4
+same-length-4 : tie.Need-same-length-4
+same-length-4 c = search needs
 
-same-length-5 : tie.Need-same-length-5 Inv-loop μ-loop
-same-length-5 c = c .before .loop .inv .5
+same-length-5 : tie.Need-same-length-5
+same-length-5 c = search needs
 
-same-length-6 : tie.Need-same-length-6 Inv-loop μ-loop
-same-length-6 c = c .before .loop .inv .7
-
-returns : tie.Need-returns Inv-loop μ-loop
+returns : tie.Need-returns
 returns c =
-    let s = c .before .loop in
-    let a = c .before .before .before .before .before .before .before .before .before .args in
-    let e : s .i ≡ whole (a .bytes .now) = omega (arith, c .loop-test .left, s .inv .0) in
-    let w = subst (λ (k : ℕ). Going (a .version) (pageOf (a .first) (a .guests .now) (a .waiting .now) (a .flight .now) (a .book .now) (a .figures .now)) (a .bytes .now) (a .number) k (s .gate) (s .guests) (s .waiting) (s .flight) (s .book) (s .figures)) e (s .inv .6) in
-    (w .page, w .firm)
+    let s = c .before .before .before .before .before .before .before .before .before .before .before .before .before .before .before .before .before .before .before .before .before .before .before .before .before .before .before .before .before .before .before .before .before .before .before in
+    let a = s .args in
+    let t = c .before .before .before .before .before .before .before .before .before .before .before .before .before .before .before .before .turn-in in
+    let x = t .ensures (take (a .first .setup .capacity * 6) (a .waiting .now)) (c .before .before .before .before .before .before .before .before .before .before .before .before .before .before .before .before .before .before .before .before .before .before .before .before .before .«open» .ensures .0) in
+    let long = window-long (a .first .setup .capacity * 6) (t .result .start) (t .last .1 .1 .1 .1 .1 .0) (x .0) (x .1) in
+    rw (c .before .before .before .close .ensures (x .0) (x .1))
+    (front-after (a .number) (a .first) (a .guests .now) (a .waiting .now) (a .flight .now) (a .book .now) (a .figures .now) (s .pre .1) _ (t .result .gate) _ (x .0) _ _ _ _ long (x .2) (x .3))
 
 pub turn-beside-spec : {M : Type 1} → statement M
 turn-beside-spec =
     tie.close
     (tie.spec
-    Inv-loop
-    μ-loop
-    loop-holds
-    mul-one
-    add-one
-    one-requires
-    add-i
-    loop-less
-    loop-again
+    mul-size
+    slice-aggregate-open
+    slice-aggregate-open-2
+    open-requires
+    slice-aggregate-turn-in
+    slice-aggregate-turn-in-2
+    turn-in-requires
+    slice-aggregate-close
+    close-requires
     same-length
     same-length-2
     same-length-3
     same-length-4
     same-length-5
-    same-length-6
     returns)

@@ -1,6 +1,8 @@
 -- `send_by_reservation` meets its contract, by what the send does to the rows and their index. Assumes nothing.
+use mathlib.Core.Path.{_∙_}
 use native.Mathlib.Omega.{arith}
 use Rattle.rules.specs.declared.Phase.the-variants.{Reservation}
+use Rattle.index.proofs.Laws.{stands-sent}
 use Rattle.sends.proofs.Besides.{leave-asks, beside-sent}
 use Rattle.sends.proofs.Phases.{sent-asks}
 use Rattle.sends.proofs.Returns.{narrow-id, reservation-returns}
@@ -36,9 +38,10 @@ same-length-3 c = search needs
 returns : tie.Need-returns
 returns c =
     let s = c .before .before .before .before .before .before .before .before .before .before .before .before .before .before .before .before in
-    let n = c .before .before .before .before .before .before .before .before .leave in (
-      reservation-returns (s .args .gate) (s .args .guests .now) (s .args .waiting .now) (s .args .flight .now) (s .pre .0) (s .pre .1 .0 .0) (s .args .place) (s .pre .1 .0 .1) (n .result) _ _ _ (n .ensures .0) (n .ensures .1 .0) (n .ensures .1 .1 .0) (c .sent .ensures),
-      beside-sent (s .args .gate) Reservation (n .result .guest) _ _ (c .sent .ensures) (n .ensures .1 .1 .1),
+    let n = c .before .before .before .before .before .before .before .before .leave in
+    let h = stands-sent (s .args .index .now) _ _ (s .args .gate) (c .sent .ensures) in (
+      reservation-returns (s .args .gate) (s .args .guests .now) (s .args .waiting .now) (s .args .flight .now) (s .pre .0) (s .pre .1 .0 .0) (s .args .place) (s .pre .1 .0 .1) (n .result) _ _ _ (h ∙ n .ensures .0) (n .ensures .1 .0) (n .ensures .1 .1 .0) (c .sent .ensures),
+      beside-sent (s .args .gate) Reservation (n .result .guest) _ _ (c .sent .ensures) (rw h (n .ensures .1 .1 .1)),
     )
 
 pub send-by-reservation-spec : {M : Type 1} → statement M

@@ -1,5 +1,5 @@
 -- What was found of the tables stays true, and the call is the step or the refusal. Assumes nothing.
-use Rattle.calling.proofs.Returns.{good-known, good-returns, bad-returns, good-stays, bad-stays, bad-beside}
+use Rattle.calling.proofs.Returns.{good-known, good-returns, bad-returns, good-stays, bad-stays, bad-beside, bad-stands}
 use borrow.Author.Needs.{needs}
 use Rattle.calling.proofs.numbers.follow.Statement.{statement}
 use Rattle.calling.proofs.numbers.follow.Tie as tie
@@ -20,11 +20,12 @@ step-and-wake-requires c κs =
 
 returns : tie.Need-returns
 returns c =
-    let s = c .before .before .before .before .before .before .before .before in (
+    let s = c .before .before .before .before .before .before .before .before in
+    rw (bad-stands (s .args .gate) (s .args .guests .now) (s .args .waiting .now) (s .args .flight .now) _ _ (c .refused .ensures) (s .args .index .now)) (
       bad-returns (s .args .gate) (s .args .guests .now) (s .args .waiting .now) (s .args .flight .now) (s .args .found) (s .pre .0) (s .args .event) _ (c .before .before .found .given .1) _ (c .refused .ensures),
       (
         bad-stays (s .args .gate) (s .args .guests .now) (s .args .waiting .now) (s .args .flight .now) (s .args .found) (s .pre .0) _ _ (c .refused .ensures),
-        bad-beside (s .args .gate) (s .args .guests .now) (s .args .waiting .now) (s .args .flight .now) _ _ (c .refused .ensures) _ (s .pre .1),
+        bad-beside (s .args .gate) (s .args .guests .now) (s .args .waiting .now) (s .args .flight .now) _ _ (c .refused .ensures) _ (s .pre .1 .0),
       ),
     )
 

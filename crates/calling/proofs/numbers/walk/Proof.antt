@@ -1,7 +1,8 @@
 -- No index stands beside the rows. Assumes nothing.
 use mathlib.Core.Path.{refl}
 use mathlib.Core.List.{[]}
-use Rattle.index.proofs.Laws.{beside-none}
+use native.Mathlib.Omega.{arith}
+use Rattle.index.proofs.Laws.{beside-none, stands-none}
 use borrow.Author.Needs.{needs}
 use Rattle.calling.proofs.numbers.walk.Statement.{statement}
 use Rattle.calling.proofs.numbers.walk.Tie as tie
@@ -13,7 +14,7 @@ slice-aggregate-follow : tie.Need-slice-aggregate-follow
 slice-aggregate-follow c = search needs
 
 follow-requires : tie.Need-follow-requires
-follow-requires c κs = let s = c .before .before .before .before .before .before .before in (s .pre, beside-none {ix = []} refl)
+follow-requires c κs = let s = c .before .before .before .before .before .before .before in (s .pre, (beside-none {ix = []} refl, λ some. absurd (omega (arith, some))))
 
 same-length : tie.Need-same-length
 same-length c = search needs
@@ -25,7 +26,9 @@ same-length-3 : tie.Need-same-length-3
 same-length-3 c = search needs
 
 returns : tie.Need-returns
-returns c = c .before .before .before .before .before .before .before .follow .ensures .0
+returns c =
+    let f = c .before .before .before .before .before .before .before .follow in
+    rw (stands-none [] (f .last .1 .1 .0) (f .result .answer) refl) at (f .ensures .0)
 
 pub walk-spec : {M : Type 1} → statement M
 walk-spec =

@@ -1,4 +1,5 @@
 -- `events::judge` meets its contract: a good event is the step, a bad one leaves all as it stood. Assumes nothing.
+use Rattle.index.proofs.Laws.{stands-refused}
 use Rattle.feed.proofs.Judging.{good-answers, bad-answers, bad-beside}
 use borrow.Author.Needs.{needs}
 use Rattle.feed.proofs.events.judge.Statement.{statement}
@@ -39,7 +40,7 @@ returns-2 c =
     let s = c .before .before .before .before .before .before .before in
     let d = c .decided .ensures in
     let m = bad-answers (s .args .gate) (s .args .guests .now) (s .args .waiting .now) (s .args .flight .now) (s .args .event) (s .pre .0) (c .before .enum-told .given .1) _ d in
-    (m .0, (m .1, bad-beside (s .args .gate) (s .args .guests .now) (s .args .waiting .now) (s .args .flight .now) (s .args .event) _ d (s .pre .1)))
+    rw (stands-refused (s .args .index .now) (s .args .waiting .now) _ (s .args .gate) d) (m .0, (m .1, bad-beside (s .args .gate) (s .args .guests .now) (s .args .waiting .now) (s .args .flight .now) (s .args .event) _ d (s .pre .1 .0)))
 
 pub judge-spec : {M : Type 1} → statement M
 judge-spec =
