@@ -75,7 +75,7 @@ BAD = [
     ([*GOOD, "sgq-cost=64k:1,64k:2"], "sgq-cost=64k:1,64k:2: SIZE:COST,SIZE:COST,.. is expected"),
     ([*GOOD, "sgq-cost=reed:64k:1"], "sgq-cost=reed:64k:1: SIZE:COST,SIZE:COST,.. is expected"),
     ([*GOOD, "sgq-trace=/nowhere/day.sgq"], "sgq-trace: /nowhere/day.sgq: No such file or directory"),
-    ([*GOOD, "sgq-house=/tmp/x"], "sgq-house=FILE sgq-arrays=N sgq-array=0 to N-1 are expected together"),
+    ([*GOOD, "sgq-house=house.map"], "sgq-house=FILE sgq-arrays=N sgq-array=0 to N-1 are expected together"),
     ([*GOOD, "sgq-quota=4"], "sgq has no parameter 'sgq-quota'"),
     ([*GOOD, "--filter=noparallel"], "sgq: this plugin, or a filter, takes one request at a time"),
 ]
