@@ -1,7 +1,7 @@
 // The clock of a board that counts microseconds in 32 bits: one record that each reading moves on. It tells the time in nanoseconds, as the gate
 // takes it. What a reading does is in specs/Reading.antt. No `requires`: whatever record, whatever reading.
 ghost use Rattle.std.specs.Prelude.{◌≡◌};
-ghost use Rattle.clock.specs.Reading.{elapsed as elapsedOf, clock_of, moved_to, doing};
+ghost use Rattle.clock.specs.Reading.{elapsed as elapsed_of, clock_of, moved_to, doing};
 
 use rules::Refusal;
 use tags::CEILING;
@@ -35,7 +35,7 @@ const MICRO: u64 = 1000;
 
 // The time between two readings, in nanoseconds.
 fn elapsed(last: u32, reading: u32) -> u64
-    ensures { result ≡ elapsedOf last reading }
+    ensures { result ≡ elapsed_of last reading }
 {
     let between = std::num::wrapping_sub_u32(reading, last);
     between as u64 * MICRO

@@ -1,6 +1,6 @@
 // What becomes of one event: whether it is kept, and if not, the first reason that fits. Functions for this repository's own crates.
 ghost use Rattle.std.specs.Prelude.{◌≡◌, ◌≤◌, length, drop};
-ghost use Rattle.rules.specs.Events.{moment as momentOf};
+ghost use Rattle.rules.specs.Events.{moment as moment_of};
 ghost use Rattle.salvage.specs.Fates.{from_time, from_last, by_time, by_read, fate_of, after as after_of};
 
 use items::read_event;
@@ -62,7 +62,7 @@ fn by_time(last: Last, time: u64) -> Fate
 
 // The time of an event.
 fn moment(event: Event) -> u64
-    ensures { result ≡ momentOf event }
+    ensures { result ≡ moment_of event }
 {
     match event {
         Event::Arrival(_, time) => time,

@@ -1,6 +1,6 @@
 // Numbers from bytes, the lowest byte first.
 ghost use Rattle.std.specs.Prelude.{◌≡◌, ◌<◌};
-ghost use Rattle.trace.specs.Little.{two as twoOf, four as four_of};
+ghost use Rattle.trace.specs.Little.{two as two_of, four as four_of};
 
 // A byte as a number of 64 bits.
 pub fn wide(x: u8) -> u64
@@ -11,7 +11,7 @@ pub fn wide(x: u8) -> u64
 
 // Two bytes.
 pub fn two(a: u8, b: u8) -> u32
-    ensures value { result ≡ twoOf a b }
+    ensures value { result ≡ two_of a b }
     ensures upper_bound { result < 65536 }
 {
     a as u32 + 256 * (b as u32)

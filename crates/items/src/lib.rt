@@ -1,6 +1,6 @@
 // One event of a trace, read from its 14 bytes. Functions for this repository's own crates.
 ghost use Rattle.std.specs.Prelude.{◌≡◌, ◌≤◌, ◌<◌, length};
-ghost use Rattle.trace.specs.Little.{eight as eightOf};
+ghost use Rattle.trace.specs.Little.{eight as eight_of};
 ghost use Rattle.trace.specs.Event.{read_shown, kind_in, upper_in, event_byte, event_from, event_of};
 
 use fields::little::{four, wide};
@@ -43,7 +43,7 @@ pub fn event_byte(kind: u8, upper: u8) -> u8
 
 // Eight bytes, of which the lower four and the higher four make these numbers.
 fn eight(low: u32, high: u32) -> u64
-    ensures { result ≡ eightOf low high }
+    ensures { result ≡ eight_of low high }
 {
     low as u64 + 4294967296 * (high as u64)
 }

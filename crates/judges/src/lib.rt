@@ -6,7 +6,7 @@ ghost use Rattle.lines.specs.Line.{LINE};
 ghost use Rattle.trace.specs.Header.{header_of};
 ghost use Rattle.trace.specs.declared.Header.TheVariants.{Opened, Refused as Unopened};
 ghost use Rattle.begin.specs.Begin.{Largest};
-ghost use Rattle.judge.specs.Judging.{wrong_at, ended as endedAt, judged_of};
+ghost use Rattle.judge.specs.Judging.{wrong_at, ended as ended_at, judged_of};
 
 use begin::open_tables;
 use fields::body;
@@ -36,7 +36,7 @@ fn wrong_at(line: u64, answer: Answer) -> Judged
 
 // Nothing asks for line `line`: all lines may stand where no byte is left.
 fn ended(line: u64, said: &[u8]) -> Judged
-    ensures { result ≡ endedAt line said.now }
+    ensures { result ≡ ended_at line said.now }
 {
     if said.len() == 0 {
         return Judged {

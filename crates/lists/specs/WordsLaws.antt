@@ -275,8 +275,9 @@ get_or-each k i (x ∷ l) (suc g) d h = get_or-each k (suc i) l g d (omega arith
 
 -- all entries pass: each one does
 pub all-each : {A : Type 0} (f : A → Bool) (l : List A) → all f l ≡ true → (x : A) → Memᴰ x l → f x ≡ true
-all-each f l h x (Memᴰ.head {x = y} {xs = ys} e) = ap f e ∙ (both (f y) (all f ys) h).0
-all-each f l h x (Memᴰ.tail {x = y} {xs = ys} m) = all-each f ys (both (f y) (all f ys) h).1 x m
+all-each f [] h x m = elim m [ ]
+all-each f (y ∷ ys) h x (Memᴰ.head e) = ap f e ∙ (both (f y) (all f ys) h).0
+all-each f (y ∷ ys) h x (Memᴰ.tail m) = all-each f ys (both (f y) (all f ys) h).1 x m
 
 -- each entry passes: all do
 pub each_all : {A : Type 0} (f : A → Bool) (l : List A) → ((x : A) → Memᴰ x l → f x ≡ true) → all f l ≡ true

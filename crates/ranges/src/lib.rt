@@ -1,7 +1,9 @@
 // Whether counts, rule, costs, delta and rho, and settings lie in their ranges, on plain numbers. Functions for this
 // repository's own crates.
+#![tactic(auto)]
+
 ghost use Rattle.std.specs.Prelude.{◌≡◌};
-ghost use Rattle.rules.specs.Numbers.{within as withinOf};
+ghost use Rattle.rules.specs.Numbers.{within as within_of};
 ghost use Rattle.rules.specs.Sound.{counted, settled, ruled, fair, spread};
 
 use table::columns::{MOST_CAPACITY, MOST_DEPTH, MOST_GUESTS};
@@ -20,7 +22,7 @@ const MOST_DELTA: u64 = 65535;
 
 // n lies from low to high, both included.
 pub fn within(low: u64, high: u64, n: u64) -> bool
-    ensures { result ≡ withinOf low high n }
+    ensures { result ≡ within_of low high n }
 {
     if n < low {
         return false;

@@ -1,4 +1,6 @@
 // The paper's numbers of the refusals, in code. A crate of its own: what changes a definition of the rules need not look at it again.
+#![tactic(auto)]
+
 ghost use Rattle.std.specs.Prelude.{◌≡◌};
 ghost use Rattle.rules.specs.Answers.{number_of};
 

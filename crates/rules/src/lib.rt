@@ -1,4 +1,5 @@
 // The types that the code and the definitions of document 01 share. What each case means to the paper is in specs/Answers.antt.
+#![tactic(auto)]
 
 // What is set of a guest: its reservation, 0 for none, its limit, 0 for unlimited, its shares, and its credit, the spacings that its share tags may
 // lie back.

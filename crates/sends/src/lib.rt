@@ -5,7 +5,7 @@ ghost use Rattle.std.specs.Prelude.{◌≡◌, List, map, ℕ, ◌+◌, ◌-◌,
 ghost use Rattle.lists.specs.Words.{if◌then◌else◌, lowest};
 ghost use Rattle.rules.specs.Numbers.{ceiling, most_cost};
 ghost use Rattle.rules.specs.Chosen.{sent_by_reservation_at, sent_by_weight_at};
-ghost use Rattle.rules.specs.Waking.{wake as wakeAt};
+ghost use Rattle.rules.specs.Waking.{wake as wake_at};
 ghost use Rattle.table.specs.Columns.{guest_wide, waiting_wide, flight_wide, most_guests, most_capacity};
 ghost use Rattle.table.specs.View.{guests_of, waiting_of, table_of, Known};
 ghost use Rattle.table.specs.Does.{Leaves};
@@ -178,7 +178,7 @@ fn soonest(
 pub fn wake_of(gate: Gate, guests: &[u64], waiting: &[u64], index: &[u16]) -> Wake
     requires by_index { (ws : List ℕ) × (fs : List ℕ) × Known gate guests.now ws fs × Even ws waiting.now }
     requires waiting_wide_in_bounds { (gate.waiting * waiting_wide ≤ length waiting.now) × Beside waiting.now index.now gate.waiting }
-    ensures { (ws fs es : List ℕ) → Known gate guests.now ws fs → Even ws waiting.now → result ≡ wakeAt (table_of gate guests.now ws es) }
+    ensures { (ws fs es : List ℕ) → Known gate guests.now ws fs → Even ws waiting.now → result ≡ wake_at (table_of gate guests.now ws es) }
 {
     if gate.setup.depth <= gate.flight {
         return Wake::Never;

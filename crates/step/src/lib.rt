@@ -2,8 +2,8 @@
 // repository's own crates, and no public call. Soundness is shown once, where a table comes from, and kept by every step: nothing here tests it. So is the index of the
 // waiting rows, which stands beside them; one of no numbers is none, and every event walks the rows.
 ghost use Rattle.std.specs.Prelude.{◌≡◌, List, ℕ};
-ghost use Rattle.rules.specs.Run.{step as stepAt};
-ghost use Rattle.rules.specs.Waking.{wake as wakeAt};
+ghost use Rattle.rules.specs.Run.{step as step_at};
+ghost use Rattle.rules.specs.Waking.{wake as wake_at};
 ghost use Rattle.table.specs.View.{table_of, Known};
 ghost use Rattle.table.specs.Does.{does, Leaves};
 ghost use Rattle.index.specs.Index.{Beside, stands, Snug};
@@ -25,7 +25,7 @@ pub fn step(
 ) -> Decision
     requires known { Known gate guests.old waiting.old flight.old }
     requires beside { Beside waiting.old index.old gate.waiting × Snug gate waiting.old index.old }
-    ensures leaves { Leaves (λ t. stepAt t event) gate guests.old waiting.old flight.old result guests.new (stands index.old result.answer waiting.new) flight.new }
+    ensures leaves { Leaves (λ t. step_at t event) gate guests.old waiting.old flight.old result guests.new (stands index.old result.answer waiting.new) flight.new }
     ensures known_2 { Known result.gate guests.new (stands index.old result.answer waiting.new) flight.new }
     ensures beside_2 { Beside (stands index.old result.answer waiting.new) index.new result.gate.waiting }
 {
@@ -40,7 +40,7 @@ pub fn step(
 fn wake_after(gate: Gate, guests: &[u64], waiting: &[u64], answer: Answer, index: &[u16]) -> Wake
     requires by_index { (fs : List ℕ) × Known gate guests.now (stands index.now answer waiting.now) fs }
     requires beside { Beside (stands index.now answer waiting.now) index.now gate.waiting × Snug gate waiting.now index.now }
-    ensures { (fs es : List ℕ) → Known gate guests.now (stands index.now answer waiting.now) fs → result ≡ wakeAt (table_of gate guests.now (stands index.now answer waiting.now) es) }
+    ensures { (fs es : List ℕ) → Known gate guests.now (stands index.now answer waiting.now) fs → result ≡ wake_at (table_of gate guests.now (stands index.now answer waiting.now) es) }
 {
     if index.len() == 0 {
         return sends::wake_of(gate, guests, waiting, index);
@@ -66,7 +66,7 @@ pub fn step_and_wake(
 ) -> Outcome
     requires known { Known gate guests.old waiting.old flight.old }
     requires beside { Beside waiting.old index.old gate.waiting × Snug gate waiting.old index.old }
-    ensures flight_after { (result, guests.new, stands index.old result.answer waiting.new, flight.new) ≡ does (λ t. stepAt t event) gate guests.old waiting.old flight.old }
+    ensures flight_after { (result, guests.new, stands index.old result.answer waiting.new, flight.new) ≡ does (λ t. step_at t event) gate guests.old waiting.old flight.old }
     ensures known_2 { Known result.gate guests.new (stands index.old result.answer waiting.new) flight.new }
     ensures beside_2 { Beside (stands index.old result.answer waiting.new) index.new result.gate.waiting }
 {

@@ -1,9 +1,11 @@
 // Spacings and tags as functions on plain numbers. They are for this repository's own crates.
+#![tactic(auto)]
+
 ghost use Rattle.std.specs.Prelude.{◌≡◌, ◌-◌, ◌*◌, ◌≤◌};
 ghost use Rattle.rules.specs.Numbers.{second, most_credit, most_cost, most_delta, down, up, tag_at, raised_by, idle_bound};
 ghost use Rattle.rules.specs.declared.Settings.{Settings};
 ghost use Rattle.rules.specs.declared.Guest.{Guest};
-ghost use Rattle.rules.specs.Events.{tag_if, back as backTo, share_tag};
+ghost use Rattle.rules.specs.Events.{tag_if, back as back_to, share_tag};
 ghost use Rattle.table.specs.Stamp.{lawful_tags};
 
 // The largest time and the largest tag.
@@ -94,7 +96,7 @@ pub fn tag_if(has: bool, time: u64, next: u64) -> u64
 // As many share spacings before the time as the credit says, or 0 where that would be below 0.
 fn back(time: u64, shares: u64, credit: u64) -> u64
     requires { credit ≤ most_credit }
-    ensures { (s : Settings) → s.shares ≡ shares → s.credit ≡ credit → result ≡ backTo time s }
+    ensures { (s : Settings) → s.shares ≡ shares → s.credit ≡ credit → result ≡ back_to time s }
 {
     let reach = credit * spacing_down(shares);
     if time < reach { 0 } else { time - reach }

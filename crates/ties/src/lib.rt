@@ -8,7 +8,7 @@ ghost use Rattle.walks.specs.Walks.{Picks};
 ghost use Rattle.walks.specs.declared.Found.TheVariants.{At};
 ghost use Rattle.index.specs.Index.{Beside};
 ghost use Rattle.lines.specs.Line.{line_of, LINE};
-ghost use Rattle.judge.specs.Judging.{begins as beginsWith, ok_in, tag_in, ties, named, leads};
+ghost use Rattle.judge.specs.Judging.{begins as begins_with, ok_in, tag_in, ties, named, leads};
 ghost use Rattle.judge.specs.Hearing.{size_if, said_of, tag_column, latest_in, Timely, Lending, Tells, Finds};
 
 use crate::saying::says;
@@ -22,7 +22,7 @@ pub mod saying; // a printed line, held against the lines
 // Only this answer may stand, and it changes nothing.
 pub fn hear_plain(gate: Gate, answer: Answer, number: u64, said: &[u8], text: &mut [u8]) -> Said
     requires { LINE ≤ length text.old }
-    ensures { result ≡ said_of gate answer (size_if (beginsWith (line_of number answer) said.now) (line_of number answer)) }
+    ensures { result ≡ said_of gate answer (size_if (begins_with (line_of number answer) said.now) (line_of number answer)) }
 {
     let long = says(text, number, answer, said);
     Said { gate, answer, long }

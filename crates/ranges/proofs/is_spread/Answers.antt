@@ -1,0 +1,13 @@
+use mathlib.Core.Path.{sym, ◌∙◌}
+use borrow.Author.Tests.{not-true, not-false}
+use Rattle.rules.specs.Sound.{spread}
+use borrow.Author.Rules.{rules}
+use Rattle.ranges.proofs.is_spread.Goals as goal
+
+pub returns-then-not-within : goal.returns-then-not-within
+unfolding spread
+returns-then-not-within c = rw (sym c.within.ensures ∙ not-true _ c.if-not-within.true)
+
+pub returns : goal.returns
+unfolding spread
+returns c = rw (sym c.within.ensures ∙ not-false _ c.if-not-within.false)
