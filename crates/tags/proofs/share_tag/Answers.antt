@@ -7,6 +7,8 @@ use Rattle.rules.specs.Numbers.{tag_at}
 use Rattle.rules.specs.declared.Guest.{Guest}
 use Rattle.rules.specs.Events.{back, busy_tag, share_tag}
 use borrow.Author.Rules.{rules}
+use mathlib.Core.Bool.{not}
+use mathlib.Core.Path.{ap}
 use Rattle.tags.proofs.share_tag.Goals as goal
 
 -- the tag of a busy guest
@@ -24,14 +26,14 @@ pub returns-then-not-idle : goal.returns-then-not-idle
 unfolding share_tag
 returns-then-not-idle c h e w k =
     let x = c.args in
-    let i : x.idle ≡ false = not-true x.idle c.if-not-idle.true in
+    let i : x.idle ≡ false = not-true x.idle (ap not c.if-not-idle.true) in
     rw i (given x.time h e (c.back-least.ensures h.settings w k) c.tag_at-tag.ensures)
 
 pub returns-then-time-tag : goal.returns-then-time-tag
 unfolding share_tag
 returns-then-time-tag c h e w k =
     let x = c.args in
-    let i : x.idle ≡ true = not-false x.idle c.if-not-idle.false in
+    let i : x.idle ≡ true = not-false x.idle (ap not c.if-not-idle.false) in
     let g = given x.time h e (c.back-least.ensures h.settings w k) c.tag_at-tag.ensures in
     rw i (sooner x.time g c.if-time-tag.true)
 
@@ -39,6 +41,6 @@ pub returns-else-time-tag : goal.returns-else-time-tag
 unfolding share_tag
 returns-else-time-tag c h e w k =
     let x = c.args in
-    let i : x.idle ≡ true = not-false x.idle c.if-not-idle.false in
+    let i : x.idle ≡ true = not-false x.idle (ap not c.if-not-idle.false) in
     let g = given x.time h e (c.back-least.ensures h.settings w k) c.tag_at-tag.ensures in
     rw i (later x.time g c.if-time-tag.false)

@@ -6,6 +6,7 @@ use native.Mathlib.Omega.{arith}
 use borrow.Author.Count.{below_none, below_more}
 use Rattle.walks.specs.WalksRows.{NoneBefore, not_guest, not_id, finds-at, finds_nothing}
 use Rattle.walks.proofs.flight.find_flight.Goals as goal
+use Rattle.walks.proofs.flight.find_flight.Goals.{then-flight-place+else-flight-place-2, else-flight-place}
 
 pub loop-place-init : goal.loop-place-init
 loop-place-init c = (omega arith, below_none _)
@@ -23,10 +24,10 @@ loop-place-preserved c =
     let here = c.loop-place-test.true in (
       omega arith,
       below_more _ s.place s.invariant.1
-          (⊎_elim
-          (λ v. not_id a.flight.now a.count a.guest a.id s.place here v.2.left)
-          (λ v. not_guest a.flight.now a.count a.guest a.id s.place here v.left)
-          c.if-flight-place.branch),
+          (elim c.if-flight-place.branch [
+            | then-flight-place+else-flight-place-2 v ↦ not_id a.flight.now a.count a.guest a.id s.place here v.if-flight-place-2.false
+            | else-flight-place v ↦ not_guest a.flight.now a.count a.guest a.id s.place here v.if-flight-place.false
+          ]),
     )
 
 pub returns : goal.returns
