@@ -1,4 +1,6 @@
 // Whether no guest has one id twice, among waiting requests and requests in flight. Functions for this repository's own crates.
+#![tactic(auto)]
+
 ghost use Rattle.std.specs.Prelude.{◌≡◌, ◌+◌, ◌≤◌, ◌<◌};
 ghost use Rattle.lists.specs.Words.{below};
 ghost use Rattle.rules.specs.Sound.{distinct};

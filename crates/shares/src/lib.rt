@@ -1,5 +1,7 @@
 // The settling of the shares when an idle guest's request arrives: every waiting share tag, and the next share number of every guest with
 // something waiting, moves by time − m, up or down. One pass over the waiting rows and one over the guests.
+#![tactic(auto)]
+
 ghost use Rattle.std.specs.Prelude.{◌≡◌, ℕ, ◌*◌, ◌+◌, ◌-◌, ◌≤◌, ◌<◌, false, eqb, length, get_or};
 ghost use Rattle.table.specs.Columns.{guest_wide, GUEST, waiting_wide, most_guests, most_capacity, waiting_at};
 ghost use Rattle.walks.specs.Survey.{idle_in};

@@ -1,4 +1,6 @@
 // Whether the unused places of the two tables of requests are zero. Functions for this repository's own crates.
+#![tactic(auto)]
+
 ghost use Rattle.std.specs.Prelude.{◌≡◌, ◌&&◌, true, ◌+◌, ◌*◌, ◌≤◌, eqb, length, take, drop};
 ghost use Rattle.lists.specs.Words.{all};
 ghost use Rattle.table.specs.Columns.{flight_wide, waiting_wide};

@@ -1,4 +1,6 @@
 // The walk that finds from when on the first of the waiting requests could go. It reads and changes nothing. Functions for this repository's own crates.
+#![tactic(auto)]
+
 ghost use Rattle.std.specs.Prelude.{◌≡◌, map, ◌+◌, ◌*◌, ◌≤◌, ◌<◌, max, length, get_or};
 ghost use Rattle.lists.specs.Words.{lowest};
 ghost use Rattle.rules.specs.Numbers.{ceiling};

@@ -1,0 +1,49 @@
+-- No two of the places passed have one name, and their buckets are marked.
+use Prim.Native.Nat.{ℕ, ◌+◌, ◌≤◌, ◌<◌, ◌-◌, ◌%◌}
+use mathlib.Core.Path.{◌≡◌, ap, sym, ◌∙◌}
+use mathlib.Core.Logic.{⊎_elim}
+use native.Mathlib.Nat.{not-suc-le-zero}
+use native.Mathlib.Omega.{arith}
+use borrow.Author.Rules.{rules}
+use borrow.Author.Tests.{not-true, not-false}
+use Rattle.pairs.specs.Names.{part_at, bucket_of}
+use Rattle.pairs.proofs.Places.{names-none, names_old, names-new}
+use Rattle.pairs.proofs.Buckets.{bucket_at, same_bucket, Apart, apart_next, Seen, seen_start, seen_next}
+use mathlib.Core.Bool.{not}
+use Rattle.pairs.proofs.few_once.Goals as goal
+
+pub loop-i-init : goal.loop-i-init
+loop-i-init c = (omega arith, seen_start _, λ i j l. absurd (not-suc-le-zero l))
+
+pub returns-then-not-is_new : goal.returns-then-not-is_new
+returns-then-not-is_new c =
+    let s = c.loop-i in
+    let a = c.args in
+    sym (names_old a.waiting.now a.count a.flight.now a.sent s.i c.loop-i-test.true (sym c.is_new.ensures ∙ not-true _ (ap not c.if-not-is_new.true)))
+
+pub loop-i-preserved : goal.loop-i-preserved
+loop-i-preserved c =
+    let s = c.loop-i in
+    let a = c.args in
+    let guest = part_at a.waiting.now a.count a.flight.now 0 in
+    let id = part_at a.waiting.now a.count a.flight.now 1 in
+    let b = c.bucket-b.result % 1024 in
+    let low : b < 1024 = search rules in
+    let e : b ≡ bucket_at guest id s.i % 1024 =
+    ap (λ (x : ℕ). x % 1024)
+    (c.bucket-b.ensures.0 ∙ ap (λ (x : ℕ). bucket_of x c.part_of-id.result) c.part_of-guest.ensures ∙ ap (λ (x : ℕ). bucket_of (guest s.i) x) c.part_of-id.ensures)
+    in
+    let fresh : (k : ℕ) → k < s.i → guest k ≡ guest s.i → id k ≡ id s.i → ⊥ =
+    λ k l g d.
+    ⊎_elim
+    (λ w. names-new a.waiting.now a.count a.flight.now a.sent s.i (sym w.1.ensures ∙ not-false _ w.2.left) k l g d)
+    (λ w. s.invariant.1.none b low w.left k l (ap (λ (x : ℕ). x % 1024) (same_bucket guest id k s.i g d) ∙ sym e))
+    c.if-seen-b-ne0.branch
+    in
+    (omega arith, seen_next (λ k. bucket_at guest id k % 1024) s.seen s.i b s.invariant.1 low e, apart_next guest id s.i s.invariant.2 fresh)
+
+pub returns : goal.returns
+returns c =
+    let s = c.loop-i in
+    let a = c.args in
+    sym (names-none a.waiting.now a.count a.flight.now a.sent (λ i j l. s.invariant.2 i j (omega arith)))

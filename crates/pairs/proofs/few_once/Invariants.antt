@@ -1,0 +1,21 @@
+-- No two of the places passed have one name, and their buckets are marked.
+use Prim.Native.Nat.{ℕ, ◌+◌, ◌≤◌, ◌<◌, ◌-◌, ◌%◌}
+use mathlib.Core.Path.{◌≡◌, ap, sym, ◌∙◌}
+use mathlib.Core.Logic.{⊎_elim}
+use native.Mathlib.Nat.{not-suc-le-zero}
+use native.Mathlib.Omega.{arith}
+use borrow.Author.Rules.{rules}
+use borrow.Author.Tests.{not-true, not-false}
+use Rattle.pairs.specs.Names.{part_at, bucket_of}
+use Rattle.pairs.proofs.Places.{names-none, names_old, names-new}
+use Rattle.pairs.proofs.Buckets.{bucket_at, same_bucket, Apart, apart_next, Seen, seen_start, seen_next}
+use mathlib.Core.Bool.{not}
+use Rattle.pairs.proofs.few_once.Given as goal
+
+abbrev pub invariant-loop-i : goal.invariant-loop-i
+invariant-loop-i l =
+    (l.i ≤ l.count + l.sent) × Seen (λ k. bucket_at (part_at l.waiting l.count l.flight 0) (part_at l.waiting l.count l.flight 1) k % 1024) l.seen l.i
+    × Apart (part_at l.waiting l.count l.flight 0) (part_at l.waiting l.count l.flight 1) l.i
+
+abbrev pub decreases-loop-i : goal.decreases-loop-i
+decreases-loop-i l = l.count + l.sent - l.i
