@@ -1,5 +1,7 @@
 // What an arrival and an opening place in the lent tables: the request, the next numbers that follow it, the settings. Each contract says what becomes of the
 // numbers; MovesLaws and FollowLaws of `moves` say which lists of document 01 they then show. Functions for this repository's own crates.
+#![tactic(auto)]
+
 ghost use Rattle.std.specs.Prelude.{◌≡◌, ◌+◌, ◌*◌, ◌≤◌, length};
 ghost use Rattle.rules.specs.Numbers.{most_cost};
 ghost use Rattle.table.specs.Columns.{LIMIT, guest_wide, settings_wide, waiting_wide, guest_at};
