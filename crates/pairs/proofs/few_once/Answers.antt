@@ -1,16 +1,14 @@
 -- No two of the places passed have one name, and their buckets are marked.
-use Prim.Native.Nat.{ℕ, ◌+◌, ◌≤◌, ◌<◌, ◌-◌, ◌%◌}
+use Prim.Native.Nat.{ℕ, ◌<◌, ◌%◌}
 use mathlib.Core.Path.{◌≡◌, ap, sym, ◌∙◌}
-use mathlib.Core.Logic.{⊎_elim}
 use native.Mathlib.Nat.{not-suc-le-zero}
 use native.Mathlib.Omega.{arith}
 use borrow.Author.Rules.{rules}
-use borrow.Author.Tests.{not-true, not-false}
 use Rattle.pairs.specs.Names.{part_at, bucket_of}
 use Rattle.pairs.proofs.Places.{names-none, names_old, names-new}
-use Rattle.pairs.proofs.Buckets.{bucket_at, same_bucket, Apart, apart_next, Seen, seen_start, seen_next}
-use mathlib.Core.Bool.{not}
+use Rattle.pairs.proofs.Buckets.{bucket_at, same_bucket, apart_next, seen_start, seen_next}
 use Rattle.pairs.proofs.few_once.Goals as goal
+use Rattle.pairs.proofs.few_once.Goals.{then-seen-b-ne0+else-not-is_new, else-seen-b-ne0}
 
 pub loop-i-init : goal.loop-i-init
 loop-i-init c = (omega arith, seen_start _, λ i j l. absurd (not-suc-le-zero l))
@@ -19,7 +17,7 @@ pub returns-then-not-is_new : goal.returns-then-not-is_new
 returns-then-not-is_new c =
     let s = c.loop-i in
     let a = c.args in
-    sym (names_old a.waiting.now a.count a.flight.now a.sent s.i c.loop-i-test.true (sym c.is_new.ensures ∙ not-true _ (ap not c.if-not-is_new.true)))
+    sym (names_old a.waiting.now a.count a.flight.now a.sent s.i c.loop-i-test.true (sym c.is_new.ensures ∙ c.if-not-is_new.true))
 
 pub loop-i-preserved : goal.loop-i-preserved
 loop-i-preserved c =
@@ -35,10 +33,10 @@ loop-i-preserved c =
     in
     let fresh : (k : ℕ) → k < s.i → guest k ≡ guest s.i → id k ≡ id s.i → ⊥ =
     λ k l g d.
-    ⊎_elim
-    (λ w. names-new a.waiting.now a.count a.flight.now a.sent s.i (sym w.1.ensures ∙ not-false _ w.2.left) k l g d)
-    (λ w. s.invariant.1.none b low w.left k l (ap (λ (x : ℕ). x % 1024) (same_bucket guest id k s.i g d) ∙ sym e))
-    c.if-seen-b-ne0.branch
+    elim c.if-seen-b-ne0.branch [
+      | then-seen-b-ne0+else-not-is_new w ↦ names-new a.waiting.now a.count a.flight.now a.sent s.i (sym w.is_new.ensures ∙ w.if-not-is_new.false) k l g d
+      | else-seen-b-ne0 w ↦ s.invariant.1.none b low w.if-seen-b-ne0.false k l (ap (λ (x : ℕ). x % 1024) (same_bucket guest id k s.i g d) ∙ sym e)
+    ]
     in
     (omega arith, seen_next (λ k. bucket_at guest id k % 1024) s.seen s.i b s.invariant.1 low e, apart_next guest id s.i s.invariant.2 fresh)
 

@@ -1,15 +1,7 @@
 -- No two of the places passed have one name, and their buckets are marked.
-use Prim.Native.Nat.{ℕ, ◌+◌, ◌≤◌, ◌<◌, ◌-◌, ◌%◌}
-use mathlib.Core.Path.{◌≡◌, ap, sym, ◌∙◌}
-use mathlib.Core.Logic.{⊎_elim}
-use native.Mathlib.Nat.{not-suc-le-zero}
-use native.Mathlib.Omega.{arith}
-use borrow.Author.Rules.{rules}
-use borrow.Author.Tests.{not-true, not-false}
-use Rattle.pairs.specs.Names.{part_at, bucket_of}
-use Rattle.pairs.proofs.Places.{names-none, names_old, names-new}
-use Rattle.pairs.proofs.Buckets.{bucket_at, same_bucket, Apart, apart_next, Seen, seen_start, seen_next}
-use mathlib.Core.Bool.{not}
+use Prim.Native.Nat.{◌+◌, ◌≤◌, ◌-◌, ◌%◌}
+use Rattle.pairs.specs.Names.{part_at}
+use Rattle.pairs.proofs.Buckets.{bucket_at, Apart, Seen}
 use Rattle.pairs.proofs.few_once.Given as goal
 
 abbrev pub invariant-loop-i : goal.invariant-loop-i

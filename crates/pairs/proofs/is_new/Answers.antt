@@ -1,17 +1,14 @@
 -- The places passed have another name.
-use Prim.Native.Nat.{◌≤◌, ◌-◌}
 use mathlib.Core.Path.{◌≡◌, refl, ap, sym, ◌∙◌}
-use mathlib.Core.Bool.{true, not}
-use mathlib.Core.Logic.{⊎_elim}
+use mathlib.Core.Bool.{not}
 use native.Mathlib.Omega.{arith}
-use borrow.Author.Rules.{rules}
 use borrow.Author.Tests.{eq-eqb}
-use Rattle.lists.specs.Words.{below}
 use Rattle.lists.specs.Walks.{below_next, below_fails}
 use Rattle.lists.specs.WordsLaws.{join}
 use Rattle.pairs.specs.Names.{part_at, other_at}
 use Rattle.pairs.proofs.Places.{not_both}
 use Rattle.pairs.proofs.is_new.Goals as goal
+use Rattle.pairs.proofs.is_new.Goals.{then-part_of-guest+else-part_of-id, else-part_of-guest}
 
 pub loop-j-init : goal.loop-j-init
 loop-j-init c = (omega arith, refl)
@@ -35,10 +32,10 @@ loop-j-preserved c =
     let id = part_at a.waiting.now a.count a.flight.now 1 in
     let other : guest s.j ≡ guest a.k → id s.j ≡ id a.k → ⊥ =
     λ g d.
-    ⊎_elim
-    (λ w. w.2.left (w.1.ensures ∙ d ∙ sym c.part_of-id.ensures))
-    (λ w. w.left (c.part_of.ensures ∙ g ∙ sym c.part_of-guest.ensures))
-    c.if-part_of-guest.branch
+    elim c.if-part_of-guest.branch [
+      | then-part_of-guest+else-part_of-id w ↦ w.if-part_of-id.false (w.part_of-then-part_of-guest.ensures ∙ d ∙ sym c.part_of-id.ensures)
+      | else-part_of-guest w ↦ w.if-part_of-guest.false (c.part_of.ensures ∙ g ∙ sym c.part_of-guest.ensures)
+    ]
     in
     (omega arith, below_next (other_at a.waiting.now a.count a.flight.now a.k) s.j (not_both (guest s.j) (guest a.k) (id s.j) (id a.k) other) s.invariant.1)
 

@@ -1,16 +1,9 @@
 -- The places passed have another name.
 use Prim.Native.Nat.{◌≤◌, ◌-◌}
-use mathlib.Core.Path.{◌≡◌, refl, ap, sym, ◌∙◌}
-use mathlib.Core.Bool.{true, not}
-use mathlib.Core.Logic.{⊎_elim}
-use native.Mathlib.Omega.{arith}
-use borrow.Author.Rules.{rules}
-use borrow.Author.Tests.{eq-eqb}
+use mathlib.Core.Path.{◌≡◌}
+use mathlib.Core.Bool.{true}
 use Rattle.lists.specs.Words.{below}
-use Rattle.lists.specs.Walks.{below_next, below_fails}
-use Rattle.lists.specs.WordsLaws.{join}
-use Rattle.pairs.specs.Names.{part_at, other_at}
-use Rattle.pairs.proofs.Places.{not_both}
+use Rattle.pairs.specs.Names.{other_at}
 use Rattle.pairs.proofs.is_new.Given as goal
 
 abbrev pub invariant-loop-j : goal.invariant-loop-j

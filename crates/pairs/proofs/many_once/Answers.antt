@@ -1,15 +1,13 @@
 -- Outer loop: no two of the places passed have one name, and the arrays link the places of each bucket. Inner loop: no place of the bucket that was passed has the name.
 use Prim.Native.Nat.{ℕ, ◌≤◌, ◌-◌}
 use mathlib.Core.Path.{◌≡◌, refl, ap, sym, ◌∙◌}
-use mathlib.Core.Bool.{true}
-use mathlib.Core.Logic.{⊎_elim}
 use native.Mathlib.Nat.{not-suc-le-zero}
 use native.Mathlib.Omega.{arith}
-use borrow.Author.Rules.{rules}
 use Rattle.pairs.specs.Names.{part_at, bucket_of}
 use Rattle.pairs.proofs.Places.{names_hit, names-none}
-use Rattle.pairs.proofs.Buckets.{last_before, last_le, bucket_at, Apart, Linked, linked-start, linked-next, Passed, passed_start, passed-next, passed-end}
+use Rattle.pairs.proofs.Buckets.{last_before, last_le, bucket_at, linked-start, linked-next, passed_start, passed-next, passed-end}
 use Rattle.pairs.proofs.many_once.Goals as goal
+use Rattle.pairs.proofs.many_once.Goals.{then-part_of-guest+else-part_of-id, else-part_of-guest}
 
 pub pairs-init : goal.pairs-init
 pairs-init c = (omega arith, linked-start _, λ i j l. absurd (not-suc-le-zero l), refl)
@@ -51,10 +49,10 @@ loop-next-preserved c =
     in
     let other : guest (s.next - 1) ≡ guest o.i → id (s.next - 1) ≡ id o.i → ⊥ =
     λ g d.
-    ⊎_elim
-    (λ w. w.2.left (w.1.ensures ∙ d ∙ sym c.part_of-id.ensures))
-    (λ w. w.left (c.part_of.ensures ∙ g ∙ sym c.part_of-guest.ensures))
-    c.if-part_of-guest.branch
+    elim c.if-part_of-guest.branch [
+      | then-part_of-guest+else-part_of-id w ↦ w.if-part_of-id.false (w.part_of-then-part_of-guest.ensures ∙ d ∙ sym c.part_of-id.ensures)
+      | else-part_of-guest w ↦ w.if-part_of-guest.false (c.part_of.ensures ∙ g ∙ sym c.part_of-guest.ensures)
+    ]
     in
     (passed-next guest id o.i s.next (s.next - 1) c.wide-next-in-loop-next.result s.invariant.0 (omega (arith, c.loop-next-test.true)) other more, s.invariant.1)
 

@@ -1,14 +1,9 @@
 -- Outer loop: no two of the places passed have one name, and the arrays link the places of each bucket. Inner loop: no place of the bucket that was passed has the name.
-use Prim.Native.Nat.{ℕ, ◌≤◌, ◌-◌}
-use mathlib.Core.Path.{◌≡◌, refl, ap, sym, ◌∙◌}
+use Prim.Native.Nat.{◌≤◌, ◌-◌}
+use mathlib.Core.Path.{◌≡◌}
 use mathlib.Core.Bool.{true}
-use mathlib.Core.Logic.{⊎_elim}
-use native.Mathlib.Nat.{not-suc-le-zero}
-use native.Mathlib.Omega.{arith}
-use borrow.Author.Rules.{rules}
-use Rattle.pairs.specs.Names.{part_at, bucket_of}
-use Rattle.pairs.proofs.Places.{names_hit, names-none}
-use Rattle.pairs.proofs.Buckets.{last_before, last_le, bucket_at, Apart, Linked, linked-start, linked-next, Passed, passed_start, passed-next, passed-end}
+use Rattle.pairs.specs.Names.{part_at}
+use Rattle.pairs.proofs.Buckets.{bucket_at, Apart, Linked, Passed}
 use Rattle.pairs.proofs.many_once.Given as goal
 
 abbrev pub invariant-loop-next : goal.invariant-loop-next

@@ -1,7 +1,6 @@
 -- Each branch reads its own table.
 use borrow.Author.Tests.{lt-ltb, le-ltb}
 use Rattle.pairs.specs.Names.{part_at}
-use borrow.Author.Rules.{rules}
 use Rattle.pairs.proofs.part_of.Goals as goal
 
 pub returns-then-k-count : goal.returns-then-k-count
