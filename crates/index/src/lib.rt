@@ -1,6 +1,8 @@
 // An index over the waiting rows, so that an event need not walk them: for each guest the place of its first and of its last row, for each row the place of the next
 // one of its guest. It is built by one walk of the rows and kept beside them; a place is written one higher, and 0 says that there is none. Functions for this
 // repository's own crates.
+#![tactic(auto)]
+
 ghost use Rattle.std.specs.Prelude.{◌≡◌, false, List, ℕ, ◌+◌, ◌-◌, ◌*◌, ◌≤◌, ◌<◌, length, get_or};
 ghost use Rattle.table.specs.Columns.{waiting_wide, most_guests, most_capacity};
 ghost use Rattle.index.specs.Index.{NEXTS, index_wide, owner_of, Head, Indexed, Beside, Gains, Loses, stands, shifted, fallen, Rewritten};

@@ -1,4 +1,6 @@
 // What waits of a guest, found along its own rows by the index: the rows of the others are not read. Functions for this repository's own crates.
+#![tactic(auto)]
+
 ghost use Rattle.std.specs.Prelude.{◌≡◌, ◌*◌, ◌≤◌, ◌<◌, length};
 ghost use Rattle.table.specs.Columns.{waiting_wide, most_guests, most_capacity};
 ghost use Rattle.table.specs.View.{waiting_of};
