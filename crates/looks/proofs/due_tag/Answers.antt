@@ -1,5 +1,5 @@
 -- The tag and a bit that the tests lift it by. Assumes nothing.
-use Rattle.std.proofs.Common.{◌+◌, get_or, lit<, rules}
+use Rattle.std.proofs.Common.{◌+◌, get_or, lit<}
 use Rattle.table.specs.Columns.{RESERVATION, RTAG, LTAG, guest_at}
 use Rattle.walks.specs.Lifted.{due_lifted}
 use Rattle.looks.proofs.due_tag.Goals as goal

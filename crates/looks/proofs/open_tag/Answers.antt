@@ -1,5 +1,5 @@
 -- The tag and a bit that the test lifts it by. Assumes nothing.
-use Rattle.std.proofs.Common.{◌+◌, get_or, lit<, rules}
+use Rattle.std.proofs.Common.{◌+◌, get_or, lit<}
 use Rattle.table.specs.Columns.{LTAG, STAG}
 use Rattle.walks.specs.Lifted.{open_lifted}
 use Rattle.looks.proofs.open_tag.Goals as goal
