@@ -1,6 +1,5 @@
 -- `ready_at` meets its contract: the earlier of two tags, or the only one that counts. Assumes nothing.
 use Rattle.wakes.specs.Ready.{ready_limited, ready_reserved, ready_unreserved}
-use borrow.Author.Rules.{rules}
 use Rattle.wakes.proofs.ready_at.Goals as goal
 
 pub returns-then-limit-tag : goal.returns-then-limit-tag

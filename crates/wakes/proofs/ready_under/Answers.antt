@@ -1,7 +1,6 @@
 -- `ready_under` meets its contract: under rule 2 the limit tag, else as under rule 1. Assumes nothing.
 use mathlib.Core.Path.{◌∙◌}
 use Rattle.wakes.specs.Ready.{ready_2, ready_1}
-use borrow.Author.Rules.{rules}
 use Rattle.wakes.proofs.ready_under.Goals as goal
 
 pub returns-then-rule-eq2 : goal.returns-then-rule-eq2

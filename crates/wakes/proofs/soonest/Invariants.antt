@@ -1,12 +1,8 @@
 -- `soonest` meets its contract. After some rows the walk holds the smallest time of them, which is still ahead; a row whose guest is marked stands
 -- behind an earlier one. Assumes nothing.
-use Prim.Native.Nat.{◌+◌, ◌-◌, ◌≤◌}
-use mathlib.Core.Logic.{⊎_elim}
-use native.Mathlib.Omega.{arith}
-use lib.ListN.{get_or, set}
-use Rattle.table.specs.Columns.{GUEST, waiting_wide}
-use Rattle.walks.specs.Unseen.{mark_in, marked_set, unseen, unseen_most, unseen-some, unseen-mark}
-use Rattle.wakes.specs.Ready.{InReady, ready_start, ready_known, ready_now, ready_take, ready_pass, ready_skip, ready_rest, ready_end}
+use Prim.Native.Nat.{◌-◌, ◌≤◌}
+use Rattle.walks.specs.Unseen.{mark_in, unseen}
+use Rattle.wakes.specs.Ready.{InReady}
 use Rattle.wakes.proofs.soonest.Given as goal
 
 abbrev pub invariant-loop-at : goal.invariant-loop-at
