@@ -1,17 +1,16 @@
 -- A waiting table that is lent with more places than its gate has: what stands past them makes no difference, and stays. Assumes nothing.
 use Prim.Native.Nat.{ℕ, ◌+◌, ◌-◌, ◌*◌, ◌≤◌, ◌<◌}
 use mathlib.Core.Path.{◌≡◌, refl, sym, ap, ◌∙◌, subst}
-use mathlib.Core.Bool.{true}
-use mathlib.Core.List.{List, [], ◌++◌, map}
+use mathlib.Core.List.{List, ◌++◌, map}
 use native.Mathlib.Omega.{arith}
 use lib.ListN.{length, get_or, take, drop, take-append-drop, length-append, get_or-append}
 use lib.Seq.{get_or-append-add, take_at, length-take-le}
 use Rattle.lists.specs.Tab.{tab_ext}
 use Rattle.lists.specs.Lines.{line_at, lines_of, over, Tidy}
-use Rattle.lists.specs.LinesLaws.{in_line_lem, length_over, over-at, over_past, is_over}
+use Rattle.lists.specs.LinesLaws.{in_line_lem, length_over, over-at, is_over}
 use Rattle.lists.specs.Rows.{over_rows, rows_of}
 use Rattle.lists.specs.RowsLaws.{length-rows}
-use Rattle.rules.specs.Tables.{Request, Table}
+use Rattle.rules.specs.Tables.{Table}
 use Rattle.rules.specs.Sound.{sound}
 use Rattle.rules.specs.declared.Gate.{Gate}
 use Rattle.rules.proofs.Facts.{sound_is}

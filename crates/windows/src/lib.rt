@@ -1,5 +1,7 @@
 // A window over the waiting rows: a copy with room behind it, in which the table's start moves on by a row with each send, so that of a thousand rows only those before
 // the sent one are moved. Functions for this repository's own crates.
+#![tactic(auto)]
+
 ghost use Rattle.std.specs.Prelude.{◌≡◌, List, ◌++◌, ℕ, ◌*◌, ◌≤◌, ◌<◌, length, get_or, take, drop};
 ghost use Rattle.table.specs.Columns.{waiting_wide, most_guests, most_capacity};
 ghost use Rattle.index.specs.Index.{index_wide, owner_of, Indexed};
