@@ -1,4 +1,3 @@
-pub mod ByValue
 pub mod Cases
 pub mod Exactly
 pub mod Once

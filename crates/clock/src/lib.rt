@@ -1,5 +1,7 @@
 // The clock of a board that counts microseconds in 32 bits: one record that each reading moves on. It tells the time in nanoseconds, as the gate
 // takes it. What a reading does is in specs/Reading.antt. No `requires`: whatever record, whatever reading.
+#![tactic(auto)]
+
 ghost use Rattle.std.specs.Prelude.{◌≡◌};
 ghost use Rattle.clock.specs.Reading.{elapsed as elapsed_of, clock_of, moved_to, doing};
 

@@ -1,10 +1,1 @@
-pub mod Again
-pub mod ByValue
-pub mod Calls
-pub mod Copier
 pub mod Copying
-pub mod Lent
-pub mod Statements
-pub mod Steps
-pub mod Thin
-pub mod Turn

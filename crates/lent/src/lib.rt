@@ -1,1 +1,2 @@
-// Laws for walks by hand over a lent record or a lent slice of records, of any type. The crate has no code: it stands for what is in proofs/.
+// Laws of loops over a lent slice of records, of any type. The crate has no code: it stands for what is in proofs/.
+#![tactic(auto)]

@@ -1,5 +1,7 @@
 // The thin functions over a lent slice of guest records. Only `read` and `write` touch the slice, one record each; a record's numbers
 // stand in a lent list of numbers, a row for each record. Functions for this repository's own crates.
+#![tactic(auto)]
+
 ghost use Rattle.std.specs.Prelude.{◌≡◌, ◌++◌, ◌+◌, ◌*◌, ◌≤◌, ◌<◌, min, length, get_or, set, take, drop};
 ghost use Rattle.lists.specs.Stores.{stores};
 ghost use Rattle.lists.specs.Lines.{line_at};
@@ -36,7 +38,18 @@ pub fn read(guests: &[Guest], at: usize) -> Guest
     requires { at < length guests.now }
     ensures { result ≡ get_or guests.now at blank }
 {
-    guests[at]
+    let guest = &guests[at];
+    Guest {
+        settings: Settings {
+            reservation: guest.settings.reservation,
+            limit: guest.settings.limit,
+            shares: guest.settings.shares,
+            credit: guest.settings.credit,
+        },
+        rnext: guest.rnext,
+        lnext: guest.lnext,
+        snext: guest.snext,
+    }
 }
 
 // The record at place `at` of the lent slice becomes `guest`.

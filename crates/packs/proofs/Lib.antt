@@ -1,2 +1,0 @@
-pub mod Rec
-pub mod Rows
