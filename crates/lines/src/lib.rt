@@ -1,5 +1,7 @@
 // Answers to lines: the printed lines, written into a lent buffer. Each function that puts something writes it from place `at` on and
 // answers the place after it.
+#![tactic(auto)]
+
 ghost use Rattle.std.specs.Prelude.{◌≡◌, [], ◌∷◌, ◌+◌, ◌≤◌, ◌<◌, length};
 ghost use Rattle.rules.specs.Answers.{number_of, letter_of};
 ghost use Rattle.lines.specs.Put.{Put};
