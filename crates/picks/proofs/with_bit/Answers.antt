@@ -3,18 +3,10 @@ use mathlib.Core.Path.{◌≡◌}
 use native.Mathlib.Omega.{arith}
 use lib.Pow.{shl_exact}
 use Rattle.walks.specs.Unseen.{marked_or}
-use borrow.Author.Rules.{rules}
-use Rattle.picks.proofs.with_bit.Statement.{statement}
-use Rattle.picks.proofs.with_bit.Tie as tie
+use Rattle.picks.proofs.with_bit.Goals as goal
 
-shl-result : tie.Need-overflow-shl-result
-shl-result c = search rules
-
-returns : tie.Need-returns
+pub returns : goal.returns
 returns c =
     let a = c.args in
     let e : 1 * 2 ^ a.guest % 2 ^ 64 ≡ 2 ^ a.guest = omega (arith, shl_exact {a = 1} 1 a.guest 64 (omega arith) (omega (arith, c.requires))) in
     rw e (marked_or a.seen a.guest)
-
-pub with-bit-spec : {M : Type 1} → statement M
-with-bit-spec = tie.close (tie.spec shl-result returns)
