@@ -11,19 +11,21 @@ ghost use Rattle.begin.specs.Begin.{Largest};
 ghost use Rattle.prints.specs.Standing.{Decided};
 
 use headers::read_header;
+use port::Streams;
 use rules::Refusal;
 use stream::{End, Filled};
 use table::columns::{FLIGHT_LONG, GUESTS_LONG, SETTINGS_LONG, WAITING_LONG};
 use trace::Header;
 
 // Makes the arrays, each for the largest settings, runs the trace on them, and says on standard error where a read or a write failed.
-fn main() {
+fn main(rt: HostRuntime) {
     let mut buffer = [0u8; 4096];
     let mut settings = [0u64; SETTINGS_LONG];
     let mut guests = [0u64; GUESTS_LONG];
     let mut waiting = [0u64; WAITING_LONG];
     let mut flight = [0u64; FLIGHT_LONG];
     let mut out = [0u8; 20480];
+    let mut streams = port::open(rt);
     let mut log = port::start();
     let end = run(
         &mut buffer,
@@ -32,16 +34,17 @@ fn main() {
         &mut waiting,
         &mut flight,
         &mut out,
+        &mut streams,
         &mut log,
     );
-    report(end);
+    report(end, &streams);
 }
 
 // One line where a read or a write failed, and none else.
-fn report(end: End) {
+fn report(end: End, streams: &Streams) {
     match end {
-        End::Unread => port::complain(b"decide: cannot read standard input"),
-        End::Unwritten => port::complain(b"decide: cannot write standard output"),
+        End::Unread => port::complain(b"decide: cannot read standard input", streams),
+        End::Unwritten => port::complain(b"decide: cannot write standard output", streams),
         End::Whole => {}
         End::Unended => {}
     }
@@ -55,6 +58,7 @@ fn run(
     waiting: &mut [u64],
     flight: &mut [u64],
     out: &mut [u8],
+    streams: &mut Streams,
     log: &mut u64,
 ) -> End
     requires buffer_len { (length buffer.old ≡ 4096) × (length out.old ≡ 20480) }
@@ -62,9 +66,11 @@ fn run(
     requires holds { Holds log.old blank }
     ensures { Decided result log.new }
 {
-    let filled = stream::fill(buffer, log);
+    let filled = stream::fill(buffer, streams, log);
     match filled {
-        Filled::Upto(have) => judge(buffer, have, settings, guests, waiting, flight, out, log),
+        Filled::Upto(have) => judge(
+            buffer, have, settings, guests, waiting, flight, out, streams, log,
+        ),
         Filled::Failed => End::Unread,
     }
 }
@@ -78,6 +84,7 @@ fn judge(
     waiting: &mut [u64],
     flight: &mut [u64],
     out: &mut [u8],
+    streams: &mut Streams,
     log: &mut u64,
 ) -> End
     requires buffer_len { (length buffer.old ≡ 4096) × (have ≤ 4096) × (length out.old ≡ 20480) }
@@ -87,7 +94,7 @@ fn judge(
 {
     let header = read_header(&buffer[..have]);
     match header {
-        Header::Refused(refusal) => refuse(out, refusal, log),
+        Header::Refused(refusal) => refuse(out, refusal, streams, log),
         Header::Opened {
             version,
             depth,
@@ -96,19 +103,19 @@ fn judge(
             rule,
         } => follow(
             buffer, have, version, depth, known, capacity, rule, settings, guests, waiting, flight,
-            out, log,
+            out, streams, log,
         ),
     }
 }
 
 // Writes the one line of a bad header.
-fn refuse(out: &mut [u8], refusal: Refusal, log: &mut u64) -> End
+fn refuse(out: &mut [u8], refusal: Refusal, streams: &mut Streams, log: &mut u64) -> End
     requires out_len { length out.old ≡ 20480 }
     requires last { Last printed log.old (refusal_line refusal) }
     ensures { Decided result log.new }
 {
     let n = lines::put_refusal(out, 0, refusal);
-    prints::output::last(out, n, log)
+    prints::output::last(out, n, streams, log)
 }
 
 // A good header: opens the tables, writes the header line, and goes on with the events. A buffer that is not full holds all of the input.
@@ -125,6 +132,7 @@ fn follow(
     waiting: &mut [u64],
     flight: &mut [u64],
     out: &mut [u8],
+    streams: &mut Streams,
     log: &mut u64,
 ) -> End
     requires buffer_len { (length buffer.old ≡ 4096) × (have ≤ 4096) × (length out.old ≡ 20480) }
@@ -138,7 +146,7 @@ fn follow(
     );
     let rest = begun.rest;
     let gate = begun.gate;
-    if !prints::output::title(out, log) {
+    if !prints::output::title(out, streams, log) {
         return End::Unwritten;
     }
     pumps::run(
@@ -151,6 +159,7 @@ fn follow(
         waiting,
         flight,
         out,
+        streams,
         log,
     )
 }

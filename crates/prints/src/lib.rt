@@ -9,7 +9,7 @@ ghost use Rattle.prints.specs.Standing.{Decided, Went, Rests, Follows};
 
 use crate::output::{emit, last};
 use buffers::{put_cut, take_in};
-use port::Moved;
+use port::{Moved, Streams};
 use rules::Gate;
 use stream::End;
 
@@ -42,6 +42,7 @@ pub fn turn(
     waiting: &mut [u64],
     flight: &mut [u64],
     out: &mut [u8],
+    streams: &mut Streams,
     log: &mut u64,
 ) -> Stand
     requires have_in_bounds { (have ≤ length buffer.old) × (number + have < 2 ^ 64) × (5 * have ≤ length out.old) }
@@ -56,7 +57,7 @@ pub fn turn(
     );
     let after = taken.gate;
     let bytes = taken.bytes;
-    let written = emit(out, bytes, log);
+    let written = emit(out, bytes, streams, log);
     Stand {
         gate: after,
         rest: taken.rest,
@@ -66,17 +67,24 @@ pub fn turn(
 }
 
 // Reads on behind the bytes that are left of a cut event, or ends where no more come.
-pub fn read_on(buffer: &mut [u8], have: usize, number: u64, out: &mut [u8], log: &mut u64) -> After
+pub fn read_on(
+    buffer: &mut [u8],
+    have: usize,
+    number: u64,
+    out: &mut [u8],
+    streams: &mut Streams,
+    log: &mut u64,
+) -> After
     requires have_bound { (have < 14) × (number + 1 < 2 ^ 64) × (length buffer.old ≡ 4096) × (length out.old ≡ 20480) }
     requires rests { Rests log.old number (take have buffer.old) }
     ensures follows { Follows result (drop have buffer.new) log.old log.new }
     ensures buffer_unchanged { take have buffer.new ≡ take have buffer.old }
 {
-    let came = stream::refill(buffer, have, log);
+    let came = stream::refill(buffer, have, streams, log);
     match came {
         Moved::Bytes(more) => After::More(more),
         Moved::Nothing => {
-            let end = finish(&buffer[..have], number, out, log);
+            let end = finish(&buffer[..have], number, out, streams, log);
             After::Over(end)
         }
         Moved::Failed => After::Over(End::Unread),
@@ -84,11 +92,11 @@ pub fn read_on(buffer: &mut [u8], have: usize, number: u64, out: &mut [u8], log:
 }
 
 // Writes the line of an event that is cut short, where bytes of one are left.
-pub fn finish(left: &[u8], number: u64, out: &mut [u8], log: &mut u64) -> End
+pub fn finish(left: &[u8], number: u64, out: &mut [u8], streams: &mut Streams, log: &mut u64) -> End
     requires out_len { (length out.old ≡ 20480) × (number + 1 < 2 ^ 64) }
     requires last { Last printed log.old (cut number left.now) }
     ensures { Decided result log.new }
 {
     let n = put_cut(left, number, out);
-    last(out, n, log)
+    last(out, n, streams, log)
 }

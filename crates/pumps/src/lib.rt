@@ -4,6 +4,7 @@ ghost use Rattle.table.specs.View.{Known};
 ghost use Rattle.feed.specs.Promise.{place_of};
 ghost use Rattle.prints.specs.Standing.{Decided, Standing};
 
+use port::Streams;
 use prints::{After, finish, read_on, turn};
 use rules::Gate;
 use stream::End;
@@ -21,6 +22,7 @@ fn close(
     waiting: &mut [u64],
     flight: &mut [u64],
     out: &mut [u8],
+    streams: &mut Streams,
     log: &mut u64,
 ) -> End
     requires buffer_len { (length buffer.old ≡ 4096) × (have ≤ 4096) × (length out.old ≡ 20480) }
@@ -29,11 +31,11 @@ fn close(
     ensures { Decided result log.new }
 {
     let stand = turn(
-        version, buffer, have, 0, opened, guests, waiting, flight, out, log,
+        version, buffer, have, 0, opened, guests, waiting, flight, out, streams, log,
     );
     let rest = stand.rest;
     if stand.written {
-        finish(&buffer[..rest], stand.number, out, log)
+        finish(&buffer[..rest], stand.number, out, streams, log)
     } else {
         End::Unwritten
     }
@@ -49,6 +51,7 @@ fn pump(
     waiting: &mut [u64],
     flight: &mut [u64],
     out: &mut [u8],
+    streams: &mut Streams,
     log: &mut u64,
 ) -> End
     requires buffer_len { (length buffer.old ≡ 4096) × (first ≤ 4096) × (length out.old ≡ 20480) }
@@ -62,7 +65,7 @@ fn pump(
     let mut turns = TURNS;
     while turns > 0 {
         let stand = turn(
-            version, buffer, have, done, gate, guests, waiting, flight, out, log,
+            version, buffer, have, done, gate, guests, waiting, flight, out, streams, log,
         );
         if !stand.written {
             return End::Unwritten;
@@ -70,7 +73,7 @@ fn pump(
         gate = stand.gate;
         done = stand.number;
         have = stand.rest;
-        let after = read_on(buffer, have, done, out, log);
+        let after = read_on(buffer, have, done, out, streams, log);
         match after {
             After::More(more) => have += more,
             After::Over(end) => return end,
@@ -91,6 +94,7 @@ pub fn run(
     waiting: &mut [u64],
     flight: &mut [u64],
     out: &mut [u8],
+    streams: &mut Streams,
     log: &mut u64,
 ) -> End
     requires buffer_len { (length buffer.old ≡ 4096) × (first ≤ 4096) × (length out.old ≡ 20480) }
@@ -100,10 +104,10 @@ pub fn run(
 {
     if ended {
         return close(
-            version, buffer, first, opened, guests, waiting, flight, out, log,
+            version, buffer, first, opened, guests, waiting, flight, out, streams, log,
         );
     }
     pump(
-        version, buffer, first, opened, guests, waiting, flight, out, log,
+        version, buffer, first, opened, guests, waiting, flight, out, streams, log,
     )
 }

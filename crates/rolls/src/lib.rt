@@ -13,7 +13,7 @@ use buffers::shift;
 use index::{INDEX_WIDE, MOST_WALKED};
 use pages::output::last;
 use pages::put_guests;
-use port::Moved;
+use port::{Moved, Streams};
 use rules::Gate;
 use stream::End;
 use table::columns::WAITING_WIDE;
@@ -294,13 +294,13 @@ fn take_in(
 }
 
 // Writes the lines of the first `known` guests.
-fn finish(known: u64, figures: &[u64], log: &mut u64) -> End
+fn finish(known: u64, figures: &[u64], streams: &mut Streams, log: &mut u64) -> End
     requires { Closes log.old known figures.now }
     ensures { Listed result log.new }
 {
     let mut out = [0u8; 20480];
     let n = put_guests(&mut out, known as usize, figures);
-    last(&out, n, log)
+    last(&out, n, streams, log)
 }
 
 // Turns the page by the events of an input that has ended, and writes the sheet.
@@ -314,6 +314,7 @@ fn close(
     flight: &mut [u64],
     book: &mut [u64],
     figures: &mut [u64],
+    streams: &mut Streams,
     log: &mut u64,
 ) -> End
     requires buffer_len { (length buffer.old ≡ 4096) × (have ≤ 4096) }
@@ -325,7 +326,7 @@ fn close(
         version, buffer, have, 0, opened, guests, waiting, flight, book, figures,
     );
     let gate = turn.gate;
-    finish(gate.guests, figures, log)
+    finish(gate.guests, figures, streams, log)
 }
 
 // Turns the page by the events of an input that may go on, until no more bytes come, and writes the sheet.
@@ -339,6 +340,7 @@ fn pump(
     flight: &mut [u64],
     book: &mut [u64],
     figures: &mut [u64],
+    streams: &mut Streams,
     log: &mut u64,
 ) -> End
     requires buffer_len { (length buffer.old ≡ 4096) × (first ≤ 4096) }
@@ -357,10 +359,10 @@ fn pump(
         gate = turn.gate;
         done = turn.number;
         have = turn.rest;
-        let came = stream::refill(buffer, have, log);
+        let came = stream::refill(buffer, have, streams, log);
         match came {
             Moved::Bytes(more) => have += more,
-            Moved::Nothing => return finish(gate.guests, figures, log),
+            Moved::Nothing => return finish(gate.guests, figures, streams, log),
             Moved::Failed => return End::Unread,
         }
         turns -= 1;
@@ -380,6 +382,7 @@ pub fn run(
     flight: &mut [u64],
     book: &mut [u64],
     figures: &mut [u64],
+    streams: &mut Streams,
     log: &mut u64,
 ) -> End
     requires buffer_len { (length buffer.old ≡ 4096) × (first ≤ 4096) }
@@ -389,10 +392,10 @@ pub fn run(
 {
     if ended {
         return close(
-            version, buffer, first, opened, guests, waiting, flight, book, figures, log,
+            version, buffer, first, opened, guests, waiting, flight, book, figures, streams, log,
         );
     }
     pump(
-        version, buffer, first, opened, guests, waiting, flight, book, figures, log,
+        version, buffer, first, opened, guests, waiting, flight, book, figures, streams, log,
     )
 }

@@ -11,6 +11,7 @@ ghost use Rattle.pages.specs.Sheet.{sheet_of};
 ghost use Rattle.pages.specs.Standing.{Roomy, Listed};
 
 use headers::read_header;
+use port::Streams;
 use rules::Refusal;
 use stream::{End, Filled};
 use table::columns::{FLIGHT_LONG, GUESTS_LONG, SETTINGS_LONG, WAITING_LONG};
@@ -18,7 +19,7 @@ use tally::columns::{BOOK_LONG, FIGURES_LONG};
 use trace::Header;
 
 // Makes the arrays, each for the largest settings, runs the trace on them, and says on standard error where a read or a write failed.
-fn main() {
+fn main(rt: HostRuntime) {
     let mut buffer = [0u8; 4096];
     let mut settings = [0u64; SETTINGS_LONG];
     let mut guests = [0u64; GUESTS_LONG];
@@ -26,6 +27,7 @@ fn main() {
     let mut flight = [0u64; FLIGHT_LONG];
     let mut book = [0u64; BOOK_LONG];
     let mut figures = [0u64; FIGURES_LONG];
+    let mut streams = port::open(rt);
     let mut log = port::start();
     let end = run(
         &mut buffer,
@@ -35,16 +37,17 @@ fn main() {
         &mut flight,
         &mut book,
         &mut figures,
+        &mut streams,
         &mut log,
     );
-    report(end);
+    report(end, &streams);
 }
 
 // One line where a read or a write failed, and none else.
-fn report(end: End) {
+fn report(end: End, streams: &Streams) {
     match end {
-        End::Unread => port::complain(b"sheet: cannot read standard input"),
-        End::Unwritten => port::complain(b"sheet: cannot write standard output"),
+        End::Unread => port::complain(b"sheet: cannot read standard input", streams),
+        End::Unwritten => port::complain(b"sheet: cannot write standard output", streams),
         End::Whole => {}
         End::Unended => {}
     }
@@ -59,6 +62,7 @@ fn run(
     flight: &mut [u64],
     book: &mut [u64],
     figures: &mut [u64],
+    streams: &mut Streams,
     log: &mut u64,
 ) -> End
     requires buffer_len { length buffer.old ≡ 4096 }
@@ -67,10 +71,10 @@ fn run(
     requires holds { Holds log.old blank }
     ensures { Listed result log.new }
 {
-    let filled = stream::fill(buffer, log);
+    let filled = stream::fill(buffer, streams, log);
     match filled {
         Filled::Upto(have) => judge(
-            buffer, have, settings, guests, waiting, flight, book, figures, log,
+            buffer, have, settings, guests, waiting, flight, book, figures, streams, log,
         ),
         Filled::Failed => End::Unread,
     }
@@ -86,6 +90,7 @@ fn judge(
     flight: &mut [u64],
     book: &mut [u64],
     figures: &mut [u64],
+    streams: &mut Streams,
     log: &mut u64,
 ) -> End
     requires buffer_len { (length buffer.old ≡ 4096) × (have ≤ 4096) }
@@ -96,7 +101,7 @@ fn judge(
 {
     let header = read_header(&buffer[..have]);
     match header {
-        Header::Refused(refusal) => refuse(refusal, log),
+        Header::Refused(refusal) => refuse(refusal, streams, log),
         Header::Opened {
             version,
             depth,
@@ -105,19 +110,19 @@ fn judge(
             rule,
         } => follow(
             buffer, have, version, depth, known, capacity, rule, settings, guests, waiting, flight,
-            book, figures, log,
+            book, figures, streams, log,
         ),
     }
 }
 
 // Writes the one line of a bad header.
-fn refuse(refusal: Refusal, log: &mut u64) -> End
+fn refuse(refusal: Refusal, streams: &mut Streams, log: &mut u64) -> End
     requires { Last sheet_of log.old (refusal_line refusal) }
     ensures { Listed result log.new }
 {
     let mut out = [0u8; 65];
     let n = lines::put_refusal(&mut out, 0, refusal);
-    pages::output::last(&out, n, log)
+    pages::output::last(&out, n, streams, log)
 }
 
 // A good header: opens the tables, clears the figures, and goes on with the events. A buffer that is not full holds all of the input.
@@ -135,6 +140,7 @@ fn follow(
     flight: &mut [u64],
     book: &mut [u64],
     figures: &mut [u64],
+    streams: &mut Streams,
     log: &mut u64,
 ) -> End
     requires buffer_len { (length buffer.old ≡ 4096) × (have ≤ 4096) }
@@ -161,6 +167,7 @@ fn follow(
         flight,
         book,
         figures,
+        streams,
         log,
     )
 }
