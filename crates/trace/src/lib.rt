@@ -1,5 +1,7 @@
 // The trace of document 01, and its version 2 of document 02, as bytes: what its header and its events are, and in specs/Printed.antt what is printed of it. The
 // crate has no code: `fields`, `headers` and `items` read them.
+#![tactic(auto)]
+
 use rules::{Event, Refusal};
 
 // What the header of a trace opens, or why it is refused.
