@@ -1,5 +1,7 @@
 // The drop after a weight send, on the lent tables. The contract says what becomes of the numbers; DropLaws of `moves` says which lists of document 01 they then
 // show. Functions for this repository's own crates.
+#![tactic(auto)]
+
 ghost use Rattle.std.specs.Prelude.{◌≡◌, ◌+◌, ◌-◌, ◌*◌, ◌≤◌, eqb, length};
 ghost use Rattle.lists.specs.Lines.{whether};
 ghost use Rattle.rules.specs.Numbers.{ceiling, second, most_cost};

@@ -1,5 +1,7 @@
 // The ends of the share tags waiting, by the first and the last row of each guest: within a guest they rise. It reads and changes nothing. Functions for this
 // repository's own crates.
+#![tactic(auto)]
+
 ghost use Rattle.std.specs.Prelude.{◌≡◌, map, ◌-◌, ◌*◌, ◌≤◌, ◌<◌, length};
 ghost use Rattle.lists.specs.Words.{lowest};
 ghost use Rattle.rules.specs.Tables.{Request};
