@@ -1,11 +1,6 @@
 -- Words for tests and lists that every definition uses. Each computes.
-use Rattle.std.specs.Prelude.{Bool, true, false, ◌&&◌, List, [], ◌∷◌, ℕ, zero, suc, min}
-
-infix 5 if◌then◌else◌
--- the first where the test holds, the second where it does not
-abbrev pub if◌then◌else◌ : {A : Type 0} → Bool → A → A → A
-if true then a else b = a
-if false then a else b = b
+use Rattle.std.specs.Prelude.{Bool, true, false, ◌&&◌, List, [], ◌∷◌, ℕ, zero, suc, min, if◌then◌else◌}
+pub use Rattle.std.specs.Prelude.{if◌then◌else◌}
 
 -- every entry passes
 abbrev pub all : {A : Type 0} → (A → Bool) → List A → Bool
