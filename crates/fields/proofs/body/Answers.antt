@@ -1,0 +1,11 @@
+use borrow.Author.Tests.{eq-eqb, ne_eqb}
+use Rattle.trace.specs.Header.{body}
+use Rattle.fields.proofs.body.Goals as goal
+
+pub returns-then-version-eq2 : goal.returns-then-version-eq2
+unfolding body
+returns-then-version-eq2 c = simp (eq-eqb _ _ c.if-version-eq2.true)
+
+pub returns : goal.returns
+unfolding body
+returns c = simp (ne_eqb _ _ c.if-version-eq2.false)
