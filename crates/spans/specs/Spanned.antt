@@ -1,12 +1,12 @@
 -- The ends of the share tags, guest by guest: what is held after some guests, where the first and the last row of each are read. Assumes nothing.
-use Rattle.std.specs.Prelude.{ℕ, zero, suc, ◌+◌, ◌-◌, ◌*◌, ◌≤◌, ◌<◌, min, max, ◌≡◌, refl, Bool, true, false, List, [], ◌∷◌, map, ltb, eqb, length, get_or}
-use Rattle.std.proofs.Common.{sym, ap, ◌∙◌, arith, ltb-true, ltb-false, eqb-true}
+use Rattle.std.specs.Prelude.{ℕ, zero, suc, ◌+◌, ◌-◌, ◌≤◌, ◌<◌, min, max, ◌≡◌, refl, Bool, true, false, List, [], ◌∷◌, map, ltb, eqb, length, get_or}
+use Rattle.std.proofs.Common.{sym, ◌∙◌, arith, ltb-true, ltb-false, eqb-true}
 use Rattle.std.proofs.lemmas.Bool.{eqb-false}
 use Rattle.lists.specs.Words.{lowest}
 use Rattle.lists.specs.WordsLaws.{lowest-of, lowest_under}
 use Rattle.lists.specs.RowsLaws.{length-rows}
 use Rattle.rules.specs.Tables.{Request}
-use Rattle.rules.specs.Chosen.{blank, at}
+use Rattle.rules.specs.Chosen.{blank}
 use Rattle.table.specs.Columns.{most_guests}
 use Rattle.table.specs.View.{request_form, waiting_of}
 use Rattle.walks.specs.Walks.{Owned, Rising}

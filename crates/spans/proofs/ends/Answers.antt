@@ -1,12 +1,12 @@
 -- After some guests the loop holds two share tags between which those of their rows lie.
-use Prim.Native.Nat.{◌+◌, ◌-◌, ◌≤◌, ◌<◌}
-use mathlib.Core.Logic.{⊎_elim}
+use Prim.Native.Nat.{◌+◌}
 use native.Mathlib.Omega.{arith}
 use Rattle.index.specs.Index.{LASTS}
 use Rattle.walks.specs.SurveyLaws.{ends-none}
 use Rattle.walks.specs.Walks.{Owned}
-use Rattle.spans.specs.Spanned.{Spanned, told, spanned_start, spanned_none, spanned_next, spanned_end}
+use Rattle.spans.specs.Spanned.{told, spanned_start, spanned_none, spanned_next, spanned_end}
 use Rattle.spans.proofs.ends.Goals as goal
+use Rattle.spans.proofs.ends.Goals.{then-first-gt0, else-first-gt0}
 
 pub returns-then-count-eq0 : goal.returns-then-count-eq0
 returns-then-count-eq0 c = rw c.if-count-eq0.true (ends-none c.args.waiting.now)
@@ -15,10 +15,10 @@ pub loop-g-init : goal.loop-g-init
 loop-g-init c = let a = c.args in (omega arith, spanned_start a.waiting.now a.count (omega arith))
 
 pub overflow_cast-first : goal.overflow_cast-first
-overflow_cast-first c = omega (arith, c.shared_slice_known-in-loop-g-1.given c.loop-g.g)
+overflow_cast-first c = omega (arith, c.type_inv.index c.loop-g.g)
 
 pub overflow_cast-last : goal.overflow_cast-last
-overflow_cast-last c = omega (arith, c.shared_slice_known-in-loop-g-2-1.given (LASTS + c.loop-g.g))
+overflow_cast-last c = omega (arith, c.type_inv.index (LASTS + c.loop-g.g))
 
 pub share_of-requires : goal.share_of-requires
 share_of-requires c =
@@ -35,11 +35,12 @@ loop-g-preserved c =
     let s = c.loop-g in
     let a = c.args in
     let i = c.requires.indexed in
-    ⊎_elim
-    (λ v. let t = told i s.g (omega arith) v.0.taken in
-    rw (v.5, v.6, v.2.ensures, v.4.ensures, v.1.ensures, v.3.ensures) (omega arith, spanned_next a.waiting.now a.count s.invariant.1 c.requires.owned.1 t.head t.tail))
-    (λ v. rw (v.1, v.2) (omega arith, spanned_none a.waiting.now a.count s.invariant.1 ((i.first s.g (omega arith)).none (omega (arith, v.0.left)))))
-    c.if-first-gt0.branch
+    elim c.if-first-gt0.branch [
+      | then-first-gt0 w ↦
+          let t = told i s.g (omega arith) w.if-first-gt0.true in
+          rw (w.least-is, w.most-is, w.smaller-least.ensures, w.larger-most.ensures, w.share_of.ensures, w.share_of-then-first-gt0.ensures) (omega arith, spanned_next a.waiting.now a.count s.invariant.1 c.requires.owned.1 t.head t.tail)
+      | else-first-gt0 w ↦ rw (w.least-is, w.most-is) (omega arith, spanned_none a.waiting.now a.count s.invariant.1 ((i.first s.g (omega arith)).none (omega (arith, w.if-first-gt0.false))))
+    ]
 
 pub returns : goal.returns
 returns c =
