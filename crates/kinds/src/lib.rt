@@ -1,5 +1,7 @@
 // One kind of tag of one guest: how far apart its tags stand, where a tag may stand, and what the next number is. A kind is told by the column of its setting:
 // RESERVATION, LIMIT or SHARES; its tags and its next numbers stand in the same order. Functions for this repository's own crates.
+#![tactic(auto)]
+
 ghost use Rattle.std.specs.Prelude.{◌≡◌, ◌*◌, ◌≤◌, length};
 ghost use Rattle.lists.specs.Words.{below};
 ghost use Rattle.table.specs.Columns.{SHARES, guest_wide, most_guests};
