@@ -1,4 +1,6 @@
 // The order of the waiting requests of every guest, one kind of tag at a time: the spacing, and the next numbers. Functions for this repository's own crates.
+#![tactic(auto)]
+
 ghost use Rattle.std.specs.Prelude.{◌≡◌, ◌≤◌};
 ghost use Rattle.lists.specs.Words.{below};
 ghost use Rattle.rules.specs.Tables.{owner, mine};
