@@ -1,4 +1,6 @@
 // The sheet of a sale day: the lines of the figures, and how they are handed on to be written. Functions for this repository's own crates.
+#![tactic(auto)]
+
 ghost use Rattle.std.specs.Prelude.{[], ◌∷◌, ◌+◌, ◌*◌, ◌≤◌, length};
 ghost use Rattle.lines.specs.Line.{spaced};
 ghost use Rattle.lines.specs.Put.{Put};
