@@ -1,8 +1,8 @@
 -- Document 02, K14, the counters: "The host side counts, for each guest and array, completions anywhere since its last request to that array, or since the
 -- start (delta), and those of them sent by reservation (rho); both stop at 65,535". They are lent as one list for all arrays, two numbers for each guest at each
 -- array: array by array, and in each guest by guest. Words in quotes are K14's.
-use Rattle.std.specs.Prelude.{ℕ, zero, suc, ◌+◌, ◌*◌, min, Bool, ◌&&◌, List, leb, get_or, set}
-use Rattle.lists.specs.Words.{if◌then◌else◌, below}
+use Rattle.std.specs.Prelude.{ℕ, zero, suc, ◌+◌, ◌*◌, min, Bool, ◌&&◌, List, leb, get_or, set, if◌then◌else◌}
+use Rattle.lists.specs.Words.{below}
 use Rattle.rules.specs.Numbers.{most_delta}
 
 -- "1 to 8 arrays"

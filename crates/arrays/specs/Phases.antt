@@ -1,7 +1,7 @@
 -- Document 02, K14, the phases: "those of them sent by reservation" have to be known when they complete. So a number is kept beside each place of an array's flight table,
 -- which says by which phase the request there was sent. It is taken from the gate's answer. Words in quotes are K14's.
-use Rattle.std.specs.Prelude.{ℕ, suc, Bool, ◌&&◌, ◌||◌, List, [], ◌∷◌, ◌++◌, ltb, leb, eqb, length, get_or}
-use Rattle.lists.specs.Words.{if◌then◌else◌, below}
+use Rattle.std.specs.Prelude.{ℕ, suc, Bool, ◌&&◌, ◌||◌, List, [], ◌∷◌, ◌++◌, ltb, leb, eqb, length, get_or, if◌then◌else◌}
+use Rattle.lists.specs.Words.{below}
 use Rattle.lists.specs.Lines.{whether}
 use Rattle.lists.specs.Tab.{tab}
 use Rattle.rules.specs.Tables.{same}

@@ -1,8 +1,7 @@
 -- Document 02, K14, what the calls at one of several arrays promise: the gate, the answer, the time to wake, and every number of the three lent tables, of the
 -- counters of all arrays and of the phases of this one after the call, as a function of what was handed in. Refusals too. They stand on the gate's own promise.
 -- Words in quotes are K14's.
-use Rattle.std.specs.Prelude.{ℕ, ◌*◌, max, Bool, not, ◌&&◌, ◌||◌, List, [], ◌∷◌, ltb, leb, length, get_or}
-use Rattle.lists.specs.Words.{if◌then◌else◌}
+use Rattle.std.specs.Prelude.{ℕ, ◌*◌, max, Bool, not, ◌&&◌, ◌||◌, List, [], ◌∷◌, ltb, leb, length, get_or, if◌then◌else◌}
 use Rattle.lists.specs.Tab.{remove_at}
 use Rattle.rules.specs.Numbers.{within}
 use Rattle.rules.specs.Sound.{counted, ruled}

@@ -1,7 +1,6 @@
 -- A run of batches, each handed what the last one left, beside a run of calls; and what the whole-call refusals are in plain facts. For every way in which
 -- guests are lent.
-use Rattle.std.specs.Prelude.{ℕ, ◌*◌, ◌<◌, ◌≡◌, Bool, true, ◌&&◌, List, [], ◌∷◌, ◌++◌, length}
-use Rattle.lists.specs.Words.{if◌then◌else◌}
+use Rattle.std.specs.Prelude.{ℕ, ◌*◌, ◌<◌, ◌≡◌, Bool, true, ◌&&◌, List, [], ◌∷◌, ◌++◌, length, if◌then◌else◌}
 use Rattle.rules.specs.Answers.{taken}
 use Rattle.rules.specs.Refused.{Case}
 use Rattle.rules.specs.Refusals.{judged, is_accept}

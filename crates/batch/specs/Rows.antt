@@ -1,6 +1,5 @@
 -- Document 02, K5: events and answers as rows of numbers in lent lists. An event has seven, with K8's cost and K14's delta and rho, an answer five.
-use Rattle.std.specs.Prelude.{ℕ, ◌+◌, ◌*◌, ◌/◌, ◌&&◌, List, [], ◌∷◌, ◌++◌, ltb, eqb, length, get_or, drop}
-use Rattle.lists.specs.Words.{if◌then◌else◌}
+use Rattle.std.specs.Prelude.{ℕ, ◌+◌, ◌*◌, ◌/◌, ◌&&◌, List, [], ◌∷◌, ◌++◌, ltb, eqb, length, get_or, drop, if◌then◌else◌}
 use Rattle.lists.specs.Tab.{tab}
 use Rattle.rules.specs.declared.Event.TheVariants.{Arrival, Completion, Tick}
 use Rattle.rules.specs.declared.Outcome.{Outcome}

@@ -1,7 +1,7 @@
 -- The book of what is under way: which requests were accepted and are not sent yet, and when each was accepted. It is read off the events and
 -- their answers alone.
-use Rattle.std.specs.Prelude.{List, [], ◌∷◌, ◌++◌, ℕ}
-use Rattle.lists.specs.Words.{if◌then◌else◌, without}
+use Rattle.std.specs.Prelude.{List, [], ◌∷◌, ◌++◌, ℕ, if◌then◌else◌}
+use Rattle.lists.specs.Words.{without}
 use Rattle.rules.specs.Tables.{same}
 use Rattle.rules.specs.declared.Flight.{Flight}
 use Rattle.rules.specs.declared.Event.{Event}

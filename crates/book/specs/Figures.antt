@@ -1,8 +1,7 @@
 -- The figures of a guest on the sheet, and what an event and a send do to them. Document 02, K1: "accepted arrivals, completions, sends by
 -- reservation, sends by weight, reservation sends whose limit tag still lay ahead, the longest and the summed wait from arrival to send in
 -- nanoseconds (0 where nothing was sent)".
-use Rattle.std.specs.Prelude.{Bool, List, map, ℕ, ◌+◌, max, get_or, set}
-use Rattle.lists.specs.Words.{if◌then◌else◌}
+use Rattle.std.specs.Prelude.{Bool, List, map, ℕ, ◌+◌, max, get_or, set, if◌then◌else◌}
 use Rattle.rules.specs.declared.Guest.{Guest}
 use Rattle.rules.specs.declared.Phase.{Phase}
 use Rattle.rules.specs.declared.Phase.TheVariants.{Reservation, Weight}

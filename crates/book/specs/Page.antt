@@ -1,7 +1,6 @@
 -- A page: the table, the book and the figures of every guest, and how an event turns it. What is sent, the answer says; what the limit tag of
 -- the request was, the table as the choice found it.
-use Rattle.std.specs.Prelude.{Bool, ◌&&◌, List, [], ◌∷◌, ℕ, ◌-◌, ltb}
-use Rattle.lists.specs.Words.{if◌then◌else◌}
+use Rattle.std.specs.Prelude.{Bool, ◌&&◌, List, [], ◌∷◌, ℕ, ◌-◌, ltb, if◌then◌else◌}
 use Rattle.rules.specs.Tables.{Request, Table, limited, owner, name, same}
 use Rattle.rules.specs.Events.{enter}
 use Rattle.rules.specs.Run.{step}

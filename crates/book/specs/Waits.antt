@@ -1,7 +1,6 @@
 -- The waits of a guest in a run, one by one. Document 02, K1: "the longest and the summed wait from arrival to send in nanoseconds (0 where nothing
 -- was sent)".
-use Rattle.std.specs.Prelude.{List, [], ◌∷◌, ◌++◌, ℕ, ◌+◌, max, eqb}
-use Rattle.lists.specs.Words.{if◌then◌else◌}
+use Rattle.std.specs.Prelude.{List, [], ◌∷◌, ◌++◌, ℕ, ◌+◌, max, eqb, if◌then◌else◌}
 use Rattle.rules.specs.Tables.{Table}
 use Rattle.rules.specs.Events.{enter}
 use Rattle.rules.specs.Run.{step}

@@ -1,6 +1,5 @@
 -- Document 02, K13: what a reading of the board's counter does to the clock, and what is told. Times are nanoseconds. Words in quotes are K13's.
-use Rattle.std.specs.Prelude.{ℕ, ◌+◌, ◌-◌, ◌*◌, ◌%◌, Bool, ◌==◌, nat_lt}
-use Rattle.lists.specs.Words.{if◌then◌else◌}
+use Rattle.std.specs.Prelude.{ℕ, ◌+◌, ◌-◌, ◌*◌, ◌%◌, Bool, ◌==◌, nat_lt, if◌then◌else◌}
 use Rattle.rules.specs.Numbers.{ceiling}
 use Rattle.rules.specs.Answers.{number_of}
 use Rattle.rules.specs.declared.Refusal.TheVariants.{TimeAboveCeiling}

@@ -1,6 +1,5 @@
 -- Document 02, K13: what the theorems say of a clock, in facts and over runs of readings. Words in quotes are K13's.
-use Rattle.std.specs.Prelude.{◌≡◌, ℕ, ◌+◌, ◌-◌, ◌*◌, ◌%◌, ◌<◌, ◌≤◌, List, [], ◌∷◌, map, ◌≢◌}
-use Rattle.lists.specs.Words.{if◌then◌else◌}
+use Rattle.std.specs.Prelude.{◌≡◌, ℕ, ◌+◌, ◌-◌, ◌*◌, ◌%◌, ◌<◌, ◌≤◌, List, [], ◌∷◌, map, ◌≢◌, if◌then◌else◌}
 use Rattle.rules.specs.Numbers.{ceiling}
 use Rattle.rules.specs.Refused.{Case}
 use Rattle.clock.specs.declared.Clock.{Clock}

@@ -1,6 +1,6 @@
 -- One kind of tag of every guest, by the numbers of the tables. A kind is told by the column of its setting: RESERVATION, LIMIT or SHARES.
-use Rattle.std.specs.Prelude.{ℕ, zero, suc, ◌+◌, ◌*◌, ◌≤◌, ◌<◌, ◌≡◌, Bool, true, List, leb, eqb, length, get_or}
-use Rattle.lists.specs.Words.{if◌then◌else◌, all}
+use Rattle.std.specs.Prelude.{ℕ, zero, suc, ◌+◌, ◌*◌, ◌≤◌, ◌<◌, ◌≡◌, Bool, true, List, leb, eqb, length, get_or, if◌then◌else◌}
+use Rattle.lists.specs.Words.{all}
 use Rattle.rules.specs.Numbers.{down, up, idle_bound}
 use Rattle.rules.specs.Tables.{Request, reserved, limited, rspacing, lspacing, sspacing, owner, mine, name}
 use Rattle.rules.specs.declared.Guest.{Guest}

@@ -1,6 +1,5 @@
 -- A run of calls, each handed what the last one left, for every way in which guests are lent: what proofs/Runs.antt, Order.antt and Demand3.antt speak of.
-use Rattle.std.specs.Prelude.{ℕ, suc, ◌-◌, Bool, true, not, ◌&&◌, List, [], ◌∷◌, ◌++◌, ltb, take, drop}
-use Rattle.lists.specs.Words.{if◌then◌else◌}
+use Rattle.std.specs.Prelude.{ℕ, suc, ◌-◌, Bool, true, not, ◌&&◌, List, [], ◌∷◌, ◌++◌, ltb, take, drop, if◌then◌else◌}
 use Rattle.lists.specs.Lines.{line_at}
 use Rattle.rules.specs.Tables.{Request, Table}
 pub use Rattle.rules.specs.Answers.{taken}

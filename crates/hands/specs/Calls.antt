@@ -1,6 +1,5 @@
 -- A run of calls through C, each handed what the last one left: the gate's seven numbers and the three tables, as a host holds them.
-use Rattle.std.specs.Prelude.{ℕ, ◌≡◌, Bool, not, ◌&&◌, List, [], ◌∷◌, eqb}
-use Rattle.lists.specs.Words.{if◌then◌else◌}
+use Rattle.std.specs.Prelude.{ℕ, ◌≡◌, Bool, not, ◌&&◌, List, [], ◌∷◌, eqb, if◌then◌else◌}
 use Rattle.rules.specs.Tables.{Table}
 use Rattle.rules.specs.declared.Event.{Event}
 use Rattle.gate.specs.Promise.{numbers, called}

@@ -1,7 +1,6 @@
 -- The history of a house, read off its calls and their answers alone, and what document 02, K14, says is counted in it: "for each guest and array, completions
 -- anywhere since its last request to that array, or since the start (delta), and those of them sent by reservation (rho)". Words in quotes are K14's.
-use Rattle.std.specs.Prelude.{ℕ, suc, ◌<◌, min, ◌≡◌, Bool, false, ◌&&◌, List, [], ◌∷◌, eqb, length}
-use Rattle.lists.specs.Words.{if◌then◌else◌}
+use Rattle.std.specs.Prelude.{ℕ, suc, ◌<◌, min, ◌≡◌, Bool, false, ◌&&◌, List, [], ◌∷◌, eqb, length, if◌then◌else◌}
 use Rattle.rules.specs.Numbers.{most_delta}
 use Rattle.rules.specs.Answers.{taken}
 use Rattle.rules.specs.Tables.{same}

@@ -1,6 +1,5 @@
 -- A house of several arrays, and a run of calls at any of them, each handed what the last ones left: what proofs/Counted.antt and proofs/Demand3.antt speak of.
-use Rattle.std.specs.Prelude.{ℕ, Bool, true, ◌&&◌, List, [], ◌∷◌, ltb, eqb, length, get_or, set}
-use Rattle.lists.specs.Words.{if◌then◌else◌}
+use Rattle.std.specs.Prelude.{ℕ, Bool, true, ◌&&◌, List, [], ◌∷◌, ltb, eqb, length, get_or, set, if◌then◌else◌}
 use Rattle.rules.specs.Answers.{taken}
 use Rattle.rules.specs.declared.Answer.{Answer}
 use Rattle.rules.specs.declared.Event.{Event}

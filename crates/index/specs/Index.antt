@@ -1,7 +1,6 @@
 -- The index over the waiting rows: for each guest where its first and its last row stand, and for each row where the next one of its guest stands. It says nothing
 -- that the rows do not say, and of the rows only the guests matter. A place k is written as k + 1; 0 says that there is none.
-use Rattle.std.specs.Prelude.{ℕ, zero, suc, ◌+◌, ◌-◌, ◌*◌, ◌≤◌, ◌<◌, ◌≡◌, List, ltb, length, get_or}
-use Rattle.lists.specs.Words.{if◌then◌else◌}
+use Rattle.std.specs.Prelude.{ℕ, zero, suc, ◌+◌, ◌-◌, ◌*◌, ◌≤◌, ◌<◌, ◌≡◌, List, ltb, length, get_or, if◌then◌else◌}
 use Rattle.lists.specs.Parts.{closed}
 use Rattle.rules.specs.declared.Gate.{Gate}
 use Rattle.rules.specs.declared.Answer.{Answer}

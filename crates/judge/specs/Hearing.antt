@@ -1,6 +1,5 @@
 -- What the functions of crates/ties and crates/hears tell each other.
-use Rattle.std.specs.Prelude.{ℕ, ◌≤◌, ◌<◌, ◌≡◌, Bool, true, List, eqb, length}
-use Rattle.lists.specs.Words.{if◌then◌else◌}
+use Rattle.std.specs.Prelude.{ℕ, ◌≤◌, ◌<◌, ◌≡◌, Bool, true, List, eqb, length, if◌then◌else◌}
 use Rattle.rules.specs.Numbers.{ceiling}
 use Rattle.rules.specs.Tables.{Table}
 use Rattle.rules.specs.Choice.{Result}

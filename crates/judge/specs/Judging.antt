@@ -1,8 +1,8 @@
 -- Document 02, K10, as a definition that computes: what the judge answers to a trace and to another gate's lines. No line is taken apart: the lines either begin
 -- with the printed line of something that may stand, or they are wrong. A printed line ends with byte 10 and has no other, so no other line begins with it.
 -- That this is what Acceptable.antt says in plain facts, proofs/Exactly.antt shows.
-use Rattle.std.specs.Prelude.{ℕ, ◌+◌, Bool, not, ◌&&◌, List, [], ◌∷◌, eqb, length, take, drop}
-use Rattle.lists.specs.Words.{if◌then◌else◌, below}
+use Rattle.std.specs.Prelude.{ℕ, ◌+◌, Bool, not, ◌&&◌, List, [], ◌∷◌, eqb, length, take, drop, if◌then◌else◌}
+use Rattle.lists.specs.Words.{below}
 use Rattle.rules.specs.Tables.{Request, Table, of}
 use Rattle.rules.specs.Choice.{Result, Pick, nobody, picked, least, due, open?, room}
 use Rattle.rules.specs.Chosen.{at, unsent, sent_by_reservation_at, sent_by_weight_at}

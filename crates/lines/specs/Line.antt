@@ -1,8 +1,7 @@
 -- Document 01, "The trace": "A bad header prints the one line `trace refused` and the number. Otherwise the header line `event answer`, then
 -- a line for each event: its number from 1, then" the answer. "Fields are parted by one space, numbers are decimal without leading zeros,
 -- and every line ends with byte 10."
-use Rattle.std.specs.Prelude.{ℕ, zero, suc, ◌+◌, ◌/◌, ◌%◌, List, [], ◌∷◌, ◌++◌, ltb}
-use Rattle.lists.specs.Words.{if◌then◌else◌}
+use Rattle.std.specs.Prelude.{ℕ, zero, suc, ◌+◌, ◌/◌, ◌%◌, List, [], ◌∷◌, ◌++◌, ltb, if◌then◌else◌}
 use Rattle.rules.specs.Answers.{number_of, shown}
 use Rattle.rules.specs.declared.Refusal.{Refusal}
 use Rattle.rules.specs.declared.Answer.{Answer}

@@ -1,10 +1,10 @@
 -- Laws of the words of Words.antt. Assumes nothing.
-use Rattle.std.specs.Prelude.{◌≡◌, refl, Bool, true, false, not, ◌&&◌, ◌||◌, ℕ, zero, suc, min, ◌≤◌, ◌<◌, ◌+◌, ◌⊎◌, leb, eqb, length, get_or}
+use Rattle.std.specs.Prelude.{◌≡◌, refl, Bool, true, false, not, ◌&&◌, ◌||◌, ℕ, zero, suc, min, ◌≤◌, ◌<◌, ◌+◌, ◌⊎◌, leb, eqb, length, get_or, if◌then◌else◌}
 use Rattle.std.proofs.Common.{sym, ap, ap₂, ◌∙◌, true≢false, inl, inr, arith, le-leb, leb-true, leb-false, eqb-true, eq-eqb, ne_eqb}
 use Rattle.std.proofs.lemmas.Bool.{false≢true, eqb-false}
 use Rattle.std.proofs.Math.Bool.{and-false, and-true, and_assoc}
 use mathlib.Core.List.{List, [], ◌∷◌, ◌++◌, map, Memᴰ}
-use Rattle.lists.specs.Words.{if◌then◌else◌, all, filter, without, each, below, lowest, empty}
+use Rattle.lists.specs.Words.{all, filter, without, each, below, lowest, empty}
 use Rattle.lists.specs.Tab.{remove_at}
 
 -- TWO TESTS

@@ -1,10 +1,9 @@
 // What the walk of the choice makes of one waiting row: its tags of both phases, held against the bounds so far. Functions for this repository's own crates.
 #![tactic(auto)]
 
-ghost use Rattle.std.specs.Prelude.{◌≡◌, ℕ, ◌+◌, ◌*◌, ◌<◌, ◌≤◌, ◌&&◌, ltb, length, nat_le, nat_lt, slice_index};
+ghost use Rattle.std.specs.Prelude.{◌≡◌, ℕ, ◌+◌, ◌*◌, ◌<◌, ◌≤◌, ◌&&◌, ltb, length, nat_le, nat_lt, slice_index, if◌then◌else◌};
 ghost use Rattle.rules.specs.Numbers.{ceiling};
 ghost use Rattle.table.specs.Columns.{RESERVATION, GUEST, guest_wide, RTAG, LTAG, STAG, waiting_wide, most_guests, guest_at};
-ghost use Rattle.lists.specs.Words.{if◌then◌else◌};
 ghost use Rattle.walks.specs.Walks.{Owned, Counts};
 ghost use Rattle.looks.specs.InLine.{Passed};
 

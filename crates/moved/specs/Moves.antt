@@ -1,9 +1,9 @@
 -- Document 02, K9, the moves: "Both moves take a lent trace and lent room for the result, work on well_formed traces only, and write nothing when refused;
 -- room past the result is unchanged. Refusals: header faults, a trace of the wrong version being 12, then the first event with 14 or 15; 19, a version 2
 -- trace that has another rule, credit or cost cannot go back; 21, room too short, last". Words in quotes are K9's.
-use Rattle.std.specs.Prelude.{ℕ, ◌+◌, ◌%◌, Bool, true, false, not, ◌&&◌, List, [], ◌∷◌, ◌++◌, eqb, ltb, length}
+use Rattle.std.specs.Prelude.{ℕ, ◌+◌, ◌%◌, Bool, true, false, not, ◌&&◌, List, [], ◌∷◌, ◌++◌, eqb, ltb, length, if◌then◌else◌}
 use Rattle.std.proofs.lemmas.List.Edits.{sets}
-use Rattle.lists.specs.Words.{if◌then◌else◌, all}
+use Rattle.lists.specs.Words.{all}
 use Rattle.rules.specs.Answers.{number_of}
 use Rattle.rules.specs.declared.Settings.{Settings}
 use Rattle.rules.specs.declared.Event.TheVariants.{Arrival, Completion, Tick}

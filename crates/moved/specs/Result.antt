@@ -1,6 +1,5 @@
 -- Document 02, K9: "Provide the move from version 1 to 2 (rule 1, credit 0, cost 1) and back." What a trace becomes: its bytes in the other version.
-use Rattle.std.specs.Prelude.{ℕ, zero, suc, ◌+◌, List, [], ◌∷◌, ◌++◌, take, drop}
-use Rattle.lists.specs.Words.{if◌then◌else◌}
+use Rattle.std.specs.Prelude.{ℕ, zero, suc, ◌+◌, List, [], ◌∷◌, ◌++◌, take, drop, if◌then◌else◌}
 use Rattle.trace.specs.Little.{byte_at}
 use Rattle.trace.specs.Header.{mark, is_two, body, version_of, guests_of}
 use Rattle.trace.specs.Answers.{event_bytes}

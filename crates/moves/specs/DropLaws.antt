@@ -1,9 +1,8 @@
 -- What a drop after a weight send shows: the guests and the waiting requests of the definition `dropped`.
 -- Assumes nothing.
-use Rattle.std.specs.Prelude.{ℕ, zero, suc, ◌+◌, ◌-◌, ◌*◌, ◌≤◌, ◌<◌, ◌≡◌, refl, Bool, true, false, List, [], ◌∷◌, ◌++◌, map, eqb, length, set}
+use Rattle.std.specs.Prelude.{ℕ, zero, suc, ◌+◌, ◌-◌, ◌*◌, ◌≤◌, ◌<◌, ◌≡◌, refl, Bool, true, false, List, [], ◌∷◌, ◌++◌, map, eqb, length, set, if◌then◌else◌}
 use Rattle.std.proofs.Common.{sym, ◌∙◌, append-nil, arith, lit<}
 use Rattle.std.proofs.Math.Path.{ap}
-use Rattle.lists.specs.Words.{if◌then◌else◌}
 use Rattle.lists.specs.WordsLaws.{filter-append}
 use Rattle.lists.specs.Lines.{whether, line_at}
 use Rattle.lists.specs.Rows.{over_rows, Unused}

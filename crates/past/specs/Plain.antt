@@ -1,8 +1,8 @@
 -- The gate without costs, as it was before document 02, K8, over the same tables, events and answers: what reads a spacing is said once more with the
 -- plain spacings of document 01, and no cost, delta or rho is read or judged; all else is shared with the gate of a single array (Single.antt) or of Run.antt.
 -- Words in quotes are document 01's. It is there for one theorem: where every cost, delta and rho is 1, the gate of Run.antt is this one.
-use Rattle.std.specs.Prelude.{Bool, true, false, not, ◌&&◌, List, [], ◌∷◌, ◌++◌, map, ℕ, ◌+◌, leb, eqb, length, set}
-use Rattle.lists.specs.Words.{if◌then◌else◌, all, below}
+use Rattle.std.specs.Prelude.{Bool, true, false, not, ◌&&◌, List, [], ◌∷◌, ◌++◌, map, ℕ, ◌+◌, leb, eqb, length, set, if◌then◌else◌}
+use Rattle.lists.specs.Words.{all, below}
 use Rattle.rules.specs.Numbers.{ceiling, second}
 use Rattle.rules.specs.Tables.{Request, Table, reserved, limited, rplain, lplain, splain, owner, settings_of, of, mine, idle, lacks, names}
 use Rattle.rules.specs.declared.Guest.{Guest}

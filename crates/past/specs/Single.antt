@@ -1,8 +1,8 @@
 -- The gate of a single array, as it was before document 02, K14, over the same tables, events and answers: what K14 changed is said once more by document 01
 -- and K8, and delta and rho are neither read nor judged; all else is shared. Words in quotes are document 01's. It is there for the theorems on runs: where
 -- every delta and rho is 1, the gate of Run.antt is this one, and what holds of tables that are sound by the old rule.
-use Rattle.std.specs.Prelude.{Bool, true, false, not, ◌&&◌, List, [], ◌∷◌, map, ℕ, ◌-◌, leb, eqb, length, set}
-use Rattle.lists.specs.Words.{if◌then◌else◌, all, below}
+use Rattle.std.specs.Prelude.{Bool, true, false, not, ◌&&◌, List, [], ◌∷◌, map, ℕ, ◌-◌, leb, eqb, length, set, if◌then◌else◌}
+use Rattle.lists.specs.Words.{all, below}
 use Rattle.rules.specs.Tables.{Request, Table, reserved, limited, rspacing, lspacing, sspacing, owner, of, mine, idle, lacks, names}
 use Rattle.rules.specs.declared.Guest.{Guest}
 use Rattle.rules.specs.Sound.{ranges, ruled, roomy, timely, known, distinct, lawful, fair, priced, kept}

@@ -1,6 +1,5 @@
 -- Document 01, "The choice": "If in flight equals depth, nothing is sent. Otherwise at most one", by reservation, else by weight, else nothing.
-use Rattle.std.specs.Prelude.{Bool, true, not, ◌&&◌, ◌||◌, List, [], ◌∷◌, ◌++◌, map, ℕ, ◌+◌, ◌-◌, ltb, leb, eqb, length, set}
-use Rattle.lists.specs.Words.{if◌then◌else◌}
+use Rattle.std.specs.Prelude.{Bool, true, not, ◌&&◌, ◌||◌, List, [], ◌∷◌, ◌++◌, map, ℕ, ◌+◌, ◌-◌, ltb, leb, eqb, length, set, if◌then◌else◌}
 use Rattle.rules.specs.Tables.{Settings, Guest, Request, Table, reserved, limited, rspacing, owner, settings_of, of, mine, name}
 use Rattle.rules.specs.declared.Phase.TheVariants.{Reservation, Weight}
 use Rattle.rules.specs.declared.Answer.{Answer}

@@ -1,6 +1,6 @@
 -- Document 01, "Arrival at time t", with completion and tick: what an event does before the choice is made.
-use Rattle.std.specs.Prelude.{Bool, true, false, [], ◌∷◌, ◌++◌, map, ℕ, ◌+◌, ◌-◌, ◌*◌, min, set}
-use Rattle.lists.specs.Words.{if◌then◌else◌, each, lowest, without}
+use Rattle.std.specs.Prelude.{Bool, true, false, [], ◌∷◌, ◌++◌, map, ℕ, ◌+◌, ◌-◌, ◌*◌, min, set, if◌then◌else◌}
+use Rattle.lists.specs.Words.{each, lowest, without}
 use Rattle.rules.specs.Numbers.{down, tag_at, raised_by}
 use Rattle.rules.specs.Tables.{Settings, Guest, Request, Flight, Table, reserved, limited, rplain, lplain, splain, rspacing, lspacing, sspacing, owner, idle, same}
 -- the request that an arrival brings: its guest, its id, by document 02, K8, its cost: "An arrival now carries a cost from 1 to 64", and by K14 delta and rho:

@@ -1,6 +1,5 @@
 -- What comes, waits and leaves of one guest, to say that "Requests of one guest always leave in order of acceptance".
-use Rattle.std.specs.Prelude.{List, [], ◌∷◌, ◌++◌, map, ℕ, eqb}
-use Rattle.lists.specs.Words.{if◌then◌else◌}
+use Rattle.std.specs.Prelude.{List, [], ◌∷◌, ◌++◌, map, ℕ, eqb, if◌then◌else◌}
 use Rattle.rules.specs.Tables.{Request, Table, mine}
 use Rattle.rules.specs.Events.{Event, Arrival, Completion, Tick}
 use Rattle.rules.specs.Refusals.{accepted}

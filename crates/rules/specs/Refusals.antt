@@ -1,6 +1,6 @@
 -- Document 01, "Refusal numbers": each event's conditions with their numbers, in the order in which they are judged.
-use Rattle.std.specs.Prelude.{Bool, true, false, not, ◌&&◌, List, [], ◌∷◌, ℕ, ltb, leb, eqb, length}
-use Rattle.lists.specs.Words.{if◌then◌else◌, all}
+use Rattle.std.specs.Prelude.{Bool, true, false, not, ◌&&◌, List, [], ◌∷◌, ℕ, ltb, leb, eqb, length, if◌then◌else◌}
+use Rattle.lists.specs.Words.{all}
 use Rattle.rules.specs.Numbers.{ceiling}
 use Rattle.rules.specs.Tables.{Settings, Request, Table, idle, lacks, names}
 use Rattle.rules.specs.Sound.{counted, settled, ruled, lawful, fair, spread, sound}

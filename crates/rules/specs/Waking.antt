@@ -1,7 +1,7 @@
 -- Document 02, K2: "With each accepted event we want the earliest time, now or later, at which a tick alone would send something, or a plain none
 -- when no place is free or nothing waits." Words in quotes are K2's. What it is in plain facts is in Woken.antt.
-use Rattle.std.specs.Prelude.{not, ◌&&◌, List, [], ◌∷◌, map, ℕ, max, min, eqb}
-use Rattle.lists.specs.Words.{if◌then◌else◌, empty, lowest}
+use Rattle.std.specs.Prelude.{not, ◌&&◌, List, [], ◌∷◌, map, ℕ, max, min, eqb, if◌then◌else◌}
+use Rattle.lists.specs.Words.{empty, lowest}
 use Rattle.rules.specs.Tables.{Settings, Guest, Request, Table, reserved, limited, settings_of}
 use Rattle.rules.specs.Choice.{Result, room}
 use Rattle.rules.specs.Events.{Event}

@@ -1,8 +1,7 @@
 -- Document 02, K12: "keep the good events and write them as a trace of the same version, with a list: event number, and why it was dropped (kind or spare part,
 -- time above the ceiling, time behind the last kept, time more than 3,600 seconds ahead of the last kept, cut short), the first reason that fits; a cut event has
 -- only that one. The first kept event is free of the last two time tests." What becomes of each event of a trace. Words in quotes are K12's.
-use Rattle.std.specs.Prelude.{ℕ, zero, suc, ◌+◌, ◌*◌, List, ltb, length, drop}
-use Rattle.lists.specs.Words.{if◌then◌else◌}
+use Rattle.std.specs.Prelude.{ℕ, zero, suc, ◌+◌, ◌*◌, List, ltb, length, drop, if◌then◌else◌}
 use Rattle.rules.specs.Numbers.{ceiling}
 use Rattle.rules.specs.Events.{moment}
 use Rattle.trace.specs.Event.{event_of}

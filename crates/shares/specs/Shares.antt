@@ -1,6 +1,5 @@
 -- The settling of the shares, by the numbers: every waiting share tag moves, and the next share number of every guest with something waiting.
-use Rattle.std.specs.Prelude.{ℕ, ◌+◌, ◌-◌, ◌*◌, ◌≤◌, ◌<◌, ◌≡◌, Bool, false, List, get_or}
-use Rattle.lists.specs.Words.{if◌then◌else◌}
+use Rattle.std.specs.Prelude.{ℕ, ◌+◌, ◌-◌, ◌*◌, ◌≤◌, ◌<◌, ◌≡◌, Bool, false, List, get_or, if◌then◌else◌}
 use Rattle.lists.specs.Stores.{stores}
 use Rattle.table.specs.Columns.{SNEXT, guest_wide, STAG, waiting_wide, most_guests, guest_at}
 use Rattle.walks.specs.Survey.{idle_in, tag_of}

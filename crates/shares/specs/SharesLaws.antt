@@ -1,9 +1,9 @@
 -- The settling of the shares, by the numbers, is that of document 01. Assumes nothing.
-use Rattle.std.specs.Prelude.{ℕ, ◌+◌, ◌-◌, ◌*◌, ◌≤◌, ◌<◌, ◌≡◌, refl, Bool, true, false, List, map, eqb, length, get_or, set, replicate}
+use Rattle.std.specs.Prelude.{ℕ, ◌+◌, ◌-◌, ◌*◌, ◌≤◌, ◌<◌, ◌≡◌, refl, Bool, true, false, List, map, eqb, length, get_or, set, replicate, if◌then◌else◌}
 use Rattle.std.proofs.Common.{sym, ap, ◌∙◌, arith, lit<, get_or-set_same, get_or-set_other, eqb-true}
 use Rattle.std.proofs.lemmas.List.{get_or-replicate}
 use Rattle.std.proofs.lemmas.Bool.{eqb-false}
-use Rattle.lists.specs.Words.{if◌then◌else◌, each}
+use Rattle.lists.specs.Words.{each}
 use Rattle.lists.specs.Stores.{stores_other, stores-next, stores_same}
 use Rattle.lists.specs.Lines.{line_at}
 use Rattle.lists.specs.Rows.{over_rows, Unused}

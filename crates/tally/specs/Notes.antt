@@ -1,6 +1,5 @@
 -- What the functions of src/notes.rt and src/figures.rt do to the lent numbers.
-use Rattle.std.specs.Prelude.{ℕ, suc, ◌+◌, ◌*◌, ◌/◌, ◌%◌, ◌^◌, max, Bool, List, [], ◌∷◌, map, slice_index, slice_set}
-use Rattle.lists.specs.Words.{if◌then◌else◌}
+use Rattle.std.specs.Prelude.{ℕ, suc, ◌+◌, ◌*◌, ◌/◌, ◌%◌, ◌^◌, max, Bool, List, [], ◌∷◌, map, slice_index, slice_set, if◌then◌else◌}
 use Rattle.lists.specs.Stores.{stores}
 use Rattle.lists.specs.Parts.{shut}
 use Rattle.rules.specs.Tables.{same}

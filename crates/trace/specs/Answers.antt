@@ -1,6 +1,5 @@
 -- What the lines of a trace with a good header say: its events, by the bytes they stand in, and an answer for each.
-use Rattle.std.specs.Prelude.{ℕ, ◌*◌, false, List, [], ◌∷◌, ◌++◌, get_or, drop}
-use Rattle.lists.specs.Words.{if◌then◌else◌}
+use Rattle.std.specs.Prelude.{ℕ, ◌*◌, false, List, [], ◌∷◌, ◌++◌, get_or, drop, if◌then◌else◌}
 use Rattle.rules.specs.Tables.{Table}
 use Rattle.rules.specs.Answers.{taken}
 use Rattle.rules.specs.declared.Event.{Event}

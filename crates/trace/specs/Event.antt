@@ -1,8 +1,7 @@
 -- Document 01, "The trace": "Per event 14 bytes: kind (0 arrival, 1 completion, 2 tick), guest (8 bits), id (32), time (64)." Refusal 14:
 -- "event kind above 2, or a tick with non-zero guest or id". Document 02, K9: in version 2 "the first byte of an event holds the kind in its low two bits
 -- and the cost less one in the upper six; completions and ticks have zeros there", "14 also for a non-zero upper part or kind 3".
-use Rattle.std.specs.Prelude.{ℕ, zero, suc, ◌+◌, ◌*◌, ◌/◌, ◌%◌, ◌&&◌, List, [], ◌∷◌, eqb, length, drop}
-use Rattle.lists.specs.Words.{if◌then◌else◌}
+use Rattle.std.specs.Prelude.{ℕ, zero, suc, ◌+◌, ◌*◌, ◌/◌, ◌%◌, ◌&&◌, List, [], ◌∷◌, eqb, length, drop, if◌then◌else◌}
 use Rattle.rules.specs.Answers.{number_of}
 use Rattle.rules.specs.declared.Event.TheVariants.{Arrival, Completion, Tick}
 use Rattle.rules.specs.declared.Refusal.TheVariants.{BadEvent}

@@ -2,8 +2,8 @@
 -- reservation, limit, shares, 32 bits each." "Header order: 9 bytes present (13), 11, 12, counts (1), guest records present (13), guest
 -- settings (1)." Document 02, K9: "Both versions must be read. In version 2 the rule is one byte after the capacity (absent: 13, right after 12; judged
 -- with the counts), each guest record ends with the credit in 16 bits".
-use Rattle.std.specs.Prelude.{ℕ, ◌+◌, ◌*◌, Bool, true, false, not, ◌&&◌, List, [], ◌∷◌, eqb, ltb, length, take}
-use Rattle.lists.specs.Words.{if◌then◌else◌, all}
+use Rattle.std.specs.Prelude.{ℕ, ◌+◌, ◌*◌, Bool, true, false, not, ◌&&◌, List, [], ◌∷◌, eqb, ltb, length, take, if◌then◌else◌}
+use Rattle.lists.specs.Words.{all}
 use Rattle.lists.specs.Tab.{tab}
 use Rattle.rules.specs.declared.Settings.{Settings}
 use Rattle.rules.specs.Numbers.{within}

@@ -1,6 +1,5 @@
 -- A trace that comes in reads: "The program reads standard input through a buffer of 4,096 bytes." What is printed as they come.
-use Rattle.std.specs.Prelude.{ℕ, List, [], ◌∷◌, ◌++◌, leb, length}
-use Rattle.lists.specs.Words.{if◌then◌else◌}
+use Rattle.std.specs.Prelude.{ℕ, List, [], ◌∷◌, ◌++◌, leb, length, if◌then◌else◌}
 use Rattle.trace.specs.Header.{header_of}
 use Rattle.lines.specs.Line.{refusal_line, title_line}
 use Rattle.trace.specs.Printed.{Place, lines, left, finished, begun}

@@ -1,7 +1,7 @@
 -- What demand 3 speaks of: who stands before a request by reservation tag, and the accepted events that find a place free; what the two rules for
 -- limits share of it, and what rule 1 says. Words in quotes are demand 3's.
-use Rattle.std.specs.Prelude.{◌≡◌, Bool, ◌&&◌, List, [], ◌∷◌, ◌++◌, map, ℕ, ◌<◌, ltb, leb, length, get_or}
-use Rattle.lists.specs.Words.{if◌then◌else◌, filter}
+use Rattle.std.specs.Prelude.{◌≡◌, Bool, ◌&&◌, List, [], ◌∷◌, ◌++◌, map, ℕ, ◌<◌, ltb, leb, length, get_or, if◌then◌else◌}
+use Rattle.lists.specs.Words.{filter}
 use Rattle.rules.specs.Tables.{Request, Table, reserved, settings_of, name}
 use Rattle.rules.specs.declared.Flight.{Flight}
 use Rattle.rules.specs.Choice.{due_at, room}

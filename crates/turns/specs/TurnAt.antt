@@ -1,7 +1,6 @@
 -- Demand 3 by places: which places stand before a place by reservation tag, how many they are, and the answers that send them in their turn, under
 -- each of the rules for limits. Places are those of the waiting requests, counted from 0 in order of acceptance. Words in quotes are demand 3's.
-use Rattle.std.specs.Prelude.{◌≡◌, Bool, true, ◌&&◌, ◌||◌, List, ℕ, zero, suc, ◌≤◌, ◌<◌, ltb, eqb, length, get_or}
-use Rattle.lists.specs.Words.{if◌then◌else◌}
+use Rattle.std.specs.Prelude.{◌≡◌, Bool, true, ◌&&◌, ◌||◌, List, ℕ, zero, suc, ◌≤◌, ◌<◌, ltb, eqb, length, get_or, if◌then◌else◌}
 use Rattle.rules.specs.Tables.{Table}
 use Rattle.rules.specs.Chosen.{at, Open}
 use Rattle.turns.specs.Turn.{tagged, sent_by_reservation}

@@ -1,7 +1,7 @@
 -- The walk for the time to wake: what it holds after some rows, where only the first row of each guest is looked at. Assumes nothing.
-use Rattle.std.specs.Prelude.{ℕ, ◌+◌, ◌-◌, ◌*◌, ◌≤◌, ◌<◌, max, min, ◌≡◌, refl, Bool, true, false, List, map, ◌⊎◌, ltb, eqb, get_or, set, replicate}
+use Rattle.std.specs.Prelude.{ℕ, ◌+◌, ◌-◌, ◌*◌, ◌≤◌, ◌<◌, max, min, ◌≡◌, refl, Bool, true, false, List, map, ◌⊎◌, ltb, eqb, get_or, set, replicate, if◌then◌else◌}
 use Rattle.std.proofs.Common.{sym, ap, ◌∙◌, inl, inr, arith, lt-ltb, le-ltb, eq-eqb, ne_eqb}
-use Rattle.lists.specs.Words.{if◌then◌else◌, lowest}
+use Rattle.lists.specs.Words.{lowest}
 use Rattle.lists.specs.WordsLaws.{lowest-of, lowest_under}
 use Rattle.lists.specs.RowsLaws.{row-at, length-rows}
 use Rattle.rules.specs.Numbers.{ceiling}

@@ -1,6 +1,6 @@
 -- What each answer about a guest's own rows says of the waiting requests. Assumes nothing.
-use Rattle.std.specs.Prelude.{◌≡◌, refl, Bool, true, false, List, map}
-use Rattle.lists.specs.Words.{if◌then◌else◌, empty}
+use Rattle.std.specs.Prelude.{◌≡◌, refl, Bool, true, false, List, map, if◌then◌else◌}
+use Rattle.lists.specs.Words.{empty}
 use Rattle.rules.specs.Tables.{Request, mine, name, lacks}
 use Rattle.rules.specs.declared.Flight.{Flight}
 use Rattle.walks.specs.Survey.{own_of}

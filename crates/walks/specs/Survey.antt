@@ -1,6 +1,6 @@
 -- What an arrival has to know of the waiting requests: what waits of its guest, and the smallest and the largest share tag.
-use Rattle.std.specs.Prelude.{ℕ, max, Bool, List, [], ◌∷◌, map}
-use Rattle.lists.specs.Words.{if◌then◌else◌, empty}
+use Rattle.std.specs.Prelude.{ℕ, max, Bool, List, [], ◌∷◌, map, if◌then◌else◌}
+use Rattle.lists.specs.Words.{empty}
 use Rattle.rules.specs.Tables.{Request, mine, name, lacks}
 use Rattle.rules.specs.declared.Flight.{Flight}
 use Rattle.table.specs.Columns.{STAG, waiting_at}

@@ -1,13 +1,12 @@
 -- How many guests a walk has yet to see, by its marks: where there are none it may end. Marks are those of a list, or the bits of one number.
 -- Assumes nothing.
-use Rattle.std.specs.Prelude.{ℕ, zero, suc, ◌+◌, ◌-◌, ◌*◌, ◌/◌, ◌%◌, ◌^◌, ◌≤◌, ◌<◌, ◌≡◌, refl, Bool, true, false, List, eqb, ltb, length, get_or, set}
+use Rattle.std.specs.Prelude.{ℕ, zero, suc, ◌+◌, ◌-◌, ◌*◌, ◌/◌, ◌%◌, ◌^◌, ◌≤◌, ◌<◌, ◌≡◌, refl, Bool, true, false, List, eqb, ltb, length, get_or, set, if◌then◌else◌}
 use Rattle.std.proofs.Common.{sym, ap, ◌∙◌, subst, arith, mod-lt, pow-suc, pow_pos, pow-add, get_or-set_other, get_or-set_same, eqb-true, ltb-true, ltb-false}
 use Rattle.std.proofs.Math.Nat.{div-eq_of_lt, div_self, mul-mod_left}
 use Rattle.std.specs.Int.Bits.{bit_or, or_zero_r}
 use Rattle.std.proofs.lemmas.Nat.{or_lt, or_shr, or_mod, shl-shr}
 use Rattle.std.proofs.Math.Pow.{pow-lt}
 use Rattle.std.proofs.lemmas.Bool.{eqb-false}
-use Rattle.lists.specs.Words.{if◌then◌else◌}
 use Rattle.table.specs.Columns.{waiting_wide}
 use Rattle.walks.specs.Lifted.{or_above}
 

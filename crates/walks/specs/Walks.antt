@@ -1,6 +1,6 @@
 -- What the walks over the lent rows answer: the place of the request that the choice picks, and the place of a name in flight.
-use Rattle.std.specs.Prelude.{ℕ, ◌≤◌, ◌<◌, ◌/◌, min, ◌≡◌, Bool, true, false, List, ltb, eqb, length}
-use Rattle.lists.specs.Words.{if◌then◌else◌, without}
+use Rattle.std.specs.Prelude.{ℕ, ◌≤◌, ◌<◌, ◌/◌, min, ◌≡◌, Bool, true, false, List, ltb, eqb, length, if◌then◌else◌}
+use Rattle.lists.specs.Words.{without}
 use Rattle.lists.specs.Tab.{remove_at}
 use Rattle.rules.specs.Numbers.{ceiling}
 use Rattle.rules.specs.Tables.{Request, settings_of, same, lacks}

@@ -1,12 +1,11 @@
 -- A walk from the first row with a falling bound holds the row that stands foremost so far, and so ends at what `least` picks.
 -- Assumes nothing.
-use Rattle.std.specs.Prelude.{ℕ, ◌+◌, ◌*◌, ◌/◌, ◌≤◌, ◌<◌, ◌≡◌, Bool, List, ◌⊎◌, length}
+use Rattle.std.specs.Prelude.{ℕ, ◌+◌, ◌*◌, ◌/◌, ◌≤◌, ◌<◌, ◌≡◌, Bool, List, ◌⊎◌, length, if◌then◌else◌}
 use Rattle.std.proofs.Math.Path.{refl}
 use Rattle.std.proofs.Common.{sym, inl, inr, ⊎_elim, arith, below_none, below_more}
 use Rattle.std.proofs.Math.Bool.{true, false}
 use Rattle.std.proofs.Math.Dec.{ltb}
 use borrow.Author.Tests.{ltb-true, ltb-false}
-use Rattle.lists.specs.Words.{if◌then◌else◌}
 use Rattle.rules.specs.Tables.{Request}
 use Rattle.rules.specs.Chosen.{at, Foremost}
 use Rattle.rules.proofs.Places.{least_at, least-none}

@@ -1,7 +1,6 @@
 -- The requests that a run accepted and sent, one by one: whose, at what cost, when accepted, when sent, by which phase. They are read off the events and
 -- their answers alone, whoever answered: the rules, a call, or a printed trace.
-use Rattle.std.specs.Prelude.{List, [], ◌∷◌, ◌++◌, map, ℕ}
-use Rattle.lists.specs.Words.{if◌then◌else◌}
+use Rattle.std.specs.Prelude.{List, [], ◌∷◌, ◌++◌, map, ℕ, if◌then◌else◌}
 use Rattle.rules.specs.Tables.{same}
 use Rattle.rules.specs.Events.{moment}
 use Rattle.rules.specs.Answers.{taken}
