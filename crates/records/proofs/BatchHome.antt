@@ -160,3 +160,14 @@ module _ (g : Gate) (rs : List Guest) (ws fs bs : List ℕ) (es : List ℕ) wher
 pub batch-at-home : (n : ℕ) (rs : List Guest) (does : List ℕ → BatchIn numbers) (p : BatchIn records) → homed_batch n rs (does (part n rs)) ≡ p
     → (r : Batched) (zs ws fs bs : List ℕ) → seen_batch_in numbers (r, zs, ws, fs, bs) ≡ seen_batch_in numbers (batch_in_part (count n rs) (rows n rs) does) → seen_batch_in records (r, brought n rs zs, ws, fs, bs) ≡ seen_batch_in records p
 batch-at-home n rs does p home r zs ws fs bs e = ap (λ (s : SeenBatchIn numbers). (s.0, s.1, brought n rs s.2, s.3, s.4, s.5)) e ∙ ap (seen_batch_in records) home
+
+-- so where k records were unpacked, and are packed again from the numbers that the batch left
+pub batch_comes_home : (n : ℕ) (rs : List Guest) (does : List ℕ → BatchIn numbers) (p : BatchIn records) → homed_batch n rs (does (part n rs)) ≡ p
+    → (r : Batched) (k : ℕ) (xs zs ws fs bs : List ℕ) (hs : List Guest) → k ≡ count n rs → xs ≡ over_rows guest_form k (take k rs) (replicate guests_long 0)
+    → hs ≡ rows_of guest_form zs k ++ drop k rs → seen_batch_in numbers (r, zs, ws, fs, bs) ≡ seen_batch_in numbers (batch_in_part k xs does)
+    → seen_batch_in records (r, hs, ws, fs, bs) ≡ seen_batch_in records p
+batch_comes_home n rs does p home r k xs zs ws fs bs hs used unpacked packed e =
+    ap (λ (l : List Guest). seen_batch_in records (r, l, ws, fs, bs)) (packed ∙ ap (λ (m : ℕ). rows_of guest_form zs m ++ drop m rs) used)
+    ∙ batch-at-home n rs does p home r zs ws fs bs
+    (e ∙ ap (λ (m : ℕ). seen_batch_in numbers (batch_in_part m xs does)) used
+    ∙ ap (λ (l : List ℕ). seen_batch_in numbers (batch_in_part (count n rs) l does)) (unpacked ∙ ap (λ (m : ℕ). over_rows guest_form m (take m rs) (replicate guests_long 0)) used))

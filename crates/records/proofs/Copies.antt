@@ -14,7 +14,7 @@ use Rattle.table.specs.Columns.{guest_wide, guests_long}
 use Rattle.table.specs.View.{guest_form, guests_of}
 use Rattle.table.specs.ViewLaws.{guest_exact}
 use Rattle.packs.specs.Records.{blank, in_use}
-use Rattle.packs.proofs.Rows.{unpacked, length-unpacked}
+use Rattle.lent.proofs.Copying.{unpacked, length-unpacked}
 use Rattle.gate.specs.Promise.{numbers, HandedIn}
 use Rattle.records.specs.Promise.{guests_in, over_records, records}
 
@@ -30,7 +30,7 @@ module _ (n : ℕ) (rs : List Guest) where
 
   -- the local array once the records in use are in it, and the part of it that the call over numbers is handed
   abbrev pub rows : List ℕ
-  rows = unpacked rs (replicate guests_long 0) count
+  rows = unpacked guest_form guest_exact blank rs (replicate guests_long 0) count
 
   abbrev pub part : List ℕ
   part = take (count * guest_wide) rows
@@ -53,7 +53,7 @@ module _ (n : ℕ) (rs : List Guest) where
   count_room = omega arith
 
   pub length-all : length rows ≡ guests_long
-  length-all = length-unpacked rs (replicate guests_long 0) count ∙ length-replicate {A = ℕ} guests_long 0
+  length-all = length-unpacked guest_form guest_exact blank rs (replicate guests_long 0) count ∙ length-replicate {A = ℕ} guests_long 0
 
   pub length_part : length part ≡ count * guest_wide
   length_part = length-take-le (count * guest_wide) rows (omega (arith, count_room, length-all))

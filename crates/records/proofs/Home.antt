@@ -2,11 +2,12 @@
 use Prim.Native.Nat.{ℕ, ◌*◌, ◌≤◌, ◌<◌}
 use mathlib.Core.Path.{◌≡◌, refl, sym, ap, ◌∙◌}
 use mathlib.Core.Bool.{Bool, true, false, not, ◌&&◌, ◌||◌}
-use mathlib.Core.List.{List}
+use mathlib.Core.List.{List, ◌++◌}
 use mathlib.Core.Logic.{◌⊎◌, inl, inr}
 use native.Mathlib.Omega.{arith}
 use lib.Dec.{ltb}
-use lib.ListN.{length}
+use lib.ListN.{length, take, drop, replicate}
+use Rattle.lists.specs.Rows.{rows_of, over_rows}
 use borrow.Author.Tests.{lt-ltb, le-ltb}
 use Rattle.lists.specs.Tab.{lt_or_le}
 use Rattle.rules.specs.Tables.{Table}
@@ -23,9 +24,9 @@ use Rattle.rules.specs.declared.Outcome.{Outcome}
 use Rattle.rules.specs.declared.Answer.{Answer}
 use Rattle.rules.specs.declared.Answer.TheVariants.{Nothing, Refused}
 use Rattle.rules.specs.declared.Refusal.TheVariants.{ShortTable, Unsound}
-use Rattle.table.specs.Columns.{guest_wide, settings_wide, waiting_wide, flight_wide, most_guests}
+use Rattle.table.specs.Columns.{guest_wide, settings_wide, waiting_wide, flight_wide, most_guests, guests_long}
 use Rattle.rules.specs.Waking.{unsaid}
-use Rattle.table.specs.View.{outcome_of, guests_of, waiting_of, flights_of, countable, identified, zeroed}
+use Rattle.table.specs.View.{guest_form, outcome_of, guests_of, waiting_of, flights_of, countable, identified, zeroed}
 use Rattle.gate.specs.Promise.{numbers, table_in, HandedIn, handed_in, SeenIn, seen_in, short_in, sound_in, unchanged_in, followed_in, judged_in, called_in, settings_in, unopened, open_short_in, opened_by_in, opening_in, opened_in}
 use Rattle.gate.proofs.Lending.{numbers-lawful, uncounted_in, short-refused_in, unsound_refused_in, accepted_open, open_roomy}
 use Rattle.gate.proofs.Beyond.{chosen_sized, fresh_sized}
@@ -166,3 +167,13 @@ module _ (d n c rule : ℕ) (ss : List ℕ) (rs : List Guest) (ws fs : List ℕ)
 pub at_home : (n : ℕ) (rs : List Guest) (does : List ℕ → HandedIn numbers) (p : HandedIn records) → homed n rs (does (part n rs)) ≡ p
     → (r : Outcome) (zs ws fs : List ℕ) → seen_in numbers (r, zs, ws, fs) ≡ seen_in numbers (in_part (count n rs) (rows n rs) does) → seen_in records (r, brought n rs zs, ws, fs) ≡ seen_in records p
 at_home n rs does p home r zs ws fs e = ap (λ (s : SeenIn numbers). (s.0, s.1, s.2, brought n rs s.3, s.4, s.5)) e ∙ ap (seen_in records) home
+
+-- so where k records were unpacked, and are packed again from the numbers that the call left
+pub comes_home : (n : ℕ) (rs : List Guest) (does : List ℕ → HandedIn numbers) (p : HandedIn records) → homed n rs (does (part n rs)) ≡ p
+    → (r : Outcome) (k : ℕ) (xs zs ws fs : List ℕ) (hs : List Guest) → k ≡ count n rs → xs ≡ over_rows guest_form k (take k rs) (replicate guests_long 0)
+    → hs ≡ rows_of guest_form zs k ++ drop k rs → seen_in numbers (r, zs, ws, fs) ≡ seen_in numbers (in_part k xs does) → seen_in records (r, hs, ws, fs) ≡ seen_in records p
+comes_home n rs does p home r k xs zs ws fs hs used unpacked packed e =
+    ap (λ (l : List Guest). seen_in records (r, l, ws, fs)) (packed ∙ ap (λ (m : ℕ). rows_of guest_form zs m ++ drop m rs) used)
+    ∙ at_home n rs does p home r zs ws fs
+    (e ∙ ap (λ (m : ℕ). seen_in numbers (in_part m xs does)) used
+    ∙ ap (λ (l : List ℕ). seen_in numbers (in_part (count n rs) l does)) (unpacked ∙ ap (λ (m : ℕ). over_rows guest_form m (take m rs) (replicate guests_long 0)) used))

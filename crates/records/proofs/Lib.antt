@@ -1,10 +1,4 @@
-pub mod ByValue
-pub mod CallCopies
-pub mod CallUsed
 pub mod Copies
 pub mod Home
 pub mod BatchHome
 pub mod Lawful
-pub mod Parts
-pub mod Statements
-pub mod Words

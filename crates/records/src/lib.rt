@@ -1,6 +1,8 @@
 // The public calls over a lent slice of guest records, of any length: the records in use become numbers in a local array, the call over numbers
 // is made on them, and they come back. Records past the settings' need are neither read nor changed. What each call promises is in
 // specs/Promise.antt and specs/Batch.antt.
+#![tactic(auto)]
+
 mod part; // the calls over numbers on the rows in use
 
 ghost use Rattle.std.specs.Prelude.{◌≡◌};
