@@ -66,7 +66,7 @@ pub fn set_row(counters: &mut [u64], row: usize, delta: u64, rho: u64)
 }
 
 // One more, but it stops.
-fn one_more_lem(count: u64) -> u64
+fn one_more(count: u64) -> u64
     ensures { result ≡ one_more count }
 {
     if count < MOST_COUNT {
@@ -81,10 +81,10 @@ fn count_row(counters: &mut [u64], row: usize, reserved: bool)
     requires { row * counter_wide + counter_wide ≤ length counters.old }
     ensures { counters.new ≡ counted_row reserved row counters.old }
 {
-    let delta = one_more_lem(read(&counters[..], row, DELTA));
+    let delta = one_more(read(&counters[..], row, DELTA));
     let rho = read(&counters[..], row, RHO);
     if reserved {
-        set_row(counters, row, delta, one_more_lem(rho));
+        set_row(counters, row, delta, one_more(rho));
     } else {
         set_row(counters, row, delta, rho);
     }

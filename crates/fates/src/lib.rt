@@ -72,7 +72,7 @@ fn moment(event: Event) -> u64
 }
 
 // By what was read: its kind and spare part, then its time.
-fn by_read_lem(last: Last, event: Read) -> Fate
+fn by_read(last: Last, event: Read) -> Fate
     ensures { result ≡ by_read last event }
 {
     match event {
@@ -90,7 +90,7 @@ pub fn fate_of(version: u64, bytes: &[u8], from: usize, last: Last) -> Fate
         return Fate::Dropped(CUT);
     }
     let event = read_event(version, &bytes[from..from + 14]);
-    by_read_lem(last, event)
+    by_read(last, event)
 }
 
 // The last kept after an event.

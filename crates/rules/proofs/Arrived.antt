@@ -254,7 +254,7 @@ arrived t a now h =
       reservation_next = ap Guest.rnext own ∙ ap (λ (q : Request). q.rtag + rspacing x.settings q) (sym last);
       limit_next = ap Guest.lnext own ∙ ap (λ (q : Request). q.ltag + lspacing x.settings q) (sym last);
       share_next = ap Guest.snext own ∙ ap (λ (q : Request). q.stag + sspacing x.settings q) (sym last);
-      one_more_lem = arrived_long t now a b;
+      one_more = arrived_long t now a b;
       placed_last = ap name last;
       cost_kept = ap Request.cost last;
       names-stay = tag_stays t now a name (λ q. refl) b;
@@ -321,7 +321,7 @@ module _ (t : Table) (a : Arriving) (now : ℕ) (u v : Table) (x : Arrived t a n
       (same_share (idle t a.guest) refl) (x.cost_kept ∙ sym y.cost_kept)
 
   same_request : (i : ℕ) → i < length u.waiting → at u.waiting i ≡ at v.waiting i
-  same_request i h = ⊎_elim before (λ l. let e : i ≡ length t.waiting = omega (arith, x.one_more_lem) in rw e same_last) (lt_or_le i (length t.waiting))
+  same_request i h = ⊎_elim before (λ l. let e : i ≡ length t.waiting = omega (arith, x.one_more) in rw e same_last) (lt_or_le i (length t.waiting))
     where
       before : i < length t.waiting → at u.waiting i ≡ at v.waiting i
       before l =
@@ -370,7 +370,7 @@ module _ (t : Table) (a : Arriving) (now : ℕ) (u v : Table) (x : Arrived t a n
       f = x.flight_stays ∙ sym y.flight_stays
 
       w : u.waiting ≡ v.waiting
-      w = ext_get_or blank u.waiting v.waiting (x.one_more_lem ∙ sym y.one_more_lem) same_request
+      w = ext_get_or blank u.waiting v.waiting (x.one_more ∙ sym y.one_more) same_request
 
       g : u.guests ≡ v.guests
       g =

@@ -84,7 +84,7 @@ pub record Arrived (t : Table) (a : Arriving) (now : ℕ) (u : Table) : Type 0 w
   pub limit_next : (owner u.guests a.guest).lnext ≡ (last_of t u).ltag + lspacing (arrives_at t a).settings (last_of t u)
   pub share_next : (owner u.guests a.guest).snext ≡ (last_of t u).stag + sspacing (arrives_at t a).settings (last_of t u)
   -- 4. "The request is placed last among the waiting"
-  pub one_more_lem : length u.waiting ≡ length t.waiting + 1
+  pub one_more : length u.waiting ≡ length t.waiting + 1
   pub placed_last : name (last_of t u) ≡ called_by a
   -- K8: "Waiting requests keep their cost"
   pub cost_kept : (last_of t u).cost ≡ a.cost

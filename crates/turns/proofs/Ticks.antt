@@ -37,19 +37,19 @@ tick_finds-room t n s h k r = join (not_idle t n s h k) r
 record Modest (t : Table) (r : Result) : Type 0 where
   setup_kept : r.table.setup ≡ t.setup
   time_kept : r.table.time ≡ t.time
-  one_more_lem : length r.table.flight ≤ suc (length t.flight)
+  one_more : length r.table.flight ≤ suc (length t.flight)
 
 -- such is the weight phase
 modest_weight : (t : Table) (k : Pick) → Modest t (by_weight t k)
 unfolding by_weight dropped sending
-modest_weight t nobody = record { setup_kept = refl; time_kept = refl; one_more_lem = omega arith }
-modest_weight t (picked q w) = record { setup_kept = refl; time_kept = refl; one_more_lem = simp length-append (omega arith) }
+modest_weight t nobody = record { setup_kept = refl; time_kept = refl; one_more = omega arith }
+modest_weight t (picked q w) = record { setup_kept = refl; time_kept = refl; one_more = simp length-append (omega arith) }
 
 -- and the reservation phase
 modest_reservation : (t : Table) (k : Pick) → Modest t (by_reservation t k)
 unfolding by_reservation sending
 modest_reservation t nobody = modest_weight t (least (open? t) Request.stag t.waiting)
-modest_reservation t (picked q w) = record { setup_kept = refl; time_kept = refl; one_more_lem = simp length-append (omega arith) }
+modest_reservation t (picked q w) = record { setup_kept = refl; time_kept = refl; one_more = simp length-append (omega arith) }
 
 -- so the choice
 modest_choice : (t : Table) → Modest t (choice t)
@@ -57,7 +57,7 @@ unfolding choice
 modest_choice t =
     let k = modest_reservation t (least (due t) Request.rtag t.waiting) in
     elim (room t) as (λ b. Modest t (if b then by_reservation t (least (due t) Request.rtag t.waiting) else record { table = t; answer = Nothing }))
-    [ true ↦ k | false ↦ record { setup_kept = refl; time_kept = refl; one_more_lem = omega arith } ]
+    [ true ↦ k | false ↦ record { setup_kept = refl; time_kept = refl; one_more = omega arith } ]
 
 -- and so an accepted tick
 modest_tick : (t : Table) (n : ℕ) → accepted t (Tick n) ≡ true → Modest (wait n t) (step t (Tick n))
@@ -74,7 +74,7 @@ ticks_count (suc m) t n s h k r =
     let i = modest_tick t n (not_idle t n s h k) in
     let f = tick_finds-room t n s h k (lt-ltb (length t.flight) t.setup.depth (omega arith)) in
     let d : u.setup.depth ≡ t.setup.depth = ap Setup.depth i.setup_kept in
-    let g = ticks_count m u n (step-sound t (Tick n) s) (omega (arith, i.time_kept)) k (omega (arith, i.one_more_lem, d)) in
+    let g = ticks_count m u n (step-sound t (Tick n) s) (omega (arith, i.time_kept)) k (omega (arith, i.one_more, d)) in
     rw f (ap suc g)
 
 -- so under rule 1 the request goes at the last of k + 1 ticks, where k + 1 places are free

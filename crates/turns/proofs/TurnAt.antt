@@ -44,13 +44,13 @@ same_many (suc n) f g h =
     rw (h 0 (omega arith), same_many n (λ j. f (suc j)) (λ j. g (suc j)) (λ l k. h (suc l) (omega arith)))
 
 -- two tests that agree but at one place
-one_more_lem : (n : ℕ) (f g : ℕ → Bool) (j : ℕ) → j < n → f j ≡ true → g j ≡ false → ((l : ℕ) → l < n → (l ≡ j → ⊥) → f l ≡ g l)
+one_more : (n : ℕ) (f g : ℕ → Bool) (j : ℕ) → j < n → f j ≡ true → g j ≡ false → ((l : ℕ) → l < n → (l ≡ j → ⊥) → f l ≡ g l)
     → how_many n f ≡ suc (how_many n g)
-one_more_lem zero f g j h p q s = absurd (omega arith)
-one_more_lem (suc n) f g zero h p q s =
+one_more zero f g j h p q s = absurd (omega arith)
+one_more (suc n) f g zero h p q s =
     rw (p, q) (ap suc (same_many n (λ j. f (suc j)) (λ j. g (suc j)) (λ l k. s (suc l) (omega arith) (λ z. omega arith))))
-one_more_lem (suc n) f g (suc j) h p q s =
-    let r = one_more_lem n (λ j. f (suc j)) (λ j. g (suc j)) j (omega arith) p q (λ l k d. s (suc l) (omega arith) (λ z. d (omega arith))) in
+one_more (suc n) f g (suc j) h p q s =
+    let r = one_more n (λ j. f (suc j)) (λ j. g (suc j)) j (omega arith) p q (λ l k d. s (suc l) (omega arith) (λ z. d (omega arith))) in
     rw (s 0 (omega arith) (λ z. omega arith))
     (elim (g 0) as (λ b. (if b then suc (how_many n (λ j. f (suc j))) else how_many n (λ j. f (suc j))) ≡ suc (if b then suc (how_many n (λ j. g (suc j))) else how_many n (λ j. g (suc j))))
     [ true ↦ ap suc r | false ↦ r ])
@@ -235,7 +235,7 @@ module _ (t : Table) where
 
   -- just one more place stands before i than before the last of those
   last_turn : (i j : ℕ) → Last i size j → turn_of t i ≡ suc (turn_of t j)
-  last_turn i j a = one_more_lem size (before t i) (before t j) j a.inside a.stands (before_self j) agree
+  last_turn i j a = one_more size (before t i) (before t j) j a.inside a.stands (before_self j) agree
     where
       same : (b c : Bool) → (b ≡ true → c ≡ true) → (c ≡ true → b ≡ true) → b ≡ c
       same true true p q = refl

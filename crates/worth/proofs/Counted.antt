@@ -163,9 +163,9 @@ module _ (g : ℕ) where
       → length (filter own (passages_from h es (answers t es))) ≡ length (left g (answers t es))
 
   -- one event before them
-  one_more_lem : (e : Event) (es : List Event) → Full es → Full (e ∷ es)
+  one_more : (e : Event) (es : List Event) → Full es → Full (e ∷ es)
   unfolding passages_from answers
-  one_more_lem e es rest h t firm k = go (accepted t e) refl
+  one_more e es rest h t firm k = go (accepted t e) refl
     where
       go : (y : Bool) → accepted t e ≡ y → length (filter own (passages_from h (e ∷ es) (answers t (e ∷ es)))) ≡ length (left g (answers t (e ∷ es)))
       go true y =
@@ -187,7 +187,7 @@ module _ (g : ℕ) where
   full : (es : List Event) → Full es
   unfolding passages_from answers
   full [] = λ h t firm k. refl
-  full (e ∷ es) = one_more_lem e es (full es)
+  full (e ∷ es) = one_more e es (full es)
 
 -- nothing that waits needs a note where nothing waits
 idle-noted : (l : List Request) → empty l ≡ true → Noted [] l

@@ -302,9 +302,9 @@ module _ (g a : ℕ) where
       Roomy es = (m : ℕ) (h : List Note) (t : Table) → Settled t → KeptIn m h t → Room (lplain s) b m (filter ok (passages_from h es (answers t es)))
 
       -- one event before them
-      one_more_lem : (e : Event) (es : List Event) → Roomy es → Roomy (e ∷ es)
+      one_more : (e : Event) (es : List Event) → Roomy es → Roomy (e ∷ es)
       unfolding passages_from answers
-      one_more_lem e es rest m h t z k = go (accepted t e) refl
+      one_more e es rest m h t z k = go (accepted t e) refl
         where
           go : (y : Bool) → accepted t e ≡ y → Room (lplain s) b m (filter ok (passages_from h (e ∷ es) (answers t (e ∷ es))))
           go true y =
@@ -320,7 +320,7 @@ module _ (g a : ℕ) where
       run_room : (es : List Event) → Roomy es
       unfolding passages_from
       run_room [] = λ m h t z k. tt
-      run_room (e ∷ es) = one_more_lem e es (run_room es)
+      run_room (e ∷ es) = one_more e es (run_room es)
 
 -- what counts of a run of a sound table's answers, for a limited guest
 counted-room : (g a b : ℕ) (ok : Passage → Bool) (t : Table) (es : List Event) → sound t ≡ true → limited (settings_at t g) ≡ true → a ≤ b

@@ -28,7 +28,7 @@ same_length c = search rules
 returns : tie.Need-returns
 returns c =
     let a = c.before.before.before.before.before.before.before.before.before.before.before.before.args in
-    counted_both a.counters.now _ a.row c.before.before.before.before.before.before.before.before.before.read.result c.before.before.before.before.before.before.read2.result c.before.before.before.before.before.before.before.before.one_more_lem.result c.before.before.before.one-more2.result a.reserved c.before.before.before.before.before.before.before.before.before.read.ensures c.before.before.before.before.before.before.before.before.one_more_lem.ensures c.before.before.before.before.before.before.read2.ensures c.before.before.before.one-more2.ensures c.before.before.before.before.before.if1.true c.before.before.set-row.ensures
+    counted_both a.counters.now _ a.row c.before.before.before.before.before.before.before.before.before.read.result c.before.before.before.before.before.before.read2.result c.before.before.before.before.before.before.before.before.one_more.result c.before.before.before.one-more2.result a.reserved c.before.before.before.before.before.before.before.before.before.read.ensures c.before.before.before.before.before.before.before.before.one_more.ensures c.before.before.before.before.before.before.read2.ensures c.before.before.before.one-more2.ensures c.before.before.before.before.before.if1.true c.before.before.set-row.ensures
 
 same-length-2 : tie.Need-same-length-2
 same-length-2 c = search rules
@@ -36,7 +36,7 @@ same-length-2 c = search rules
 returns-2 : tie.Need-returns-2
 returns-2 c =
     let a = c.before.before.before.before.before.before.before.before.before.before.before.args in
-    counted-one a.counters.now _ a.row c.before.before.before.before.before.before.before.before.read.result c.before.before.before.before.before.read2.result c.before.before.before.before.before.before.before.one_more_lem.result a.reserved c.before.before.before.before.before.before.before.before.read.ensures c.before.before.before.before.before.before.before.one_more_lem.ensures c.before.before.before.before.before.read2.ensures c.before.before.before.before.if1.false c.before.before.set-row2.ensures
+    counted-one a.counters.now _ a.row c.before.before.before.before.before.before.before.before.read.result c.before.before.before.before.before.read2.result c.before.before.before.before.before.before.before.one_more.result a.reserved c.before.before.before.before.before.before.before.before.read.ensures c.before.before.before.before.before.before.before.one_more.ensures c.before.before.before.before.before.read2.ensures c.before.before.before.before.if1.false c.before.before.set-row2.ensures
 
 pub count-row-spec : {M : Type 1} → statement M
 count-row-spec =

@@ -1,8 +1,8 @@
 use mathlib.Core.Path.{sym, ap, ◌∙◌}
 use Rattle.salvage.specs.Fates.{by_time, by_read}
 use borrow.Author.Rules.{rules}
-use Rattle.fates.proofs.by_read_lem.Statement.{statement}
-use Rattle.fates.proofs.by_read_lem.Tie as tie
+use Rattle.fates.proofs.by_read.Statement.{statement}
+use Rattle.fates.proofs.by_read.Tie as tie
 
 enum-known-event : tie.Need-enum-known-event
 enum-known-event c = search rules

@@ -45,7 +45,7 @@ returns-2 c =
     let bs = a.bytes.now in
     let x = c.before.read-event in
     let e = read-shown_once x.result _ x.ensures ∙ ap (event_of a.version) (part_is bs a.from 14) ∙ event_take a.version (drop a.from bs) in
-    simp (le-ltb (length (drop a.from bs)) 14 (omega (arith, length-drop a.from bs, c.before.before.before.if1.false))) (c.by_read_lem.ensures ∙ ap (by_read a.last) e)
+    simp (le-ltb (length (drop a.from bs)) 14 (omega (arith, length-drop a.from bs, c.before.before.before.if1.false))) (c.by_read.ensures ∙ ap (by_read a.last) e)
 
 pub fate-of-spec : {M : Type 1} → statement M
 fate-of-spec =
