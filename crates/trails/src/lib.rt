@@ -1,4 +1,6 @@
 // The drop after a weight send, along the rows of the guest that was served, which the index tells. Functions for this repository's own crates.
+#![tactic(auto)]
+
 ghost use Rattle.std.specs.Prelude.{◌≡◌, ◌+◌, ◌*◌, ◌≤◌, ◌<◌, length};
 ghost use Rattle.rules.specs.Numbers.{second, most_cost};
 ghost use Rattle.table.specs.Columns.{guest_wide, waiting_wide, most_guests};
