@@ -1,4 +1,6 @@
 // The tags of a request that arrives, and the row that it gets with them. Functions for this repository's own crates.
+#![tactic(auto)]
+
 ghost use Rattle.std.specs.Prelude.{◌≡◌};
 ghost use Rattle.lists.specs.Lines.{line_at};
 ghost use Rattle.rules.specs.Events.{raised};
