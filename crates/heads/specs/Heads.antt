@@ -1,5 +1,5 @@
 -- The row that a phase holds of those looked at: by the smallest tag, and of equal tags the earliest.
-use Rattle.std.specs.Prelude.{ℕ, ◌<◌, Bool, true, false, ◌&&◌, ◌||◌, List, ltb, eqb, if◌then◌else◌}
+use Rattle.std.specs.Prelude.{ℕ, ◌<◌, Bool, ◌&&◌, ◌||◌, List, ltb, eqb, if◌then◌else◌}
 use Rattle.table.specs.Columns.{RESERVATION, RTAG, LTAG, guest_at, waiting_at}
 use Rattle.walks.specs.declared.Found.{Found}
 use Rattle.walks.specs.declared.Found.TheVariants.{At, Nothing}

@@ -2,7 +2,7 @@
 -- tag, and of equal tags by the earlier place: tag and place are one number here, 2,048 places to a tag. Assumes nothing.
 use Rattle.std.specs.Prelude.{ℕ, ◌+◌, ◌-◌, ◌*◌, ◌≤◌, ◌<◌, ◌≡◌, Bool, ◌&&◌, ◌||◌, List, ◌⊎◌, eqb, ltb, leb, if◌then◌else◌}
 use Rattle.std.proofs.Math.Path.{refl}
-use Rattle.std.proofs.Common.{sym, ap, ◌∙◌, inl, ⊎_elim, arith, eqb-true, ltb-true, ltb-false, leb-true, le-leb}
+use Rattle.std.proofs.Common.{sym, ap, ◌∙◌, inl, arith, eqb-true, ltb-true, ltb-false, leb-true, le-leb}
 use Rattle.std.proofs.Math.Bool.{true, false}
 use Rattle.std.proofs.lemmas.Bool.{false≢true, eqb-false}
 use Rattle.std.proofs.Math.Logic.{inr}
@@ -11,12 +11,12 @@ use Rattle.lists.specs.WordsLaws.{both, join}
 use Rattle.lists.specs.RowsLaws.{length-rows}
 use Rattle.rules.specs.Numbers.{ceiling}
 use Rattle.rules.specs.Tables.{Request}
-use Rattle.rules.specs.Chosen.{at, Foremost}
+use Rattle.rules.specs.Chosen.{at}
 use Rattle.rules.proofs.Places.{least_at, least-none}
 use Rattle.table.specs.Columns.{RESERVATION, RTAG, LTAG, STAG, most_capacity, guest_at, waiting_at}
 use Rattle.table.specs.View.{request_form, waiting_of}
-use Rattle.walks.specs.Walks.{Picks, Owned, Rising, SharesFit, Counts}
-use Rattle.walks.specs.WalksRows.{due_in, open_in, rtag_at_lem, stag_at, due_parts, due_is, open_at, open_is, due-behind, open_behind}
+use Rattle.walks.specs.Walks.{Picks, Owned, Rising, Counts}
+use Rattle.walks.specs.WalksRows.{due_in, open_in, rtag_at_lem, stag_at, due_parts, due_is, open_at, due-behind, open_behind}
 use Rattle.walks.specs.declared.Found.TheVariants.{At, Nothing}
 use Rattle.index.specs.Index.{owner_of, Head, Leads}
 use Rattle.seeks.specs.Reads.{row_here, head_first, rising_on, guests_more}
