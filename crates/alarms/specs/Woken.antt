@@ -1,5 +1,5 @@
 -- The time to wake, guest by guest: what is held after some guests, where the first row of each is looked at. Assumes nothing.
-use Rattle.std.specs.Prelude.{ℕ, ◌+◌, ◌-◌, ◌*◌, ◌≤◌, ◌<◌, max, ◌≡◌, refl, List, map, ◌⊎◌}
+use Rattle.std.specs.Prelude.{ℕ, ◌+◌, ◌≤◌, ◌<◌, max, ◌≡◌, refl, List, map, ◌⊎◌}
 use Rattle.std.proofs.Common.{sym, ap, ◌∙◌, inl, inr, arith}
 use Rattle.lists.specs.Words.{lowest}
 use Rattle.lists.specs.WordsLaws.{lowest-of, lowest_under}

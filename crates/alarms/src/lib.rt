@@ -1,5 +1,7 @@
 // From when on the first of the waiting requests could go, by the first row of each guest. It reads and changes nothing. Functions for this repository's own
 // crates.
+#![tactic(auto)]
+
 ghost use Rattle.std.specs.Prelude.{◌≡◌, map, ◌*◌, ◌≤◌, ◌<◌, max, length};
 ghost use Rattle.lists.specs.Words.{lowest};
 ghost use Rattle.rules.specs.Numbers.{ceiling};
