@@ -3,7 +3,7 @@
 
 // What is set of a guest: its reservation, 0 for none, its limit, 0 for unlimited, its shares, and its credit, the spacings that its share tags may
 // lie back.
-#[derive(Drop)]
+#[derive(Clone, Copy)]
 pub struct Settings {
     pub reservation: u64,
     pub limit: u64,
@@ -12,7 +12,7 @@ pub struct Settings {
 }
 
 // One guest: its settings and its three next numbers. A host lends a slice of these.
-#[derive(Drop)]
+#[derive(Clone, Copy)]
 pub struct Guest {
     pub settings: Settings,
     pub rnext: u64,
@@ -21,14 +21,14 @@ pub struct Guest {
 }
 
 // A request in flight: whose, and its id. The same two numbers name any request.
-#[derive(Drop)]
+#[derive(Clone, Copy)]
 pub struct Flight {
     pub guest: u64,
     pub id: u32,
 }
 
 // What is set at opening for the whole array: its places, the places to wait in, and the rule for limits, 1 or 2.
-#[derive(Drop)]
+#[derive(Clone, Copy)]
 pub struct Setup {
     pub depth: u64,
     pub capacity: u64,
@@ -36,7 +36,7 @@ pub struct Setup {
 }
 
 // An open table but for its rows: what was set, how many guests there are, the last accepted time, how many wait and how many are in flight.
-#[derive(Drop)]
+#[derive(Clone, Copy)]
 pub struct Gate {
     pub setup: Setup,
     pub guests: u64,
@@ -47,7 +47,7 @@ pub struct Gate {
 
 // The request that an arrival brings: whose, its id, its cost, and what its guest completed since the last one, all told (delta) and by reservation
 // (rho); the last three of any size until they are judged.
-#[derive(Drop)]
+#[derive(Clone, Copy)]
 pub struct Arriving {
     pub guest: u64,
     pub id: u32,
@@ -57,7 +57,7 @@ pub struct Arriving {
 }
 
 // An event and its time: a request arrives, one completes, or only time passes.
-#[derive(Drop)]
+#[derive(Clone, Copy)]
 pub enum Event {
     Arrival(Arriving, u64),
     Completion(Flight, u64),
@@ -65,14 +65,14 @@ pub enum Event {
 }
 
 // The phase of the choice that sent a request.
-#[derive(Drop)]
+#[derive(Clone, Copy)]
 pub enum Phase {
     Reservation,
     Weight,
 }
 
 // Why a call or a trace is refused, in the order of the papers' numbers: 1 to 15 are document 01's, those behind them document 02's.
-#[derive(Drop)]
+#[derive(Clone, Copy)]
 pub enum Refusal {
     BadSetting,
     ShortTable,
@@ -99,7 +99,7 @@ pub enum Refusal {
 }
 
 // What a call answers: nothing is sent, a request is sent, or the call is refused.
-#[derive(Drop)]
+#[derive(Clone, Copy)]
 pub enum Answer {
     Nothing,
     Sent { phase: Phase, guest: u64, id: u32 },
@@ -107,14 +107,14 @@ pub enum Answer {
 }
 
 // When a tick alone would next send something: at a time, or at none as the tables stand.
-#[derive(Drop)]
+#[derive(Clone, Copy)]
 pub enum Wake {
     At(u64),
     Never,
 }
 
 // The gate after a call, the call's answer, and when to wake the gate by a tick.
-#[derive(Drop)]
+#[derive(Clone, Copy)]
 pub struct Outcome {
     pub gate: Gate,
     pub answer: Answer,
