@@ -1,4 +1,6 @@
 // One event of a trace, read from its 14 bytes. Functions for this repository's own crates.
+#![tactic(auto)]
+
 ghost use Rattle.std.specs.Prelude.{◌≡◌, ◌≤◌, ◌<◌, length};
 ghost use Rattle.trace.specs.Little.{eight as eight_of};
 ghost use Rattle.trace.specs.Event.{read_shown, kind_in, upper_in, event_byte, event_from, event_of};

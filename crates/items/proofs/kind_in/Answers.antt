@@ -1,0 +1,12 @@
+use lib.Bits.{and_mask}
+use borrow.Author.Tests.{eq-eqb, ne_eqb}
+use Rattle.trace.specs.Event.{kind_in}
+use Rattle.items.proofs.kind_in.Goals as goal
+
+pub returns-then-version-eq2 : goal.returns-then-version-eq2
+unfolding kind_in
+returns-then-version-eq2 c = rw (eq-eqb _ _ c.if-version-eq2.true) (and_mask c.args.byte 2)
+
+pub returns : goal.returns
+unfolding kind_in
+returns c = simp (ne_eqb _ _ c.if-version-eq2.false)
