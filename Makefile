@@ -4,7 +4,7 @@
 #   make install PREFIX=DIR     installs them below DIR, /usr/local where none is named
 #   make uninstall PREFIX=DIR   takes them away again
 #
-# The code is that of target/staticlib/libhost.a, which 'rt staticlib host' proves and writes; SGQ_LIB=FILE names another
+# The code is that of target/staticlib/libhost.a, which 'tools/build host' proves and writes; SGQ_LIB=FILE names another
 # archive. DESTDIR, LIBDIR, INCLUDEDIR, MANDIR, CC and LDFLAGS are as usual.
 
 PREFIX = /usr/local
@@ -29,9 +29,8 @@ ifdef SGQ_LIB
 ARCHIVE = $(SGQ_LIB)
 else
 ARCHIVE = target/staticlib/libhost.a
-$(ARCHIVE): crates.txt $(shell find crates -type f)
-	rt staticlib host
-	touch $@
+$(ARCHIVE): crates.txt $(shell find crates -path 'crates/*/out' -prune -o -type f -print)
+	tools/build host
 endif
 
 # Both are made anew each time: it takes no time, and another archive may be named.

@@ -49,11 +49,9 @@ def fit():
 
 
 def copy_with(edits, folder):
-    """The crates, what is proved of them, and these edits in the place of their own."""
+    """The crates with these edits in the place of their own. rt begins with what it has proved of the same crates here."""
     shutil.copy(ROOT / "crates.txt", folder)
-    shutil.copytree(CRATES, folder / "crates", ignore=shutil.ignore_patterns("must-fail"))
-    if (ROOT / "target").is_dir():
-        shutil.copytree(ROOT / "target", folder / "target", ignore=shutil.ignore_patterns("must-fail"))
+    shutil.copytree(CRATES, folder / "crates", ignore=shutil.ignore_patterns("must-fail", "out"))
     for edit in edits:
         own = folder / "crates" / edit.parent.name / "must-fail"
         own.mkdir(exist_ok=True)

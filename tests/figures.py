@@ -5,7 +5,7 @@ and what the README says of several arrays to those figures.
     python3 tests/figures.py [--mend]     --mend writes the figures that are printed into the page
 
 Figures stand in a block below a line 'Figures `NAME`:', each part that is printed once. The library is
-target/staticlib/libhost.a, which 'rt staticlib host' writes; the environment variable SGQ_LIB may name another archive.
+target/staticlib/libhost.a, which 'tools/build host' writes; the environment variable SGQ_LIB may name another archive.
 Ends with 'N passed, M failed'.
 """
 import concurrent.futures

@@ -6,7 +6,7 @@ replaced by a whole result or not at all.
     python3 tests/files.py [FIRST | --fresh]     the random traces have the seeds from FIRST on, 1 where none is named, and fresh ones (kit.py);
                                                  or those alone, and nothing else is tried
 
-The library is target/staticlib/libhost.a, which 'rt staticlib host' writes; the environment variable SGQ_LIB may name
+The library is target/staticlib/libhost.a, which 'tools/build host' writes; the environment variable SGQ_LIB may name
 another archive, as to try these tests on a wrong one. Ends with 'N passed, M failed'."""
 import os
 import pathlib

@@ -1,8 +1,8 @@
 #!/usr/bin/env python3
 """Tests what 'make install' installs, in an empty prefix, and the README's commands for a host in C.
 
-The library is target/staticlib/libhost.a, which 'rt staticlib host' writes; the environment variable SGQ_LIB may name
-another archive. Each test runs in a copy of what 'make' needs, where a stand-in for rt writes that archive. The wrapper in
+The library is target/staticlib/libhost.a, which 'tools/build host' writes; the environment variable SGQ_LIB may name
+another archive. Each test runs in a copy of what 'make' needs, where a stand-in for rt makes that archive. The wrapper in
 Rust is built over what is installed, and the man pages are held to the header. Ends with 'N passed, M failed'.
 """
 import os
@@ -22,7 +22,7 @@ PAGES = ROOT / "install" / "man"
 VERSION = ".".join(re.findall(r"^#define SGQ_VERSION_(?:MAJOR|MINOR|PATCH) (\d+)$", HEADER, re.MULTILINE))
 RT = """#!/bin/sh
 echo called >>"{calls}"
-mkdir -p target/staticlib && cp "{library}" target/staticlib/libhost.a
+mkdir -p out && cp "{library}" out/libhost.a
 """
 # Where programs for x86-64 do not run as they are: the cross compiler, and around what it links a script that runs it.
 CC = """#!/bin/sh
@@ -51,7 +51,9 @@ class House:
             shutil.copytree(ROOT / name, self.root / name)
         for name in ("Makefile", "crates.txt"):
             shutil.copy(ROOT / name, self.root)
-        (self.root / "crates").mkdir()
+        (self.root / "tools").mkdir()
+        shutil.copy(ROOT / "tools" / "build", self.root / "tools")
+        (self.root / "crates" / "host").mkdir(parents=True)
         self.bin.mkdir()
         self.stand_in("rt", RT.format(calls=self.calls, library=LIBRARY))
         if not machine.OWN:

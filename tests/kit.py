@@ -27,7 +27,7 @@ import sgqtext  # noqa: E402  (it stands in samples/)
 def need_library():
     """The library is there, and this machine can link it."""
     if not LIBRARY.is_file():
-        raise Stop(f"there is no {LIBRARY}: 'rt staticlib host' in the root writes target/staticlib/libhost.a")
+        raise Stop(f"there is no {LIBRARY}: 'tools/build host' in the root writes target/staticlib/libhost.a")
     if LIBRARY.read_bytes().partition(b"\x7fELF")[2][14:16] != X86_64:
         raise Stop(f"{LIBRARY} is not for x86-64")
     need_linking()

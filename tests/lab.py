@@ -5,7 +5,7 @@ the checks notice what is wrong; docs/BEHAVIOUR.md; the page in a browser; and p
     python3 tests/lab.py [--mend | --fresh]     --mend writes the figures into docs/BEHAVIOUR.md, and docs/lot214.svg; --fresh plays random traces
                                                 and a run on fresh seeds alone (kit.py), and nothing else
 
-The browser is headless Chromium, where it is installed. The library is target/staticlib/libhost.a, which 'rt staticlib host' writes, and decide and sheet
+The browser is headless Chromium, where it is installed. The library is target/staticlib/libhost.a, which 'tools/build host' writes, and decide and sheet
 stand in target/bin; the environment variable SGQ_LIB may name another archive. Ends with 'N passed, M failed'.
 """
 import dataclasses
@@ -97,7 +97,7 @@ def build(folder):
 def programs_from(made):
     for program in ("decide", "sheet"):
         if not (BIN / program).is_file():
-            raise Stop(f"there is no target/bin/{program}: 'rt check {program}' writes it")
+            raise Stop(f"there is no target/bin/{program}: 'tools/build {program}' writes it")
     linked = before_linked()
     first = made.get("gcc") or made.get("clang")
     return play.Programs(

@@ -22,7 +22,7 @@ CROSS = {
     "clang": ["clang", "--target=x86_64-linux-gnu"],
     "clang++": ["clang++", "--target=x86_64-linux-gnu"],
 }
-# What is made and unpacked; not below the root's target/, which 'rt ci' removes.
+# What is made and unpacked.
 MADE = ROOT / "tests" / "target" / "x86-64"
 UNPACKED = MADE / "rust"
 
@@ -44,10 +44,10 @@ def said(words):
 
 @functools.cache
 def toolchain():
-    """The folder of the Rattle toolchain for this machine. 'rt doc' prints the path of a page in its docs/."""
+    """The folder of the Rattle toolchain for this machine. 'rt doc' prints the path of a page in the kit's folder."""
     if not shutil.which("rt"):
         raise Stop("rt is missing: install the Rattle toolchain and put its bin folder on PATH")
-    home = pathlib.Path(said(["rt", "doc"])).parent.parent
+    home = pathlib.Path(said(["rt", "doc"])).parent
     own = home / "on" / platform.machine() / "toolchain"
     return own if own.is_dir() else home / "toolchain"
 

@@ -19,38 +19,33 @@ from kit import ROOT, SECOND, Stop, build_second, run_tests, sgqtext
 # What sgq and the stand-ins call.
 COMMANDS = """sh cat chmod cp cut date dd dirname find flock grep head mkdir mktemp mv od readlink rm sed setsid sha256sum
 sleep sort touch tr""".split()
-CRATES = "lists:\nrules: lists io\nhost: rules\ndecide: rules libc\nsheet: rules libc\n"
-# As rt does: nothing is built where the stamp of the program is that of the sources; the verdict is read back from
-# target/log, so that an older one is taken where nothing can be written; what is being proved has a .say file there.
+CRATES = "lists:\nrules: lists io\nhost staticlib: rules\ndecide: rules log\nsheet: rules log\n"
+# As rt does: it is called in a crate's folder, names each crate that it begins to prove, and says nothing of one that is
+# unchanged; nothing is built where the stamp is that of the sources and of the program.
 RT = """#!/bin/sh
 case $1 in
 version) echo 'stand-in kit 7' && exit ;;
-doc) echo "$KIT/docs/START-HERE.md" && exit ;;
+doc) echo "$KIT/START-HERE.md" && exit ;;
 esac
+name=${PWD##*/} made=crates/${PWD##*/}/out/${PWD##*/}
+cd ../..
 echo called >>calls
 echo $$ >pid
 cat >/dev/null
-mkdir -p target/bin target/log target/stamp target/staticlib
-name=$2 made=target/bin/$2
-[ "$1" != staticlib ] || made=target/staticlib/lib$2.a
-for crate in lists rules $name; do echo failed >target/log/$crate.res; done
-echo proved >target/log/lists.res
-one() {
-    echo >target/log/rules.say
-    [ ! -e slow ] || until [ -e go ]; do sleep 0.05; done
-    [ ! -e meddle ] || echo changed >>crates/rules.rt
-    if [ -e broken ]; then echo 'rt: rules NOT PROVED (exit 1, 0 s)' && return; fi
-    echo proved >target/log/rules.res
-    echo kept >target/stamp/rules
-    sum=$(cat crates/* | sha256sum)
-    if [ "$(cat target/stamp/$name 2>/dev/null)" != "$sum" ]; then cp made.$name $made; fi
-    echo "$sum" >target/stamp/$name
-    echo proved >target/log/$name.res
-    echo "rt: $name proved"
-}
-one >target/log/rules.out 2>&1
-cat target/log/rules.out
-[ "$(cat target/log/$name.res)" = proved ]
+[ "$1" != lib ] || made=crates/$name/out/lib$name.a
+echo 'rt: chose --jobs 2 for rules'
+[ ! -e slow ] || until [ -e go ]; do sleep 0.05; done
+[ ! -e meddle ] || echo changed >>crates/rules.rt
+if [ -e broken ]; then
+    echo 'logic=not-proved' && echo 'rt: the library rules did not build, so nothing above it was checked'
+    exit 1
+fi
+echo kept >crates/rules/out/stamp
+echo 'logic=proved' && echo "rt: chose --jobs 2 for $name"
+sum() { cat crates/*.rt $made 2>/dev/null | sha256sum; }
+if [ "$(cat $made.stamp 2>/dev/null)" != "$(sum)" ]; then cp made.$name $made; fi
+sum >$made.stamp
+echo 'logic=proved'
 """
 # In place of the C compiler: what it links is the program below, and how often it did is counted.
 CC = """#!/bin/sh
@@ -114,6 +109,9 @@ class House:
         self.write("made.files", FILES.format(second=self.root / "made.decide"), 0o755)
         self.write("bin/cc", CC, 0o755)
         self.write("crates/rules.rt", "good\n")
+        for name in ("decide", "sheet"):
+            self.write(f"crates/{name}/src/main.rt", "")
+        self.write("crates/host/src/lib.rt", "")
         self.write("crates.txt", CRATES)
         self.write(".ci/run", "#!/bin/sh\necho tested\nexit 7\n", 0o755)
         for command in COMMANDS:
@@ -818,7 +816,7 @@ def test_gone(tally, house):
     hold(tally, "nothing was proved", house.calls() == calls, "rt was called")
     house.remove("target/bin/decide", "target/sgq/decide", "target/sgq/decide.proved")
     check(tally, "a program that is gone for good", house.sgq("decide", "example.sgq"), 0, expected("example"))
-    kept = (house.root / "target" / "stamp" / "rules").exists()
+    kept = (house.root / "crates" / "rules" / "out" / "stamp").exists()
     hold(tally, "it is built by rt", kept and house.calls() == calls + 1, f"rt was called {house.calls() - calls} times")
 
 
@@ -850,7 +848,7 @@ def test_room(tally, house):
         check(tally, "not proved, in a folder of another", ended, 2, said="cannot be written, so nothing was", lines=1)
         hold(tally, "nothing is proved there", house.calls() == calls, "rt was called")
     house.remove("broken")
-    for name in ("log", "bin"):  # a part of it suffices
+    for name in ("staticlib", "bin"):  # a part of it suffices
         (house.root / "target").rename(house.root / "put-aside")
         house.write(f"target/{name}", "in the way")
         ended = house.sgq("decide", "example.sgq")
@@ -982,25 +980,26 @@ def test_machine(tally, house):
 
 # With rt itself.
 
-FIRST = "ghost use mathlib.Core.Path.{_≡_};\n\npub fn seven() -> usize\n    ensures { λ r. ⌜ r ≡ 7 ⌝ }\n{\n    7\n}\n"
+# With a line that no other run has: rt takes what it has proved of the same crate in another folder of this machine.
+FIRST = f"// Crate of the run {time.time_ns()}.\n" + "#![tactic(auto)]\nghost use Rattle.std.specs.Prelude.{◌≡◌};\n\npub fn seven() -> usize\n    ensures { result ≡ 7 }\n{\n    7\n}\n"
 
 
 def test_rt(tally, house):
-    """What is assumed of rt: its verdict, its logs, its stamps, and where the programs are that it builds."""
+    """What is assumed of rt: its verdict, what it says, that it proves only what changed, and where the programs are that it builds."""
     house.environment = dict(os.environ)
     shutil.rmtree(house.root / "crates")
     shutil.rmtree(house.root / "target")
     house.write("crates.txt", "first:\ndecide: first\n")
     house.write("crates/first/src/lib.rt", FIRST)
-    house.write("crates/decide/src/main.rt", "fn main() {}\n")
+    house.write("crates/decide/src/main.rt", "#![tactic(auto)]\nfn main() {}\n")
     check(tally, "rt proves", house.sgq("decide", "example.sgq"), 0, said="all 2 crates are proved")
     log = house.root / "target" / "sgq" / "log"
-    hold(tally, "rt's words", "rt: first proved" in log.read_text() and "rt: ok, 2 crates" in log.read_text())
-    house.remove("target/bin/decide", "target/sgq/decide")
+    hold(tally, "rt's words", log.read_text().count("\nlogic=proved ") == 2, log.read_text())
+    named = re.findall(r"^rt: chose --jobs \d+ for (\w+)$", log.read_text(), re.M)
+    house.remove("target/bin/decide", "target/sgq/decide", "crates/decide/out/decide")
     check(tally, "rt builds again", house.sgq("decide", "example.sgq"), 0, said="all 2 crates are proved")
-    hold(tally, "rt proves no other", "rt: first proved (unchanged" in log.read_text(), log.read_text())
-    left = [(house.root / "target" / "log" / f"{name}.say").exists() for name in ("first", "decide")]
-    hold(tally, "rt's logs", left == [False, True], f"a .say file: {left}")
+    hold(tally, "rt proves no other", " for first\n" not in log.read_text(), log.read_text())
+    hold(tally, "rt's logs", named == ["first", "decide"], f"it named {named}")
     house.write("crates/first/src/lib.rt", FIRST.replace("    7\n", "    8\n"))
     with unwritable(house) as other:
         ended = house.sgq("decide", "example.sgq", **other)

@@ -1,11 +1,12 @@
 #!/usr/bin/env python3
-"""What the checks take: from what rt printed to a table, and to the README.
+"""What the gate did and how long it took: from what rt printed to a table, and to the README.
 
     python3 tools/times.py LOG SECONDS    LOG is what 'rt ci' printed, SECONDS what all of .ci/run took. Writes target/times.txt, with a
                                           line for each crate and each must-fail edit and one for the whole, and prints a table of it
-    python3 tools/times.py --mend         takes the README's column 'Check' and its minutes from target/times.txt
+    python3 tools/times.py --mend         takes the README's minutes of the whole from target/times.txt
 
-.ci/run does the first at its end. Nothing is held to an earlier time: they differ from run to run.
+.ci/run does the first at its end. rt says of no crate how long it took, so the table has which crates were proved in this run and which an earlier
+one on this machine had proved, and the README's column 'Check' keeps the seconds of the kit that said so. Nothing is held to an earlier time.
 """
 import pathlib
 import re
@@ -14,57 +15,52 @@ import sys
 ROOT = pathlib.Path(__file__).resolve().parent.parent
 TIMES = ROOT / "target" / "times.txt"
 README = ROOT / "README.md"
-CRATE = re.compile(r"^rt: (\S+) proved \((\d+) s\)$", re.M)
-EDIT = re.compile(r"^rt: must-fail (\S+)/(\S+): .*?(\d+) s\)$", re.M)
-LONG = 15  # seconds; an edit should not take more
+CRATE = re.compile(r"^rt: (\w+) (proved|is kept|NOT PROVED)\b", re.M)
+TESTS = re.compile(r"^rt: (\w+): its tests are (proved|NOT PROVED)$", re.M)
+EDIT = re.compile(r"^rt: must-fail (\w+)/(\S+): (refused|BAD EDIT|NOT REFUSED|NOT TRIED)", re.M)
 
 
-def table(crates, edits):
-    """The lines of the table: of each crate its check, how many edits it has, what they take, and the longest."""
-    yield f"{'crate':<10} {'check':>5} {'edits':>5} {'all':>5} {'longest':>7}   seconds"
-    for crate, took in crates:
-        own = [(seconds, label) for name, label, seconds in edits if name == crate]
-        longest = f"{max(own)[0]:>7}   {max(own)[1]}" if own else ""
-        yield f"{crate:<10} {took:>5} {len(own):>5} {sum(seconds for seconds, _ in own):>5} {longest}".rstrip()
+def table(crates, tests, edits):
+    """The lines of the table: of each crate whether it was proved in this run, its tests, and what its edits came to."""
+    yield f"{'crate':<10} {'check':<10} {'tests':<10} {'refused':>7} {'other':>5}"
+    for crate, came in crates.items():
+        own = [to for name, _, to in edits if name == crate]
+        refused = own.count("refused")
+        yield f"{crate:<10} {came:<10} {tests.get(crate, ''):<10} {refused:>7} {len(own) - refused:>5}".rstrip()
 
 
 def take(log, whole):
     text = pathlib.Path(log).read_text()
-    crates = [(name, int(took)) for name, took in CRATE.findall(text)]
-    edits = [(name, label, int(took)) for name, label, took in EDIT.findall(text)]
+    crates, tests, edits = dict(CRATE.findall(text)), dict(TESTS.findall(text)), EDIT.findall(text)
     if not crates:
-        print(f"{log} has no line that says what a crate took")
+        print(f"{log} has no line that says what became of a crate")
         return 1
-    lines = [f"crate {name} {took}" for name, took in crates]
-    lines += [f"edit {name}/{label} {took}" for name, label, took in edits]
+    lines = [f"crate {name} {came}" for name, came in crates.items()]
+    lines += [f"edit {name}/{label} {to}" for name, label, to in edits]
     TIMES.parent.mkdir(exist_ok=True)
     TIMES.write_text("\n".join([*lines, f"whole {whole}", ""]))
-    print("\n".join(table(crates, edits)))
-    over = sum(took > LONG for _, _, took in edits)
-    print(f"{over} of {len(edits)} edits took more than {LONG} s; the whole took {whole} s")
+    print("\n".join(table(crates, tests, edits)))
+    new = sum(came != "is kept" for came in crates.values())
+    print(f"{new} of {len(crates)} crates were proved in this run; the whole took {whole} s")
     return 0
 
 
 def mend():
-    """Writes the times into the README; says what it has no place for, or no time."""
+    """Writes the minutes into the README, where all was proved in the run; else says why not."""
     if not TIMES.is_file():
         print("there is no target/times.txt: .ci/run writes it")
         return 1
-    lines = [line.split() for line in TIMES.read_text().splitlines()]
-    crates = {line[1]: int(line[2]) for line in lines if line[0] == "crate"}
+    lines = [line.split(maxsplit=2) for line in TIMES.read_text().splitlines()]
+    if any(line[0] == "crate" and line[2] != "proved" for line in lines):
+        print("not every crate was proved in that run: 'rt ci --anew' proves all")
+        return 1
     whole = next(int(line[1]) for line in lines if line[0] == "whole")
-    places = [(rf"^(\| crates/{name} \|.*\|) *\d* *(\|)$", took) for name, took in crates.items()]
-    places += [(r"(takes some) \S+ (minutes on two cores)", round(whole / 60))]
-    places += [(r"(all of them take some) \S+ (minutes on one core)", round(sum(crates.values()) / 60))]
-    text, lost = README.read_text(), []
-    for pattern, number in places:
-        text, found = re.subn(pattern, rf"\g<1> {number} \g<2>", text, flags=re.M)
-        lost += [pattern] * (found != 1)
-    untold = [name for name in re.findall(r"^\| crates/(\S+) \|", text, re.M) if name not in crates]
+    text, found = re.subn(r"(takes some) \S+ (minutes on two cores)", rf"\g<1> {round(whole / 60)} \g<2>", README.read_text())
+    if found != 1:
+        print("the README has no one place for the minutes")
+        return 1
     README.write_text(text)
-    for said in [f"the README has no one place for {pattern}" for pattern in lost] + [f"no time of {name}" for name in untold]:
-        print(said)
-    return 1 if lost or untold else 0
+    return 0
 
 
 def main():

@@ -1,5 +1,5 @@
 //! Finds the proved library to link: the archive that the environment variable `SGQ_LIB` names, or else
-//! target/staticlib/libhost.a of the repository around this package, where `rt staticlib host` writes it, or else the
+//! target/staticlib/libhost.a of the repository around this package, where `tools/build host` writes it, or else the
 //! archive that `make install` has installed and pkg-config knows.
 
 use std::env;
@@ -16,7 +16,7 @@ fn main() {
         Some(library) if library.is_file() => link(&library),
         lost => {
             let missing = lost.map_or(BUILT.into(), |library| library.display().to_string());
-            let help = "'rt staticlib host' in the repository writes target/staticlib/libhost.a, 'make install' installs it, or let SGQ_LIB name it";
+            let help = "'tools/build host' in the repository writes target/staticlib/libhost.a, 'make install' installs it, or let SGQ_LIB name it";
             println!("cargo::error=there is no {missing}: {help}");
         }
     }

@@ -107,7 +107,7 @@
 //! # Linking
 //!
 //! The build script links the archive that the environment variable `SGQ_LIB` names, or else target/staticlib/libhost.a
-//! of the repository around this package, which `rt staticlib host` writes, or else the one that `make install` has
+//! of the repository around this package, which `tools/build host` writes, or else the one that `make install` has
 //! installed and pkg-config knows. The library is for x86-64 Linux.
 //!
 //! # What is proved
