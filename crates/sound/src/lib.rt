@@ -1,4 +1,6 @@
 // Whether lent tables are sound, by the numbers in them. Functions for this repository's own crates.
+#![tactic(auto)]
+
 pub mod lengths; // counts in range, and tables long enough for them
 
 ghost use Rattle.std.specs.Prelude.{◌≡◌};
