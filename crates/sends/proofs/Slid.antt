@@ -10,8 +10,7 @@ use lib.Dec.{eqb}
 use lib.ListN.{length, get_or, set, take, drop, length-drop, get_or-eq_default}
 use lib.Seq.{take_all, get_or-drop, get_or-set_same, get_or-set_other, ext_get_or}
 use borrow.Author.Tests.{eqb-true, eqb-false}
-use Rattle.lists.specs.Lines.{whether}
-use Rattle.lists.specs.Tab.{tab, length-tab, get_or-tab, lt_or_le}
+use Rattle.lists.specs.Tab.{length-tab, get_or-tab, lt_or_le}
 use Rattle.lists.specs.Stores.{stores, length-stores}
 use Rattle.lists.specs.Parts.{closed, back, part_length, length_back, back_inside}
 use Rattle.rules.specs.Numbers.{down}

@@ -1,6 +1,8 @@
 // On a table that is known to be sound: a request goes by either phase, which limit tags the reservation phase lets pass, and when to wake the gate: where a place is
 // free and something waits, one more walk finds it. Beside the waiting rows stands their index, which follows them; one of no numbers is none, and the rows are walked
 // as without. For this repository's own crates, and no public call.
+#![tactic(auto)]
+
 ghost use Rattle.std.specs.Prelude.{◌≡◌, List, map, ℕ, ◌+◌, ◌-◌, ◌*◌, ◌≤◌, ◌<◌, max, eqb, length, if◌then◌else◌};
 ghost use Rattle.lists.specs.Words.{lowest};
 ghost use Rattle.rules.specs.Numbers.{ceiling, most_cost};
