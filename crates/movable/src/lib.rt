@@ -1,4 +1,6 @@
 // Whether a trace can be moved: its header, its events, what the other version can say, and the room. Functions for this repository's own crates.
+#![tactic(auto)]
+
 ghost use Rattle.std.specs.Prelude.{◌≡◌, ◌+◌, ◌≤◌, ◌<◌, length};
 ghost use Rattle.lists.specs.Words.{all};
 ghost use Rattle.lists.specs.Tab.{tab};
@@ -50,7 +52,7 @@ fn sooner_of(found: u64, here: bool, number: u64) -> u64
 }
 
 // The number of the first bad event and, where there is none, of the first arrival of another cost; 0 for none.
-#[derive(Drop)]
+#[derive(Clone, Copy)]
 pub struct Survey {
     pub bad: u64,
     pub dear: u64,

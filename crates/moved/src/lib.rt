@@ -5,7 +5,7 @@
 use rules::Refusal;
 
 // The answer of a move: so many bytes are written, or why it is refused and the number of the event that refused it, 0 where none did.
-#[derive(Drop)]
+#[derive(Clone, Copy)]
 pub enum Moved {
     Written(usize),
     Refused { why: Refusal, event: u64 },

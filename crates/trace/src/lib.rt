@@ -5,7 +5,7 @@
 use rules::{Event, Refusal};
 
 // What the header of a trace opens, or why it is refused.
-#[derive(Drop)]
+#[derive(Clone, Copy)]
 pub enum Header {
     Opened {
         version: u64,
@@ -18,7 +18,7 @@ pub enum Header {
 }
 
 // An event as its 14 bytes have it, or a bad one: refusal 14.
-#[derive(Drop)]
+#[derive(Clone, Copy)]
 pub enum Read {
     Good(Event),
     Bad,
