@@ -185,7 +185,9 @@ def test_shaky(check, folder, trace, right, cut):
     check("the same with a cut last event", ended(check.run(library=library), trace[:-3]), "", cut, whole=True)
 
 
-# What the proofs cannot see: C is called from crates/port alone, and the count of what was read and written is only ever lent on.
+# What the proofs cannot see: std reads and writes for crates/port alone, and the count of what was read and written is only ever lent on.
+
+CALLS = ("std::io", "std::fs", "stdin()", "stdout()", "reader()", "writer(", "print!", "println!")
 
 
 def test_source(tally):
@@ -203,6 +205,8 @@ def test_source(tally):
         tally.add(f"{name} calls no C", f"it stands on {wrong}" if wrong else None)
         for path in sorted((ROOT / "crates" / name / "src").glob("*.rt")):
             code = "".join(line.split("//")[0] for line in path.read_text().splitlines(keepends=True))
+            wrong = [word for word in CALLS if word in code]
+            tally.add(f"{name}/src/{path.name} reads and writes by others alone", f"it has {wrong}" if wrong else None)
             tally.add(f"{name}/src/{path.name} only lends the count on", "it has '*log'" if "*log" in code else None)
             if name not in PROGRAMS:
                 tally.add(f"{name}/src/{path.name} starts no count", "it has 'start()'" if "start()" in code else None)
