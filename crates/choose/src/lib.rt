@@ -1,5 +1,7 @@
 // The choice on a table that is known to be sound: one walk over the waiting rows finds what each phase would send, or, where an index stands beside them, a look at
 // the first row of each guest. For this repository's own crates, and no public call.
+#![tactic(auto)]
+
 ghost use Rattle.std.specs.Prelude.{◌&&◌, ◌*◌, ◌≤◌, ◌<◌, leb, length};
 ghost use Rattle.rules.specs.Numbers.{ceiling};
 ghost use Rattle.rules.specs.Tables.{Request, settings_of};
