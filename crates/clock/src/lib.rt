@@ -10,7 +10,7 @@ use tags::CEILING;
 
 // The clock: its time in nanoseconds, the last reading, and whether one was taken: 0 none yet, any other number taken.
 #[repr(C)]
-#[derive(Drop)]
+#[derive(Clone, Copy)]
 pub struct Clock {
     pub time: u64,
     pub last: u32,
@@ -19,14 +19,14 @@ pub struct Clock {
 
 // What a reading is told: 0 or the number of its refusal, and the clock's time, 0 in a refusal.
 #[repr(C)]
-#[derive(Drop)]
+#[derive(Clone, Copy)]
 pub struct Told {
     pub refusal: u64,
     pub time: u64,
 }
 
 // What a reading comes to: what is told, and the clock after it.
-#[derive(Drop)]
+#[derive(Clone, Copy)]
 struct Turn {
     told: Told,
     clock: Clock,

@@ -38,18 +38,7 @@ pub fn read(guests: &[Guest], at: usize) -> Guest
     requires { at < length guests.now }
     ensures { result ≡ get_or guests.now at blank }
 {
-    let guest = &guests[at];
-    Guest {
-        settings: Settings {
-            reservation: guest.settings.reservation,
-            limit: guest.settings.limit,
-            shares: guest.settings.shares,
-            credit: guest.settings.credit,
-        },
-        rnext: guest.rnext,
-        lnext: guest.lnext,
-        snext: guest.snext,
-    }
+    guests[at]
 }
 
 // The record at place `at` of the lent slice becomes `guest`.
