@@ -1,5 +1,7 @@
 // What an event does before the choice is made, on a table that is known to be sound: its refusals in their order, then what enters. For this
 // repository's own crates, and no public call. Soundness is shown once, where a table comes from, and kept by every event.
+#![tactic(auto)]
+
 ghost use Rattle.table.specs.View.{Known};
 ghost use Rattle.index.specs.Index.{Beside};
 ghost use Rattle.enter.specs.Enters.{Enters, EntersBeside};

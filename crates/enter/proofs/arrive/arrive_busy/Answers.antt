@@ -1,0 +1,42 @@
+-- `arrive::arrive_busy` meets its contract, by what its callees promise. Assumes nothing.
+use mathlib.Core.Path.{refl, sym, ◌∙◌}
+use mathlib.Core.Bool.{false}
+use native.Mathlib.Omega.{arith}
+use borrow.Author.Tests.{not-true, not-false}
+use Rattle.enter.proofs.ArriveReturns.{tags_ask, stamp_passes, ready_enters, placeable}
+use Rattle.enter.proofs.Settles.{busy_guests, busy_waiting}
+use Rattle.enter.proofs.Besides.{last_asks}
+use borrow.Author.Rules.{rules}
+use mathlib.Core.Bool.{not}
+use mathlib.Core.Path.{ap}
+use Rattle.enter.proofs.arrive.arrive_busy.Goals as goal
+
+pub tags_of-tags-requires : goal.tags_of-tags-requires
+tags_of-tags-requires c =
+    tags_ask c.args.gate c.args.guests.now c.args.waiting.now c.args.flight.now c.requires.known c.args.what c.args.time c.requires.ready false c.requires.guest_value
+
+pub returns-then-not-stamp_fits : goal.returns-then-not-stamp_fits
+returns-then-not-stamp_fits c =
+    let w = c.tags_of-tags in record {
+      enters = (stamp_passes c.args.gate c.args.guests.now c.args.waiting.now c.args.flight.now c.requires.known c.args.what c.args.time c.requires.ready false c.requires.guest_value w.result w.ensures (sym c.stamp_fits.ensures ∙ c.if-not-stamp_fits.true), refl, refl, refl);
+      enters_beside = c.requires.beside;
+    }
+
+pub place_last-requires : goal.place_last-requires
+place_last-requires c =
+    let w = c.tags_of-tags in
+    let fits = sym c.stamp_fits.ensures ∙ c.if-not-stamp_fits.false in record {
+      placeable = placeable c.args.gate c.args.guests.now c.args.waiting.now c.args.flight.now c.requires.known c.args.what c.args.time c.requires.ready false c.requires.guest_value w.result w.ensures fits refl c.args.guests.now c.args.waiting.now
+          (busy_guests c.args.gate c.args.guests.now c.args.waiting.now c.args.flight.now c.requires.known c.args.time) (busy_waiting c.args.gate c.args.guests.now c.args.waiting.now c.args.flight.now c.requires.known c.args.time);
+      waiting_lt_most_capacity = last_asks c.args.gate c.args.guests.now c.args.waiting.now c.args.flight.now c.requires.known c.args.what c.args.time c.requires.ready c.requires.beside;
+    }
+
+pub returns : goal.returns
+returns c =
+    let w = c.tags_of-tags in
+    let fits = sym c.stamp_fits.ensures ∙ c.if-not-stamp_fits.false in
+    let p = c.place_last.ensures in record {
+      enters = ready_enters c.args.gate c.args.guests.now c.args.waiting.now c.args.flight.now c.requires.known c.args.what c.args.time c.requires.ready false c.requires.guest_value w.result w.ensures fits refl c.args.guests.now c.args.waiting.now
+          (busy_guests c.args.gate c.args.guests.now c.args.waiting.now c.args.flight.now c.requires.known c.args.time) (busy_waiting c.args.gate c.args.guests.now c.args.waiting.now c.args.flight.now c.requires.known c.args.time) (omega arith) _ _ _ p.placed;
+      enters_beside = p.beside;
+    }
