@@ -1,7 +1,6 @@
 -- `enter` meets its contract, by what its callees promise: a completion and a tick leave the index. Assumes nothing.
 use Rattle.rules.specs.declared.Event.TheVariants.{Completion, Tick}
 use Rattle.enter.proofs.Besides.{beside_left, tick_leaves, out-leaves}
-use borrow.Author.Rules.{rules}
 use Rattle.enter.proofs.enter.Goals as goal
 
 pub arrive-requires : goal.arrive-requires

@@ -1,15 +1,11 @@
 -- `arrive::arrive` meets its contract, by what its callees promise. Assumes nothing.
 use mathlib.Core.Path.{refl, sym, ◌∙◌}
-use borrow.Author.Tests.{not-true, not-false}
 use Rattle.rules.specs.declared.Event.TheVariants.{Arrival}
 use Rattle.stamps.specs.Arrive.{Timely}
 use Rattle.enter.proofs.Judges.{arrival_names, unknown_guest, above_ceiling, before_last}
 use Rattle.enter.proofs.Arrivals.{arrival_costly, arrival_spread}
 use Rattle.enter.proofs.Settles.{waits-refused, own_repeated, own-waits, own-idle}
 use Rattle.enter.proofs.Besides.{own_asks}
-use borrow.Author.Rules.{rules}
-use mathlib.Core.Bool.{not}
-use mathlib.Core.Path.{ap}
 use Rattle.enter.proofs.arrive.arrive.Goals as goal
 
 pub returns-then-gate-what : goal.returns-then-gate-what

@@ -2,13 +2,9 @@
 use mathlib.Core.Path.{refl, sym, ◌∙◌}
 use mathlib.Core.Bool.{false}
 use native.Mathlib.Omega.{arith}
-use borrow.Author.Tests.{not-true, not-false}
 use Rattle.enter.proofs.ArriveReturns.{tags_ask, stamp_passes, ready_enters, placeable}
 use Rattle.enter.proofs.Settles.{busy_guests, busy_waiting}
 use Rattle.enter.proofs.Besides.{last_asks}
-use borrow.Author.Rules.{rules}
-use mathlib.Core.Bool.{not}
-use mathlib.Core.Path.{ap}
 use Rattle.enter.proofs.arrive.arrive_busy.Goals as goal
 
 pub tags_of-tags-requires : goal.tags_of-tags-requires

@@ -2,13 +2,9 @@
 use mathlib.Core.Path.{refl, sym, ◌∙◌}
 use mathlib.Core.Bool.{true}
 use native.Mathlib.Omega.{arith}
-use borrow.Author.Tests.{not-true, not-false}
 use Rattle.enter.proofs.ArriveReturns.{tags_ask, stamp_passes, move_passes, ready_enters, placeable}
 use Rattle.enter.proofs.Settles.{ends_fit, settle_asks, settled_guests, settled-waiting, move_past, move_within}
 use Rattle.enter.proofs.Besides.{ends_ask, last_asks, beside_settled}
-use borrow.Author.Rules.{rules}
-use mathlib.Core.Bool.{not}
-use mathlib.Core.Path.{ap}
 use Rattle.enter.proofs.arrive.arrive_idle.Goals as goal
 
 pub tags_of-tags-requires : goal.tags_of-tags-requires

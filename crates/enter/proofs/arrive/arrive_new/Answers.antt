@@ -2,7 +2,6 @@
 use mathlib.Core.Path.{refl, ◌∙◌}
 use Rattle.table.proofs.Facts.{flight_asks}
 use Rattle.enter.proofs.Settles.{flies-refused, full-refused, is_ready}
-use borrow.Author.Rules.{rules}
 use Rattle.enter.proofs.arrive.arrive_new.Goals as goal
 
 pub find_flight-found-requires : goal.find_flight-found-requires

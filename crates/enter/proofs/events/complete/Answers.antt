@@ -5,7 +5,6 @@ use Rattle.rules.specs.declared.Event.TheVariants.{Completion}
 use Rattle.enter.proofs.Judges.{completion_names, unknown_guest, above_ceiling, before_last}
 use Rattle.enter.proofs.EventReturns.{absent_is, out_asks, out_returns}
 use Rattle.table.proofs.Facts.{flight_asks}
-use borrow.Author.Rules.{rules}
 use Rattle.enter.proofs.events.complete.Goals as goal
 
 pub returns-then-gate-which : goal.returns-then-gate-which

@@ -2,7 +2,6 @@
 use mathlib.Core.Path.{refl}
 use Rattle.enter.proofs.Ticks.{tick_late, tick_early}
 use Rattle.enter.proofs.EventReturns.{tick_returns}
-use borrow.Author.Rules.{rules}
 use Rattle.enter.proofs.events.wait.Goals as goal
 
 pub returns-then-time-gt-CEILING : goal.returns-then-time-gt-CEILING

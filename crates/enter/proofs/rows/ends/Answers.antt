@@ -1,5 +1,4 @@
 -- `rows::ends` meets its contract: either way finds the same. Assumes nothing.
-use borrow.Author.Rules.{rules}
 use Rattle.enter.proofs.rows.ends.Goals as goal
 
 pub ends-requires : goal.ends-requires

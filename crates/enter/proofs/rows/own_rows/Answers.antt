@@ -1,6 +1,5 @@
 -- `rows::own_rows` meets its contract: either way finds the same. Assumes nothing.
 use native.Mathlib.Omega.{arith}
-use borrow.Author.Rules.{rules}
 use Rattle.enter.proofs.rows.own_rows.Goals as goal
 
 pub own_rows-requires : goal.own_rows-requires

@@ -1,7 +1,6 @@
 -- `rows::place_last` meets its contract: the index follows the row that is placed. Assumes nothing.
 use native.Mathlib.Omega.{arith}
 use Rattle.enter.proofs.Besides.{beside_placed}
-use borrow.Author.Rules.{rules}
 use Rattle.enter.proofs.rows.place_last.Goals as goal
 
 pub place-after-requires : goal.place-after-requires
