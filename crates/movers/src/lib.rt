@@ -1,4 +1,6 @@
 // The moves of a trace from version 1 to version 2, with rule 1, credit 0 and cost 1, and back: from a lent trace into lent room.
+#![tactic(auto)]
+
 ghost use Rattle.std.specs.Prelude.{◌≡◌, ◌<◌};
 ghost use Rattle.moved.specs.Moves.{moved_shown, moves};
 
