@@ -1,5 +1,7 @@
 // Document 02, K12: the salvage of a torn trace. The crate has no code: it stands for what is in specs/ and proofs/; `fates` says what becomes of one event, and
 // `saves` salvages a trace.
+#![tactic(auto)]
+
 use rules::Refusal;
 
 // The time of the last kept event, where one is kept.
