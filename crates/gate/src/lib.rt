@@ -1,9 +1,11 @@
 // What the public calls promise: open, arrive, complete and tick. The crate has no code: it stands for what is in specs/ and proofs/; `opens` and `calling` are the calls,
 // and `replies` has what they answer as numbers.
+#![tactic(auto)]
+
 use rules::Refusal;
 
 // What is found before a call moves anything: nothing stands against it, or a refusal.
-#[derive(Drop)]
+#[derive(Clone, Copy)]
 pub enum Judged {
     Good,
     Bad(Refusal),
@@ -12,7 +14,7 @@ pub enum Judged {
 // An answer as five numbers: the kind (0 nothing, 1 sent by reservation, 2 sent by weight, 3 refused), the guest and id sent, the refusal's
 // number, and when to wake the gate by a tick. What an answer does not have is 0, in a refusal the time to wake too.
 #[repr(C)]
-#[derive(Drop)]
+#[derive(Clone, Copy)]
 pub struct Reply {
     pub kind: u64,
     pub guest: u64,
