@@ -1,4 +1,6 @@
 // What becomes of one event: whether it is kept, and if not, the first reason that fits. Functions for this repository's own crates.
+#![tactic(auto)]
+
 ghost use Rattle.std.specs.Prelude.{◌≡◌, ◌≤◌, length, drop};
 ghost use Rattle.rules.specs.Events.{moment as moment_of};
 ghost use Rattle.salvage.specs.Fates.{from_time, from_last, by_time, by_read, fate_of, after as after_of};
