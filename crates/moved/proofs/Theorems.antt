@@ -1,4 +1,4 @@
--- THE MOVES: there and back gives the same bytes; a well_formed trace of version 1 goes up; the printed decisions stay; each answer and room is one only, and
+-- THE MOVES: there and back gives the same bytes; a well-formed trace of version 1 goes up; the printed decisions stay; each answer and room is one only, and
 -- room past the result is unchanged. Assumes nothing.
 use Prim.Native.Nat.{ℕ, ◌+◌, ◌*◌, ◌≤◌, ◌<◌}
 use mathlib.Core.Path.{◌≡◌, refl, sym, ap, ◌∙◌}

@@ -1,4 +1,4 @@
--- Every well_formed trace of version 1 goes up, given room: version 1 says rule 1, credit 0 and cost 1 only. Assumes nothing.
+-- Every well-formed trace of version 1 goes up, given room: version 1 says rule 1, credit 0 and cost 1 only. Assumes nothing.
 use Prim.Native.Nat.{ℕ, ◌≤◌, ◌<◌}
 use mathlib.Core.Path.{◌≡◌, refl, ap, ◌∙◌, subst}
 use mathlib.Core.Bool.{true}

@@ -43,7 +43,7 @@ pub record FirstEvent (P : ℕ → Type 0) (n e : ℕ) : Type 0 where
   pub so : P place
   pub none_before : (j : ℕ) → j < place → P j → ⊥
 
--- a trace that reading refuses nothing of, in plain facts: "well_formed"
+-- a trace that reading refuses nothing of, in plain facts: "well-formed"
 pub record WellFormed (version : ℕ) (bs : List ℕ) : Type 0 where
   pub header : NoneHolds (header_cases_for version version bs)
   pub events : (k : ℕ) → k < whole (event_bytes bs) → Faulty (version_of bs) (bytes_at bs k) → ⊥

@@ -1,4 +1,4 @@
--- Document 02, K9, the moves: "Both moves take a lent trace and lent room for the result, work on well_formed traces only, and write nothing when refused;
+-- Document 02, K9, the moves: "Both moves take a lent trace and lent room for the result, work on well-formed traces only, and write nothing when refused;
 -- room past the result is unchanged. Refusals: header faults, a trace of the wrong version being 12, then the first event with 14 or 15; 19, a version 2
 -- trace that has another rule, credit or cost cannot go back; 21, room too short, last". Words in quotes are K9's.
 use Rattle.std.specs.Prelude.{ℕ, ◌+◌, ◌%◌, Bool, true, false, not, ◌&&◌, List, [], ◌∷◌, ◌++◌, eqb, ltb, length, if◌then◌else◌}

@@ -10,7 +10,7 @@ use moved::Moved;
 
 mod writing; // the bytes of the result
 
-// Moves a trace from one version to another, where it is well_formed, can be said there and has room; else nothing is written.
+// Moves a trace from one version to another, where it is well-formed, can be said there and has room; else nothing is written.
 fn carry(trace: &[u8], from: u64, to: u64, room: &mut [u8]) -> Moved
     requires { to < 256 }
     ensures { (moved_shown result, room.new) ≡ moves from to trace.now room.old }

@@ -285,7 +285,7 @@ pub record OfTheSalvage : Type 0 where
       → salvages bs room list ≡ (0 ∷ length bs ∷ 0 ∷ [], sets room 0 bs, list)
   pub second_pass : (bs : List ℕ) → NoneHolds (header_cases bs) → (room list : List ℕ) → length (salvaged bs) ≤ length room
       → salvages (salvaged bs) room list ≡ (0 ∷ length (salvaged bs) ∷ 0 ∷ [], sets room 0 (salvaged bs), list)
-  -- what comes out is a well_formed trace of the same version, its events in the old order
+  -- what comes out is a well-formed trace of the same version, its events in the old order
   pub well_formed : (bs : List ℕ) → NoneHolds (header_cases bs) → WellFormed (version_of bs) (salvaged bs)
   pub old_order : (bs : List ℕ) → NoneHolds (header_cases bs) → InOrder (pieces (salvaged bs)) (pieces bs)
   pub salvaged_once : (bs room list : List ℕ) (a b : Salvaged) (xs ys zs ws : List ℕ) → (salvaged_shown a, xs, zs) ≡ salvages bs room list
@@ -380,7 +380,7 @@ pub record Promises : Type 0 where
   pub of-a-trace : OfATrace
   pub of_the_move_up : OfTheMoves 1 2
   pub of_the_move_back : OfTheMoves 2 1
-  -- K9: "work on well_formed traces only", and on each of version 1 that has room
+  -- K9: "work on well-formed traces only", and on each of version 1 that has room
   pub goes-up : (bs : List ℕ) (room : ℕ) → WellFormed 1 bs → length (moved_bytes 2 bs) ≤ room → judged (move_tests 1 2 bs room) ≡ accept
   pub of_the_salvage : OfTheSalvage
   pub of_the_judge : OfTheJudge

@@ -109,7 +109,7 @@ module _ (bs : List ℕ) (header : NoneHolds (header_cases bs)) where
       good-leaves t room list good-second (omega (arith, ap length e)) (omega (arith, ap length none))
       ∙ (λ i. (0 ∷ length (e i) ∷ length (rows-again i) ∷ [], sets room 0 (e i), sets list 0 (none i)))
 
-  -- THE RESULT is a well_formed trace of the same version
+  -- THE RESULT is a well-formed trace of the same version
   all_right : (k : ℕ) → k < events_in t → reason_at t k ≡ 0
   all_right = no_rows (version_of t) (event_bytes t) (events_in t) rows-again
 
