@@ -1,6 +1,8 @@
 // One event on a table that is known to be sound: it enters, then the choice is made; and, for who wants it, when to wake the gate then. For this
 // repository's own crates, and no public call. Soundness is shown once, where a table comes from, and kept by every step: nothing here tests it. So is the index of the
 // waiting rows, which stands beside them; one of no numbers is none, and every event walks the rows.
+#![tactic(auto)]
+
 ghost use Rattle.std.specs.Prelude.{◌≡◌, List, ℕ};
 ghost use Rattle.rules.specs.Run.{step as step_at};
 ghost use Rattle.rules.specs.Waking.{wake as wake_at};
