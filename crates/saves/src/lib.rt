@@ -1,5 +1,7 @@
 // The salvage of a torn trace: the good events of a lent trace go into lent room as a trace of the same version, and the number and the reason of each other one
 // into a lent list.
+#![tactic(auto)]
+
 ghost use Rattle.std.specs.Prelude.{◌≡◌, length};
 ghost use Rattle.rules.specs.Refusals.{judged};
 ghost use Rattle.salvage.specs.Salvages.{salvaged_shown, room_tests, leaves_by, salvages};
