@@ -1,4 +1,6 @@
 // Document 02, K5: many events in one call. The crate has no code: it stands for what is in specs/ and proofs/; `slots` reads and writes the rows, and `bulk` is the call.
+#![tactic(auto)]
+
 use gate::Judged;
 use rules::{Event, Gate};
 
