@@ -1,5 +1,7 @@
 // The public call that opens a gate over lent numbers, in rows of the widths of table::columns. It has no `requires`: it takes whatever it is handed. What it promises
 // is in crates/gate/specs/Promise.antt.
+#![tactic(auto)]
+
 ghost use Rattle.std.specs.Prelude.{◌≡◌};
 ghost use Rattle.gate.specs.Promise.{seen, opened};
 ghost use Rattle.gate.specs.Judges.{JudgesOpening, fresh_gate, not_opened};

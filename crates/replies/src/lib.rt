@@ -1,4 +1,6 @@
 // What a call answers, as five numbers: what a host in C gets, and what a batch writes for each event. Functions for this repository's own crates.
+#![tactic(auto)]
+
 ghost use Rattle.std.specs.Prelude.{◌≡◌};
 ghost use Rattle.gate.specs.Replies.{kind_of, fifth_of, reply_of};
 
