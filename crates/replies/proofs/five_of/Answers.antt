@@ -2,7 +2,6 @@
 use mathlib.Core.Path.{sym, ap, ◌∙◌}
 use Rattle.rules.specs.declared.Answer.{Answer}
 use Rattle.gate.specs.Replies.{reply_of}
-use borrow.Author.Rules.{rules}
 use Rattle.replies.proofs.five_of.Goals as goal
 
 pub returns-in-Nothing : goal.returns-in-Nothing
