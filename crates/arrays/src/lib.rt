@@ -1,6 +1,8 @@
 // Houses with several arrays (document 02, K14): a guest spread over up to 8 of them, each with a gate of its own. For each guest and array it is counted what
 // the house did for the guest since its last request to that array, and the gate there is handed it with the next one. Stands on the promises of the gate's calls
 // alone. The crate has no code: it stands for what is in specs/ and proofs/; `house` has the calls.
+#![tactic(auto)]
+
 use rules::Flight;
 
 // Which array a call names, counted from 0, and of how many.
