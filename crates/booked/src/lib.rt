@@ -1,4 +1,6 @@
 // One event on the book and the figures as numbers: noted, counted, struck. Functions for this repository's own crates.
+#![tactic(auto)]
+
 ghost use Rattle.std.specs.Prelude.{◌≡◌, ◌+◌, ◌^◌, ◌≤◌, ◌<◌, length};
 ghost use Rattle.rules.specs.Choice.{choice};
 ghost use Rattle.rules.specs.declared.Event.TheVariants.{Arrival};
