@@ -1,6 +1,5 @@
 use native.Mathlib.Omega.{arith}
 use Rattle.opens.proofs.OpenReturns.{counts_bad, rule_bad, list_short, tables_short, settings_bad, opening-good, known_few}
-use borrow.Author.Rules.{rules}
 use mathlib.Core.Bool.{not}
 use mathlib.Core.Path.{ap}
 use Rattle.opens.proofs.judge_opening.Goals as goal

@@ -2,7 +2,6 @@
 use mathlib.Core.Path.{ap, ◌∙◌}
 use Rattle.rules.specs.declared.Gate.{Gate}
 use Rattle.table.specs.Does.{refusing}
-use borrow.Author.Rules.{rules}
 use Rattle.opens.proofs.not_opened.Goals as goal
 
 pub returns : goal.returns

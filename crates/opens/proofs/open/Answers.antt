@@ -1,5 +1,4 @@
 -- The function meets its contract, by what its callees promise. Assumes nothing.
-use borrow.Author.Rules.{rules}
 use native.Mathlib.Omega.{arith}
 use Rattle.opens.proofs.OpenReturns.{not_opened_returns, open_room, opened_returns}
 use Rattle.opens.proofs.open.Goals as goal
