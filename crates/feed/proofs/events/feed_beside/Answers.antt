@@ -3,17 +3,11 @@ use Prim.Native.Nat.{ℕ, ◌*◌}
 use mathlib.Core.Path.{refl, sym, subst}
 use mathlib.Core.List.{List}
 use native.Mathlib.Omega.{arith}
-use lib.ListN.{length, take}
+use lib.ListN.{take}
 use Rattle.windows.proofs.Windows.{window_blank, window_long}
 use Rattle.windows.proofs.Longer.{open_asks, front_fits, front-known, front_long}
 use Rattle.feed.specs.Promise.{FedBy}
 use Rattle.feed.proofs.Staged.{fed_whole}
-use borrow.Author.Rules.{rules}
-use Rattle.feed.proofs.events.feed_beside.Reads as reads
-use Rattle.feed.proofs.events.feed_beside.Lts as lts
-use Rattle.feed.proofs.events.feed_in.Reads as feed-in-reads
-use Rattle.windows.proofs.close.Reads as close-reads
-use Rattle.windows.proofs.open.Reads as open-reads
 use Rattle.feed.proofs.events.feed_beside.Goals as goal
 
 pub open-requires : goal.open-requires

@@ -1,12 +1,11 @@
 -- `events::feed_in` meets its contract. The loop's invariant: the events so far were judged, and the table stands in the window with its index beside it. The measure is
 -- what is left of the events. Assumes nothing.
-use Prim.Native.Nat.{ℕ, ◌-◌, ◌*◌, ◌≤◌}
+use Prim.Native.Nat.{ℕ}
 use mathlib.Core.Path.{◌≡◌, refl, subst, ◌∙◌, sym}
 use mathlib.Core.List.{List}
 use native.Mathlib.Omega.{arith}
 use lib.ListN.{length}
 use Rattle.table.specs.View.{Known}
-use Rattle.windows.specs.Window.{spare, Window}
 use Rattle.feed.proofs.Going.{Going}
 use Rattle.feed.proofs.Staged.{Stage, stage_none, stage_next}
 use Rattle.feed.proofs.events.feed_in.Goals as goal

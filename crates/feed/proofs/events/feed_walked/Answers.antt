@@ -6,10 +6,6 @@ use native.Mathlib.Omega.{arith}
 use lib.ListN.{length}
 use Rattle.windows.proofs.Windows.{window_whole, window_only}
 use Rattle.feed.specs.Promise.{FedBy}
-use borrow.Author.Rules.{rules}
-use Rattle.feed.proofs.events.feed_walked.Reads as reads
-use Rattle.feed.proofs.events.feed_walked.Lts as lts
-use Rattle.feed.proofs.events.feed_in.Reads as feed-in-reads
 use Rattle.feed.proofs.events.feed_walked.Goals as goal
 
 pub feed_in-made-requires : goal.feed_in-made-requires

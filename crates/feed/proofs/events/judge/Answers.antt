@@ -1,7 +1,6 @@
 -- `events::judge` meets its contract: a good event is the step, a bad one leaves all as it stood. Assumes nothing.
 use Rattle.index.proofs.Laws.{stands-refused}
 use Rattle.feed.proofs.Judging.{good-answers, bad_answers, bad_beside}
-use borrow.Author.Rules.{rules}
 use Rattle.feed.proofs.events.judge.Goals as goal
 
 pub step-requires : goal.step-requires

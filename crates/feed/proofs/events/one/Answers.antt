@@ -7,7 +7,6 @@ use Rattle.trace.proofs.EventLaws.{event_take}
 use Rattle.trace.proofs.Shown.{read-shown_once}
 use Rattle.index.proofs.Laws.{stands-kept}
 use Rattle.feed.proofs.Judging.{judged_by_lem}
-use borrow.Author.Rules.{rules}
 use Rattle.feed.proofs.events.one.Goals as goal
 
 pub judge-judged-requires : goal.judge-judged-requires

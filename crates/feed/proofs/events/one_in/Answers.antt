@@ -6,7 +6,6 @@ use lib.ListN.{length}
 use Rattle.table.specs.View.{Known}
 use Rattle.index.specs.Index.{Beside, Snug}
 use Rattle.windows.proofs.Windows.{window_long, window_stays}
-use borrow.Author.Rules.{rules}
 use Rattle.feed.proofs.events.one_in.Goals as goal
 
 pub one-requires : goal.one-requires
