@@ -1,4 +1,6 @@
 // The bytes that were read: their whole events are taken in, and what is left of a cut one moves to the front, for the next read to go on from. Functions for this repository's own crates.
+#![tactic(auto)]
+
 ghost use Rattle.std.specs.Prelude.{◌≡◌, ◌+◌, ◌-◌, ◌*◌, ◌≤◌, ◌<◌, ◌^◌, length, take, drop};
 ghost use Rattle.std.proofs.Math.Seq.{paste};
 ghost use Rattle.table.specs.View.{Known};
