@@ -1,5 +1,7 @@
 // Document 02, K10: which lines of another gate may stand for a trace, and what a judge of them answers. The crate has no code: it stands for what is in specs/ and
 // proofs/; `ties`, `hears` and `judges` are the judge.
+#![tactic(auto)]
+
 use rules::{Answer, Gate};
 
 // The number of the first line that is wrong, missing or surplus, the header line being 1, or 0 where all lines may stand; and what was due there, numbered as an
