@@ -6,14 +6,14 @@
 use rules::Flight;
 
 // Which array a call names, counted from 0, and of how many.
-#[derive(Drop)]
+#[derive(Clone, Copy)]
 pub struct Site {
     pub arrays: u64,
     pub array: u64,
 }
 
 // The request that an arrival brings: whose, its id, and its cost.
-#[derive(Drop)]
+#[derive(Clone, Copy)]
 pub struct Asking {
     pub guest: u64,
     pub id: u32,
@@ -21,7 +21,7 @@ pub struct Asking {
 }
 
 // What is asked at an array, and its time: a request arrives, one completes, or only time passes.
-#[derive(Drop)]
+#[derive(Clone, Copy)]
 pub enum Ask {
     Arrives(Asking, u64),
     Completes(Flight, u64),

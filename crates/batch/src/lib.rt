@@ -5,14 +5,14 @@ use gate::Judged;
 use rules::{Event, Gate};
 
 // An event as its row has it, or none: refusal 14.
-#[derive(Drop)]
+#[derive(Clone, Copy)]
 pub enum Read {
     Good(Event),
     Bad,
 }
 
 // The gate after a batch, and what was found before any of it was done: nothing, or why all of it is refused.
-#[derive(Drop)]
+#[derive(Clone, Copy)]
 pub struct Batched {
     pub gate: Gate,
     pub found: Judged,

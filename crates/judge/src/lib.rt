@@ -7,7 +7,7 @@ use rules::{Answer, Gate};
 // The number of the first line that is wrong, missing or surplus, the header line being 1, or 0 where all lines may stand; and what was due there, numbered as an
 // answer through C is: kind (4 where no line is due any more), guest, id and refusal.
 #[repr(C)]
-#[derive(Drop)]
+#[derive(Clone, Copy)]
 pub struct Judged {
     pub line: u64,
     pub kind: u64,
@@ -17,7 +17,7 @@ pub struct Judged {
 }
 
 // What was heard: the gate as the other one left it, the answer that our rules have there, and how many bytes the line has; 0 where it is wrong.
-#[derive(Drop)]
+#[derive(Clone, Copy)]
 pub struct Said {
     pub gate: Gate,
     pub answer: Answer,
