@@ -1,0 +1,26 @@
+-- What was found of the tables stays true, and the call is the step or the refusal. Assumes nothing.
+use Rattle.calling.proofs.Returns.{good-known, good_returns, bad_returns, good_stays, bad_stays, bad_beside, bad_stands}
+use Rattle.calling.proofs.numbers.follow.Goals as goal
+
+pub step_and_wake-requires : goal.step_and_wake-requires
+step_and_wake-requires c = record {
+  known = good-known c.args.gate c.args.guests.now c.args.waiting.now c.args.flight.now c.args.found c.requires.judges c.in-Good.is;
+  beside = c.requires.beside;
+}
+
+pub returns-in-Bad : goal.returns-in-Bad
+returns-in-Bad c =
+    rw (bad_stands c.args.gate c.args.guests.now c.args.waiting.now c.args.flight.now _ _ c.refused.ensures c.args.index.now) (record {
+      flight_after = bad_returns c.args.gate c.args.guests.now c.args.waiting.now c.args.flight.now c.args.found c.requires.judges c.args.event _ c.in-Bad.is _ c.refused.ensures;
+      judges_2 = bad_stays c.args.gate c.args.guests.now c.args.waiting.now c.args.flight.now c.args.found c.requires.judges _ _ c.refused.ensures;
+      beside_2 = bad_beside c.args.gate c.args.guests.now c.args.waiting.now c.args.flight.now _ _ c.refused.ensures _ c.requires.beside.0;
+    })
+
+pub returns-in-Good : goal.returns-in-Good
+returns-in-Good c =
+    let e = c.in-Good.is in
+    let o = c.step_and_wake.ensures in record {
+      flight_after = good_returns c.args.gate c.args.guests.now c.args.waiting.now c.args.flight.now c.args.found c.requires.judges c.args.event e _ o.flight_after;
+      judges_2 = good_stays c.args.gate c.args.guests.now c.args.waiting.now c.args.flight.now c.args.found c.requires.judges e _ _ _ _ o.known_2;
+      beside_2 = o.beside_2;
+    }
