@@ -1,5 +1,7 @@
 // One turn of the program `decide`: all whole events of the bytes that are there are judged and their lines written, then more bytes are read or the program ends.
 // Functions for this repository's own crates.
+#![tactic(auto)]
+
 ghost use Rattle.std.specs.Prelude.{◌≡◌, ◌+◌, ◌*◌, ◌^◌, ◌≤◌, ◌<◌, length, take, drop};
 ghost use Rattle.table.specs.View.{Known};
 ghost use Rattle.trace.specs.Printed.{lines, cut, printed};
