@@ -1,5 +1,7 @@
 // What the lines of another gate say that it did at one event: the line is heard, and the tables follow it, with the index of the waiting rows beside them; one of no
 // numbers is none, and the rows are walked. Functions for this repository's own crates.
+#![tactic(auto)]
+
 ghost use Rattle.std.specs.Prelude.{◌&&◌, List, ℕ, ◌+◌, ◌≤◌, ◌<◌, leb, length, drop};
 ghost use Rattle.rules.specs.Tables.{Request, settings_of};
 ghost use Rattle.rules.specs.Choice.{due_at, choice};

@@ -1,4 +1,6 @@
 // What a line of another gate says: which request it sends, among those that tie with the one that our rules pick. Functions for this repository's own crates.
+#![tactic(auto)]
+
 ghost use Rattle.std.specs.Prelude.{◌≡◌, List, ℕ, ◌+◌, ◌*◌, ◌≤◌, ◌<◌, length};
 ghost use Rattle.rules.specs.Chosen.{at};
 ghost use Rattle.rules.specs.declared.Answer.TheVariants.{Sent};
@@ -115,7 +117,7 @@ fn says_tied(
 }
 
 // The place of the request whose line was heard, and how many bytes its line has; 0 where none was.
-#[derive(Drop)]
+#[derive(Clone, Copy)]
 pub struct Told {
     pub place: usize,
     pub long: usize,
