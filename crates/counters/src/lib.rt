@@ -1,5 +1,7 @@
 // The counters of all arrays in one lent list: delta and rho for each guest at each array, a row each, array by array.
 // crates/arrays/specs/Counters.antt has their meaning. Functions for this repository's own crates.
+#![tactic(auto)]
+
 ghost use Rattle.std.specs.Prelude.{◌≡◌, ◌&&◌, ◌+◌, ◌*◌, ◌≤◌, ◌<◌, leb, length};
 ghost use Rattle.rules.specs.Numbers.{most_delta};
 ghost use Rattle.arrays.specs.Counters.{counter_wide, counter_at, good_counters, one_more, row_set, counted_row, counted_all, cleared_all};
