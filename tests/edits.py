@@ -5,8 +5,8 @@
     python3 tests/edits.py NAME ..      tries those of these crates
     python3 tests/edits.py --fit        only looks that each is still of the code: what it replaces stands there once
 
-They are in edits/CRATE/. The gate (.ci/run) does the last; a change of a crate that has some should do the second. Ends with
-'N passed, M failed'.
+They are in edits/CRATE/. A try begins with what `rt check` kept of the crate, so run that first. The gate (.ci/run) does the last; a change of
+a crate that has some should do the second. Ends with 'N passed, M failed'.
 """
 import pathlib
 import re
@@ -48,10 +48,32 @@ def fit():
     return len(edits) - failed, failed
 
 
+def below(names):
+    """These crates and those that they stand on, by crates.txt."""
+    stands = {}
+    for line in (ROOT / "crates.txt").read_text().splitlines():
+        if ":" in line.partition("#")[0]:
+            name, _, on = line.partition("#")[0].partition(":")
+            stands[name.split()[0]] = on.split()
+    found, ahead = set(), list(names)
+    while ahead:
+        name = ahead.pop()
+        if name in stands and name not in found:
+            found.add(name)
+            ahead += stands[name]
+    return found
+
+
 def copy_with(edits, folder):
-    """The crates with these edits in the place of their own. rt begins with what it has proved of the same crates here."""
+    """The crates, what rt check kept of those that are needed, and these edits in the place of their own."""
+    needed = below(edit.parent.name for edit in edits)
+
+    def left(path, names):
+        path = pathlib.Path(path)
+        return [name for name in names if name == "must-fail" or name == "out" and path.parent == CRATES and path.name not in needed]
+
     shutil.copy(ROOT / "crates.txt", folder)
-    shutil.copytree(CRATES, folder / "crates", ignore=shutil.ignore_patterns("must-fail", "out"))
+    shutil.copytree(CRATES, folder / "crates", ignore=left)
     for edit in edits:
         own = folder / "crates" / edit.parent.name / "must-fail"
         own.mkdir(exist_ok=True)
