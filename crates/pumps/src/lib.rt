@@ -1,4 +1,6 @@
 // The events are judged and their lines written, a buffer at a turn, until no more bytes come. Functions for this repository's own crates.
+#![tactic(auto)]
+
 ghost use Rattle.std.specs.Prelude.{◌≡◌, true, false, ◌≤◌, length, take};
 ghost use Rattle.table.specs.View.{Known};
 ghost use Rattle.feed.specs.Promise.{place_of};
