@@ -1,5 +1,7 @@
 // By which phase each request in flight at an array was sent: a lent number beside each place of its flight table.
 // crates/arrays/specs/Phases.antt has their meaning. Functions for this repository's own crates.
+#![tactic(auto)]
+
 ghost use Rattle.std.specs.Prelude.{◌≡◌, [], ◌+◌, ◌*◌, ◌≤◌, ◌<◌, length, get_or};
 ghost use Rattle.rules.specs.Tables.{same};
 ghost use Rattle.table.specs.Columns.{flight_wide};
