@@ -1,4 +1,6 @@
 // The beginning of a trace: the tables are opened as its header says, and the bytes of the events move to the front.
+#![tactic(auto)]
+
 ghost use Rattle.std.specs.Prelude.{◌≡◌, ◌≤◌, length, take};
 ghost use Rattle.rules.specs.Run.{fresh};
 ghost use Rattle.table.specs.View.{table_of};
