@@ -1,5 +1,7 @@
 // What is judged before the gate is asked, and before it is opened: the arrays, the gate's counts, the lent counters and phases, the guest, the array named.
 // crates/arrays/specs/Promise.antt has the order. Functions for this repository's own crates.
+#![tactic(auto)]
+
 ghost use Rattle.std.specs.Prelude.{◌≡◌, [], ◌∷◌, ◌≤◌, leb};
 ghost use Rattle.rules.specs.Numbers.{within};
 ghost use Rattle.rules.specs.Refusals.{judged};
