@@ -1,6 +1,8 @@
 // Many events in one call: each answered in its place of a lent buffer, exactly as if they came one by one. The lent tables are tested once for all of
 // them; where it pays, the waiting rows are copied once into a window and their index is built once for all of them. No `requires`: any value of any number, any
 // length of any slice. What it promises is in crates/batch/specs/Promise.antt.
+#![tactic(auto)]
+
 ghost use Rattle.std.specs.Prelude.{◌≡◌, true, List, ℕ, ◌+◌, ◌*◌, ◌≤◌, ◌<◌, length};
 ghost use Rattle.table.specs.Columns.{waiting_wide};
 ghost use Rattle.table.specs.View.{Known};
@@ -49,7 +51,7 @@ fn answer(
 }
 
 // The gate after a row, and how many rows further back the waiting table stands.
-#[derive(Drop)]
+#[derive(Clone, Copy)]
 struct After {
     gate: Gate,
     gone: usize,
@@ -121,7 +123,7 @@ fn answer_row_in(
 }
 
 // The gate after the last row, and the row of the window from which on the waiting table stands.
-#[derive(Drop)]
+#[derive(Clone, Copy)]
 struct Ended {
     gate: Gate,
     start: usize,
