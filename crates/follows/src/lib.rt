@@ -1,5 +1,7 @@
 // What follows once a call is judged: the gate is asked, and what it accepts is counted and noted. What has to be known of the tables as they stood is read before the
 // gate is asked. Functions for this repository's own crates.
+#![tactic(auto)]
+
 ghost use Rattle.std.specs.Prelude.{◌≡◌};
 ghost use Rattle.rules.specs.Refusals.{accept, judged};
 ghost use Rattle.arrays.specs.declared.Ask.TheVariants.{Arrives, Completes, Ticks};
