@@ -1,5 +1,7 @@
 // What a C host hands over and gets back, as numbers: the gate is seven (depth, guests, capacity, time, waiting, flight, rule), the answer of a move or a salvage three.
 // Functions for this repository's own crates.
+#![tactic(auto)]
+
 ghost use Rattle.std.specs.Prelude.{◌≡◌};
 ghost use Rattle.gate.specs.Replies.{reply_of};
 ghost use Rattle.batch.specs.Promise.{found_of};
@@ -78,7 +80,7 @@ pub fn hand_over(seven: &mut [u64; 7], done: Batched) -> u64
 
 // What a move answers as three numbers: 0 or the number of its refusal, the bytes written, 0 when refused, and the number of the event that refused it, or 0.
 #[repr(C)]
-#[derive(Drop)]
+#[derive(Clone, Copy)]
 pub struct Carried {
     pub refusal: u64,
     pub written: u64,
@@ -108,7 +110,7 @@ pub fn three_of(done: Moved) -> Carried
 
 // What a salvage answers as three numbers: 0 or the number of its refusal, and the bytes and the rows written, 0 when refused.
 #[repr(C)]
-#[derive(Drop)]
+#[derive(Clone, Copy)]
 pub struct Mended {
     pub refusal: u64,
     pub bytes: u64,
