@@ -1,5 +1,7 @@
 // Reads a trace from standard input and prints what each of its events is answered. `main` makes the arrays. Each function is told by the count
 // `log` what was read and written before it, and promises what was after it: crates/prints/specs/Standing.antt. It reads and writes by `stream` alone.
+#![tactic(auto)]
+
 ghost use Rattle.std.specs.Prelude.{◌≡◌, ◌≤◌, length, take};
 ghost use Rattle.lines.specs.Line.{refusal_line};
 ghost use Rattle.port.specs.Tape.{Holds, blank};
