@@ -1,5 +1,7 @@
 // Whether the lines of another gate, which breaks ties between guests as it likes, are right for a trace: a function of the two, both lent, of any length.
 // Nothing is kept of either; the tables are of the gate's own size, and follow the other gate's choices.
+#![tactic(auto)]
+
 ghost use Rattle.std.specs.Prelude.{◌≡◌, ◌≤◌, length};
 ghost use Rattle.gate.specs.Replies.{four_of};
 ghost use Rattle.lines.specs.Line.{LINE};
