@@ -1,5 +1,7 @@
 // The calls at one of a house's arrays, over lent numbers: the counters of all arrays, and the gate, the tables and the phases of the one that is named. Any value of
 // any number, any length of any slice. What each promises is in crates/arrays/specs/Promise.antt.
+#![tactic(auto)]
+
 ghost use Rattle.std.specs.Prelude.{◌≡◌};
 ghost use Rattle.arrays.specs.declared.Ask.TheVariants.{Arrives, Completes, Ticks};
 ghost use Rattle.rules.specs.Refusals.{accept, judged};
