@@ -112,8 +112,8 @@ def test_closed_pipe(check, trace, right):
     output, heard, _ = closed_pipe(check, trace, 1000)
     check("a pipe that is closed after 1,000 bytes", (output, heard), WRITE + "Broken pipe", right)
     output, heard, status = closed_pipe(check, trace, 1000, preexec_fn=take_signal)
-    check("a closed pipe whose signal ends the program", (output, heard), "", right)
-    check.hold("its status", "it is 0" if status == 0 else None)
+    check("a closed pipe whose signal would end another program", (output, heard), WRITE + "Broken pipe", right)
+    check.hold("its status", None if status == 0 else f"it is {status}")
 
 
 def take_signal():
