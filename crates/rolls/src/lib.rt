@@ -1,4 +1,6 @@
 // The events turn the page, a buffer at a turn, until no more bytes come; then the sheet is written. Functions for this repository's own crates.
+#![tactic(auto)]
+
 ghost use Rattle.std.specs.Prelude.{◌≡◌, true, false, List, ℕ, ◌+◌, ◌*◌, ◌^◌, ◌≤◌, ◌<◌, length, take, drop};
 ghost use Rattle.table.specs.Columns.{waiting_wide};
 ghost use Rattle.index.specs.Index.{Beside, shifted, Snug};
