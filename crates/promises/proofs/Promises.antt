@@ -133,7 +133,7 @@ pub record OnTheRules : Type 0 where
   pub none_missed : (g : ℕ) (t : Table) (es : List Event) → sound t ≡ true → idle t g ≡ true → length (filter (own g) (passages es (answers t es))) ≡ length (left g (answers t es))
   pub credit_0 : (now : ℕ) (h : Guest) → h.settings.credit ≡ 0 → (idle : Bool) → share_tag idle now h ≡ (if idle then now else tag_at now h.snext)
   pub cost_1 : (es : List Event) (t : Table) → sound_plain t ≡ true → all costs_one t.waiting ≡ true → all brings_one es ≡ true → all one_and_one es ≡ true → SameRun t es
-  pub one_and_one_lem : (es : List Event) (t : Table) → sound_single t ≡ true → all one_and_one es ≡ true → SameRunSingle t es
+  pub one_and_one : (es : List Event) (t : Table) → sound_single t ≡ true → all one_and_one es ≡ true → SameRunSingle t es
   pub readings : Readings
   pub bursts : Bursts
   pub costs : Costs
@@ -167,7 +167,7 @@ pub record OverLent (v : Lending) (lawful : Lawful v) : Type 0 where
   pub opened_unread : (d n c rule : ℕ) (ss ts : List ℕ) (gs : List v.Cell) (ws fs : List ℕ) (hs : List v.Cell) (vs es : List ℕ) → take (n * settings_wide) ss ≡ take (n * settings_wide) ts
       → Alike v n c d gs ws fs hs vs es → Same v n c d (opened_in v d n c rule ss gs ws fs) (opened_in v d n c rule ts hs vs es)
   -- "Requests of one guest always leave in order of acceptance"
-  pub in_order_lem : (n : ℕ) (es : List Event) (h : Host v) → waits n (shows v h) ++ took n es (replies v h es) ≡ left n (replies v h es) ++ waits n (shows v (held v h es))
+  pub in_order : (n : ℕ) (es : List Event) (h : Host v) → waits n (shows v h) ++ took n es (replies v h es) ≡ left n (replies v h es) ++ waits n (shows v (held v h es))
   -- demand 3, under the gate's rule for limits
   pub demand_3 : (h : Host v) (es : List Event) → firm v h ≡ true → all narrow es ≡ true → (i : ℕ) → TurnKept (shows v h) i (free_replies v h es)
   pub no_place_no_send : (h : Host v) (e : Event) → firm v h ≡ true → taken (call v e h).0.answer ≡ true → finds e h.gate ≡ false → (call v e h).0.answer ≡ Nothing
@@ -217,7 +217,7 @@ pub record ThroughC : Type 0 where
   pub opened_once : (b c : Back) (seven : List ℕ) (d n m rule : ℕ) (ss gs ws fs : List ℕ) → b ≡ hosted seven (opened d n m rule ss gs ws fs) → c ≡ hosted seven (opened d n m rule ss gs ws fs) → b ≡ c
   pub four_once : (a b : Answer) → four_of a ≡ four_of b → a ≡ b
   pub fifth_once : (w x : Wake) → Timely w → Timely x → fifth_of w ≡ fifth_of x → w ≡ x
-  pub in_order_lem : (n : ℕ) (es : List Event) (h : Lent) → length h.seven ≡ 7
+  pub in_order : (n : ℕ) (es : List Event) (h : Lent) → length h.seven ≡ 7
       → (got : List Answer) × (fours h es ≡ map four_of got) × (waits n (shown_by h) ++ took n es got ≡ left n got ++ waits n (shown_by (held_by h es)))
   pub demand_3 : (h : Lent) (es : List Event) → length h.seven ≡ 7 → firm numbers (inside h) ≡ true → all narrow es ≡ true → (i : ℕ)
       → (got : List Answer) × (free_fours h es ≡ map four_of got) × TurnKept (shown_by h) i got
@@ -243,7 +243,7 @@ pub record OfATrace : Type 0 where
   pub rule_kept : (bs : List ℕ) (k : ℕ) → (table_at bs k).setup.rule ≡ rule_of bs
   pub rule_1 : (bs : List ℕ) → version_of bs ≡ 1 → (k : ℕ) → (table_at bs k).setup.rule ≡ 1
   pub no_credit : (bs : List ℕ) → version_of bs ≡ 1 → (k g : ℕ) → (owner (table_at bs k).guests g).settings.credit ≡ 0
-  pub in_order_lem : (g : ℕ) (bs : List ℕ) → accepted_ids g (reads_of (version_of bs) (event_bytes bs)) (answers_of bs) ≡ left g (answers_of bs) ++ waits g (table_at bs (whole (event_bytes bs)))
+  pub in_order : (g : ℕ) (bs : List ℕ) → accepted_ids g (reads_of (version_of bs) (event_bytes bs)) (answers_of bs) ≡ left g (answers_of bs) ++ waits g (table_at bs (whole (event_bytes bs)))
   pub demand_3 : (bs : List ℕ) → NoneHolds (header_cases bs) → (k : ℕ) → k ≤ whole (event_bytes bs) → (i : ℕ) → TurnKept (table_at bs k) i (free_from bs k)
   -- document 02, K11: what a limit is worth, from any event on
   pub worth : (bs : List ℕ) → NoneHolds (header_cases bs) → (k : ℕ) → k ≤ whole (event_bytes bs) → Worth (table_at bs k) (run (reads_of (version_of bs) (bytes_at bs k))) (answers_after bs k)
