@@ -1,5 +1,7 @@
 // Reads a trace from standard input and prints its sheet: a line for each guest. `main` makes the arrays. Each function is told by the count `log`
 // what was read before it, and promises what was after it: crates/pages/specs/Standing.antt. It reads and writes by `stream` alone, and writes at the end.
+#![tactic(auto)]
+
 ghost use Rattle.std.specs.Prelude.{◌≡◌, ◌≤◌, length, take};
 ghost use Rattle.lines.specs.Line.{refusal_line};
 ghost use Rattle.port.specs.Tape.{Holds, blank};
