@@ -1,5 +1,7 @@
 // What a C or Rust host links: the calls over numbers, under the names of include/sgq.h. The gate is seven numbers (depth, guests,
 // capacity, time, waiting, flight, rule), the answer five (kind, guest, id, refusal, wake). Each call takes whatever it is handed.
+#![tactic(auto)]
+
 mod clocks; // the reading of a short clock
 mod houses; // the calls at one of a house's arrays
 mod judging; // the judge of another gate's lines

@@ -1,0 +1,9 @@
+use Rattle.arrays.specs.declared.Ask.TheVariants.{Completes}
+use Rattle.hands.specs.Host.{site_at}
+use Rattle.hands.proofs.Returns.{asked-returned}
+use Rattle.host.proofs.houses.sgq_arrays_complete.Goals as goal
+
+pub returns : goal.returns
+returns c =
+    let a = c.args in
+    asked-returned (site_at a.arrays a.array) (Completes (record { guest = a.guest; id = a.id }) a.time) a.seven.now _ c.gate_in-gate.result c.gate_in-gate.ensures a.guests.now a.waiting.now a.flight.now a.counters.now a.phases.now c.hand_back.result (c.complete-outcome.result, _, _, _, _, _) c.complete-outcome.ensures c.hand_back.ensures.0 c.hand_back.ensures.1
