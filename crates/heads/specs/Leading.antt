@@ -1,22 +1,21 @@
 -- The choice of one phase, guest by guest: what is held after some guests, where the first row of each is looked at. A row goes before another by the smaller
 -- tag, and of equal tags by the earlier place: tag and place are one number here, 2,048 places to a tag. Assumes nothing.
-use Rattle.std.specs.Prelude.{ℕ, ◌+◌, ◌-◌, ◌*◌, ◌≤◌, ◌<◌, ◌≡◌, Bool, ◌&&◌, ◌||◌, List, ◌⊎◌, eqb, ltb, leb, if◌then◌else◌}
+use Rattle.std.specs.Prelude.{ℕ, ◌+◌, ◌-◌, ◌*◌, ◌≤◌, ◌<◌, ◌≡◌, Bool, ◌&&◌, ◌||◌, List, ◌⊎◌, eqb, ltb, if◌then◌else◌}
 use Rattle.std.proofs.Math.Path.{refl}
-use Rattle.std.proofs.Common.{sym, ap, ◌∙◌, inl, arith, eqb-true, ltb-true, ltb-false, leb-true, le-leb}
+use Rattle.std.proofs.Common.{sym, ap, ◌∙◌, inl, arith, eqb-true, ltb-true, ltb-false, leb-true}
 use Rattle.std.proofs.Math.Bool.{true, false}
 use Rattle.std.proofs.lemmas.Bool.{false≢true, eqb-false}
 use Rattle.std.proofs.Math.Logic.{inr}
 use Rattle.std.proofs.Math.ListN.{length}
-use Rattle.lists.specs.WordsLaws.{both, join}
 use Rattle.lists.specs.RowsLaws.{length-rows}
 use Rattle.rules.specs.Numbers.{ceiling}
 use Rattle.rules.specs.Tables.{Request}
 use Rattle.rules.specs.Chosen.{at}
 use Rattle.rules.proofs.Places.{least_at, least-none}
-use Rattle.table.specs.Columns.{RESERVATION, RTAG, LTAG, STAG, most_capacity, guest_at, waiting_at}
+use Rattle.table.specs.Columns.{RESERVATION, LTAG, most_capacity, guest_at, waiting_at}
 use Rattle.table.specs.View.{request_form, waiting_of}
 use Rattle.walks.specs.Walks.{Picks, Owned, Rising, Counts}
-use Rattle.walks.specs.WalksRows.{due_in, open_in, rtag_at_lem, stag_at, due_parts, due_is, open_at, due-behind, open_behind}
+use Rattle.walks.specs.WalksRows.{due_in, open_in, due_parts, open_at}
 use Rattle.walks.specs.declared.Found.TheVariants.{At, Nothing}
 use Rattle.index.specs.Index.{owner_of, Head, Leads}
 use Rattle.seeks.specs.Reads.{row_here, head_first, rising_on, guests_more}
@@ -94,24 +93,24 @@ module _ (ws : List ℕ) (count : ℕ) where
       module _ (few : count ≤ most_capacity) (capped : top ≤ ceiling) {j : ℕ} (here : j < count) (first : Head ws g 0 j) (t : ℕ) (b : Bool) (counts : Counts b (tag (at rows j)) t)
           (so : ok (at rows j) ≡ true → b ≡ true) (back : b ≡ true → tag (at rows j) ≤ top → ok (at rows j) ≡ true)
           (behind : (k : ℕ) → j < k → k < count → owner_of ws j ≡ owner_of ws k → ok (at rows k) ≡ true → (ok (at rows j) ≡ true) × (tag (at rows j) ≤ tag (at rows k))) where
-        -- so what does not go before the first goes before none of them
-        follows : (x : ℕ) → (ok (at rows j) ≡ true → x ≤ key t j) → (k : ℕ) → k < count → owner_of ws k ≡ g → ok (at rows k) ≡ true → x ≤ key (tag (at rows k)) k
-        follows x low k there own o = go (eqb j k) refl
-          where
-            go : (c : Bool) → eqb j k ≡ c → x ≤ key (tag (at rows k)) k
-            go true e =
-                let same = eqb-true j k e in
-                let fine : ok (at rows j) ≡ true = rw same o in
-                let q : tag (at rows j) ≡ tag (at rows k) = ap (λ (i : ℕ). tag (at rows i)) same in
-                omega (arith, low fine, counts_is b counts (so fine), same, q)
-            go false e =
-                let r = behind k (omega (arith, head_first first own, eqb-false j k e)) there (first.own ∙ sym own) o in
-                omega (arith, low r.0, counts_is b counts (so r.0), r.1, head_first first own)
-
         pub leading_look : Leading ok tag ws count top (g + 1) (nearer h j t)
         unfolding nearer
         leading_look = go (before h j t) refl
           where
+            -- so what does not go before the first goes before none of them
+            follows : (x : ℕ) → (ok (at rows j) ≡ true → x ≤ key t j) → (k : ℕ) → k < count → owner_of ws k ≡ g → ok (at rows k) ≡ true → x ≤ key (tag (at rows k)) k
+            follows x low k there own o = go (eqb j k) refl
+              where
+                go : (c : Bool) → eqb j k ≡ c → x ≤ key (tag (at rows k)) k
+                go true e =
+                    let same = eqb-true j k e in
+                    let fine : ok (at rows j) ≡ true = rw same o in
+                    let q : tag (at rows j) ≡ tag (at rows k) = ap (λ (i : ℕ). tag (at rows i)) same in
+                    omega (arith, low fine, counts_is b counts (so fine), same, q)
+                go false e =
+                    let r = behind k (omega (arith, head_first first own, eqb-false j k e)) there (first.own ∙ sym own) o in
+                    omega (arith, low r.0, counts_is b counts (so r.0), r.1, head_first first own)
+
             go : (c : Bool) → before h j t ≡ c → Leading ok tag ws count top (g + 1) (if c then record { place = j; tag = t } else h)
             go true e =
                 let l = before_less h j t (omega (arith, here, few)) e in
@@ -161,29 +160,6 @@ module _ (ws : List ℕ) (count : ℕ) where
               none j l true o =
                   let there : j < count = omega (arith, l, length-rows request_form ws count) in
                   absurd (omega (arith, all j l o, n.0, n.1, fits j there o, there))
-
--- BOTH PHASES
-
-module _ (gs ws : List ℕ) (known count time latest : ℕ) {g : ℕ} {h : Held} {j : ℕ} (few : count ≤ most_capacity) (early : time ≤ ceiling) (here : j < count) (first : Head ws g 0 j) (rising : Rising ws count) (t : ℕ) where
-  -- the reservation phase looks at a guest's first row
-  pub due_look : Owned ws count known → Leading (due_in gs known time latest) Request.rtag ws count time g h
-      → Counts (ltb 0 (guest_at gs g RESERVATION) && leb (waiting_at ws j LTAG) latest) (waiting_at ws j RTAG) t → Leading (due_in gs known time latest) Request.rtag ws count time (g + 1) (nearer h j t)
-  due_look owned w c =
-      leading_look ws count w few early here first t (ltb 0 (guest_at gs g RESERVATION) && leb (waiting_at ws j LTAG) latest) (rw (rtag_at_lem ws count j here) c)
-      (λ o. let p = due_parts ws count j here gs known time latest owned o in
-      join (rw first.own at p.0) (le-leb (waiting_at ws j LTAG) latest p.2))
-      (λ p l. let q = both (ltb 0 (guest_at gs g RESERVATION)) (leb (waiting_at ws j LTAG) latest) p in
-      due_is ws count j here gs known time latest owned (rw first.own q.0) (omega (arith, l, rtag_at_lem ws count j here)) (leb-true (waiting_at ws j LTAG) latest q.1))
-      (λ k l there own. due-behind ws count gs known time latest owned rising j k l there own)
-
-  -- the weight phase does
-  pub open_look : Leading (open_in time) Request.stag ws count ceiling g h → Counts (leb (waiting_at ws j LTAG) time) (waiting_at ws j STAG) t
-      → Leading (open_in time) Request.stag ws count ceiling (g + 1) (nearer h j t)
-  open_look w c =
-      leading_look ws count w few (omega arith) here first t (leb (waiting_at ws j LTAG) time) (rw (stag_at ws count j here) c)
-      (λ o. sym (open_at ws count j here time) ∙ o)
-      (λ p l. open_at ws count j here time ∙ p)
-      (λ k l there own. open_behind ws count time rising j k l there own)
 
 -- where the first row is barred, or there is none, no row of its guest goes
 module _ (gs ws : List ℕ) (known count time latest : ℕ) {g x : ℕ} (leads : Leads ws g 0 count x) (barred : (j : ℕ) → x ≡ j + 1 → Barred gs ws g j time) (rising : Rising ws count) where

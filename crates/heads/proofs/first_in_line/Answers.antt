@@ -8,7 +8,8 @@ use Rattle.walks.specs.Walks.{Owned}
 use Rattle.walks.specs.WalksRows.{due-tag, stag_at}
 use Rattle.index.specs.Index.{first_at, Head, Leads, Indexed}
 use Rattle.seeks.specs.Reads.{row_here}
-use Rattle.heads.specs.Leading.{leading_start, leading_none, leading_picks, due_look, open_look, due_barred, open_barred}
+use Rattle.heads.specs.Leading.{leading_start, leading_none, leading_picks, due_barred, open_barred}
+use Rattle.heads.proofs.Looks.{due_look, open_look}
 use Rattle.heads.proofs.first_in_line.Goals as goal
 use Rattle.heads.proofs.first_in_line.Goals.{then-number-gt0, else-number-gt0}
 
