@@ -51,6 +51,7 @@ fn eight(low: u32, high: u32) -> u64
 }
 
 // The event that its fields make. A trace is one array's: delta and rho are 1.
+#[tactic(auto, unfolding(trace::specs::Event::event_from))]
 fn event_from(kind: u8, upper: u8, guest: u64, id: u32, time: u64) -> Read
     ensures { result ≡ event_from kind upper guest id time }
 {

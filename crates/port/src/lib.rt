@@ -6,8 +6,12 @@ ghost use Rattle.std.specs.Prelude.{◌<◌, length};
 ghost use Rattle.tape.specs.Tape.{blank, Holds};
 ghost use Rattle.port.specs.Moves.{Goes, brought, took, Within};
 
-use std::io;
+use std::fmt;
 use std::io::{Error, ErrorKind, Print, Read, Write};
+
+mod line; // a line on standard error, in memory of its own
+
+use line::{LONGEST, Line};
 
 // More tries than any run uses up: nothing says that signals end.
 const TRIES: u64 = 281474976710656;
@@ -98,23 +102,16 @@ fn again(error: Error, streams: &mut Streams) -> bool {
     error.kind() == ErrorKind::Interrupted
 }
 
-// Says on standard error what could not be done, and why the last call failed.
+// Says on standard error what could not be done, and why the last call failed: a colon and the error's text, without the number that std puts behind it.
 pub fn complain(what: &[u8], streams: &Streams) {
-    let _said = say(what, streams);
-}
-
-// The line of `complain`: what could not be done, a colon and the error's text, without the number that std puts behind it.
-fn say(what: &[u8], streams: &Streams) -> io::Result<()> {
-    let error = Error::from_raw_os_error(streams.error);
-    let text = format!(in streams.rt.alloc(); "{error}")?;
-    let number = format!(in streams.rt.alloc(); " (os error {})", streams.error)?;
-    let reason = text
-        .as_str()
-        .strip_suffix(number.as_str())
-        .unwrap_or(text.as_str());
-    let out = streams.rt.stderr();
-    Print::write_all(&out, what)?;
-    Print::write_all(&out, b": ")?;
-    Print::write_all(&out, reason.as_bytes())?;
-    Print::write_all(&out, b"\n")
+    let mut line = Line {
+        bytes: [0; LONGEST],
+        len: 0,
+    };
+    line.put(what);
+    line.put(b": ");
+    let _told = fmt::Write::write(&mut line, Error::from_raw_os_error(streams.error));
+    line.cut_number();
+    line.end();
+    let _said = Print::write_all(&streams.rt.stderr(), line.shown());
 }

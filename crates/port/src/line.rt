@@ -1,0 +1,64 @@
+// A line on standard error, made in a buffer of its own, so that it can be said where no memory is left, and in one write.
+use std::fmt;
+
+// The bytes of the longest line; what is longer is cut.
+pub const LONGEST: usize = 512;
+
+// The line as far as it is made: the first `len` of the bytes.
+#[derive(Drop)]
+pub struct Line {
+    pub bytes: [u8; LONGEST],
+    pub len: usize,
+}
+
+impl Line {
+    // Puts these bytes behind the line, as far as they fit. A place is left for its end.
+    pub fn put(&mut self, text: &[u8]) {
+        for byte in text {
+            let at = self.len;
+            if at < LONGEST - 1 {
+                self.bytes[at] = *byte;
+                self.len = at + 1;
+            }
+        }
+    }
+
+    // Takes away the number that std puts behind an error's text, as in " (os error 5)".
+    pub fn cut_number(&mut self) {
+        let len = self.len;
+        let mut last = len;
+        for at in 0..LONGEST {
+            if at < len && self.bytes[at] == b'(' {
+                last = at;
+            }
+        }
+        if 0 < last && last < len {
+            self.len = last - 1;
+        }
+    }
+
+    // Ends the line.
+    pub fn end(&mut self) {
+        let at = self.len;
+        if at < LONGEST {
+            self.bytes[at] = b'\n';
+            self.len = at + 1;
+        }
+    }
+
+    // The line.
+    pub fn shown(&self) -> &[u8] {
+        if self.len <= LONGEST {
+            &self.bytes[..self.len]
+        } else {
+            &self.bytes[..0]
+        }
+    }
+}
+
+impl fmt::Write for Line {
+    fn write_str(&mut self, s: &str) -> fmt::Result {
+        self.put(s.as_bytes());
+        Ok(())
+    }
+}
