@@ -23,7 +23,7 @@ impl Line {
         }
     }
 
-    // Takes away the number that std puts behind an error's text, as in " (os error 5)".
+    // Takes away the number that std puts behind an error's text in brackets.
     pub fn cut_number(&mut self) {
         let len = self.len;
         let mut last = len;
