@@ -1,6 +1,6 @@
 -- The time to wake, guest by guest: what is held after some guests, where the first row of each is looked at. Assumes nothing.
-use Rattle.std.specs.Prelude.{ℕ, ◌+◌, ◌≤◌, ◌<◌, max, ◌≡◌, refl, List, map, ◌⊎◌}
-use Rattle.std.proofs.Common.{sym, ap, ◌∙◌, inl, inr, arith}
+use Rattle.std.specs.Prelude.{ℕ, ◌+◌, ◌≤◌, ◌<◌, min, max, ◌≡◌, refl, Bool, true, false, List, map, ◌⊎◌, ltb}
+use Rattle.std.proofs.Common.{sym, ap, ◌∙◌, inl, inr, arith, ltb-true, ltb-false}
 use Rattle.lists.specs.Words.{lowest}
 use Rattle.lists.specs.WordsLaws.{lowest-of, lowest_under}
 use Rattle.lists.specs.RowsLaws.{length-rows}
@@ -77,6 +77,20 @@ module _ (gs ws : List ℕ) (known count time rule : ℕ) where
             low = guests_more (λ k. first ≤ tag (at rows k)) ws count g w.low (λ k there own. omega (arith, l, no_earlier k there own));
             held = w.held;
           }
+
+      -- later: the smaller of its time and of those before it
+      pub woken_next : time < r → (first' : ℕ) → first' ≡ min first r → Woken gs ws known count time rule (g + 1) first'
+      woken_next e first' m =
+          record {
+            ahead = omega (arith, e, m, w.ahead);
+            low = guests_more (λ k. first' ≤ tag (at rows k)) ws count g (λ k there low. omega (arith, m, w.low k there low)) (λ k there own. omega (arith, m, no_earlier k there own));
+            held = go (ltb r first) refl w.held;
+          }
+        where
+          go : (b : Bool) → ltb r first ≡ b → (first ≡ ceiling + 1) ⊎ ((k : ℕ) × (k < count) × (tag (at rows k) ≡ first)) → (first' ≡ ceiling + 1) ⊎ ((k : ℕ) × (k < count) × (tag (at rows k) ≡ first'))
+          go true q old = inr (j, here, omega (arith, m, is_ready, ltb-true r first q))
+          go false q (inl n) = inl (omega (arith, m, n, ltb-false r first q))
+          go false q (inr (k, there, t)) = inr (k, there, omega (arith, m, t, ltb-false r first q))
 
   -- behind the last guest it is the time to wake
   pub woken_end : {g first : ℕ} → Woken gs ws known count time rule g first → known ≤ g → 0 < count → Owned ws count known → LimitsFit ws count → first ≡ max time (lowest (map tag rows))

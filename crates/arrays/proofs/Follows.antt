@@ -1,4 +1,5 @@
 -- What is handed back once a call is judged, from what the gate promises and what the functions do to counters and phases. Assumes nothing.
+use Rattle.std.specs.Prelude.{Err, Result}
 use Prim.Native.Nat.{ℕ, ◌*◌, ◌+◌, ◌-◌, ◌≤◌, ◌<◌}
 use mathlib.Core.Path.{◌≡◌, refl, sym, ap, ◌∙◌}
 use mathlib.Core.Bool.{Bool, true, false, not}
@@ -23,8 +24,6 @@ use Rattle.table.specs.Columns.{flight_wide}
 use Rattle.table.specs.View.{outcome_of, flights_of}
 use Rattle.gate.specs.Promise.{numbers, HandedIn, seen, called, opened}
 use Rattle.gate.specs.Judges.{not_opened}
-use Rattle.gate.specs.declared.Judged.{Judged}
-use Rattle.gate.specs.declared.Judged.TheVariants.{Bad}
 use Rattle.gate.proofs.Once.{seen_once}
 use Rattle.arrays.specs.declared.Site.{Site}
 use Rattle.arrays.specs.declared.Asking.{Asking}
@@ -51,7 +50,7 @@ module _ (s : Site) (g : Gate) (gs ws fs cs ps : List ℕ) (k j : Ask) (e : k �
 
 module _ (s : Site) (g : Gate) (gs ws fs cs ps : List ℕ) (k : Ask) where
   -- a refusal
-  pub ask_refused : (found : Judged) → verdict_of found ≡ judged (ask_tests s g cs ps k) → (r : Refusal) → found ≡ Bad r
+  pub ask_refused : (found : Result Unit Refusal) → verdict_of found ≡ judged (ask_tests s g cs ps k) → (r : Refusal) → found ≡ Err r
       → (o : Outcome) → o ≡ outcome_of g (Refused r) unsaid → (o, gs, ws, fs, cs, ps) ≡ asked s g gs ws fs cs ps k
   unfolding asked
   ask_refused found e r b o q =
@@ -187,7 +186,7 @@ module _ (s : Site) (g : Gate) (gs ws fs cs ps : List ℕ) (f : Flight) (now : �
 
 module _ (s : Site) (d n c rule : ℕ) (ss gs ws fs cs ps : List ℕ) where
   -- a refusal
-  pub open_refused : (found : Judged) → verdict_of found ≡ judged (opening_tests s d n c rule cs ps) → (r : Refusal) → found ≡ Bad r
+  pub open_refused : (found : Result Unit Refusal) → verdict_of found ≡ judged (opening_tests s d n c rule cs ps) → (r : Refusal) → found ≡ Err r
       → (o : Outcome) → o ≡ not_opened r → (o, gs, ws, fs, cs, ps) ≡ begun s d n c rule ss gs ws fs cs ps
   unfolding begun
   open_refused found e r b o q =

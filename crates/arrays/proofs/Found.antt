@@ -1,4 +1,5 @@
 -- What is found before the gate is asked or opened, and what is then known. Assumes nothing.
+use Rattle.std.specs.Prelude.{Ok, Err, Result}
 use Prim.Native.Nat.{ℕ, ◌*◌, ◌≤◌, ◌<◌}
 use mathlib.Core.Path.{◌≡◌, refl, sym, ap, ◌∙◌}
 use mathlib.Core.Bool.{Bool, true, false, not, ◌&&◌, false≢true}
@@ -20,8 +21,6 @@ use Rattle.rules.proofs.Judged.{passed, passed-behind}
 use Rattle.rules.proofs.Conditions.{counted_means}
 use Rattle.table.specs.Columns.{most_guests}
 use Rattle.table.specs.View.{countable}
-use Rattle.gate.specs.declared.Judged.{Judged}
-use Rattle.gate.specs.declared.Judged.TheVariants.{Good, Bad}
 use Rattle.arrays.specs.declared.Site.{Site}
 use Rattle.arrays.specs.declared.Asking.{Asking}
 use Rattle.arrays.specs.declared.Ask.{Ask}
@@ -59,12 +58,12 @@ few_rows m n h k = mul-le-mul h k
 
 module _ (s : Site) (g : Gate) (cs ps : List ℕ) where
   -- what is lent refuses, or the rest is judged
-  pub lent_bad : (k : Ask) (found : Judged) → verdict_of found ≡ judged (lent_tests s g cs ps) → (r : Refusal) → found ≡ Bad r → refuse r ≡ judged (ask_tests s g cs ps k)
+  pub lent_bad : (k : Ask) (found : Result Unit Refusal) → verdict_of found ≡ judged (lent_tests s g cs ps) → (r : Refusal) → found ≡ Err r → refuse r ≡ judged (ask_tests s g cs ps k)
   unfolding ask_tests
   lent_bad k found e r b = sym (judged_stops (lent_tests s g cs ps) (place_tests s g k) r (sym e ∙ ap verdict_of b))
 
-  pub lent-good : (k : Ask) (found : Judged) → verdict_of found ≡ judged (lent_tests s g cs ps) → found ≡ Good
-      → (j : Judged) → verdict_of j ≡ judged (place_tests s g k) → verdict_of j ≡ judged (ask_tests s g cs ps k)
+  pub lent-good : (k : Ask) (found : Result Unit Refusal) → verdict_of found ≡ judged (lent_tests s g cs ps) → found ≡ Ok tt
+      → (j : Result Unit Refusal) → verdict_of j ≡ judged (place_tests s g k) → verdict_of j ≡ judged (ask_tests s g cs ps k)
   unfolding ask_tests
   lent-good k found e b j h = h ∙ sym (judged-goes (lent_tests s g cs ps) (place_tests s g k) (sym e ∙ ap verdict_of b))
 

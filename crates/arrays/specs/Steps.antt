@@ -1,5 +1,5 @@
 -- What the functions of crates/counters, crates/phases and crates/sites do, one by one. Their own contracts, no promise of a public call.
-use Rattle.std.specs.Prelude.{ℕ, ◌+◌, ◌-◌, ◌*◌, max, ◌<◌, not, ◌&&◌, List, [], ◌∷◌, leb, length, get_or, set}
+use Rattle.std.specs.Prelude.{ℕ, ◌+◌, ◌-◌, ◌*◌, max, ◌<◌, not, ◌&&◌, List, [], ◌∷◌, leb, length, get_or, set, Ok, Err, Result}
 use Rattle.lists.specs.Lines.{line_at}
 use Rattle.lists.specs.Stores.{stores}
 use Rattle.rules.specs.Refusals.{Test, Verdict, accept, refuse}
@@ -11,20 +11,19 @@ use Rattle.rules.specs.declared.Arriving.{Arriving}
 use Rattle.rules.specs.declared.Flight.{Flight}
 use Rattle.table.specs.Columns.{flight_wide}
 use Rattle.table.specs.View.{flight_form, countable}
-use Rattle.gate.specs.declared.Judged.{Judged}
-use Rattle.gate.specs.declared.Judged.TheVariants.{Good, Bad}
 use Rattle.arrays.specs.declared.Site.{Site}
 use Rattle.arrays.specs.declared.Asking.{Asking}
 use Rattle.arrays.specs.Counters.{DELTA, RHO, counter_at, good_counters}
 use Rattle.arrays.specs.Phases.{phase_number, in_step}
 use Rattle.arrays.specs.Promise.{short_at, arrays_test, array_test}
+use Rattle.rules.specs.declared.Refusal.{Refusal}
 
 -- JUDGING
 
 -- what was found, as a verdict
-abbrev pub verdict_of : Judged → Verdict
-verdict_of Good = accept
-verdict_of (Bad r) = refuse r
+abbrev pub verdict_of : Result Unit Refusal → Verdict
+verdict_of (Ok _) = accept
+verdict_of (Err r) = refuse r
 
 -- the first tests of an event: of the arrays, the gate's counts, and what is lent beside its tables
 abbrev pub lent_tests : Site → Gate → (cs ps : List ℕ) → List Test

@@ -1,5 +1,6 @@
 -- `untouched` of a batch: what stands beyond the places that the settings need is after any number of events as it was, and no event reads it. For every way in
 -- which guests are lent, and whatever is handed in. Assumes nothing.
+use Rattle.std.specs.Prelude.{Ok, Some, None, Option}
 use Prim.Native.Nat.{ℕ}
 use mathlib.Core.Path.{◌≡◌, refl, sym, ap, ◌∙◌, subst}
 use mathlib.Core.List.{List, [], ◌∷◌}
@@ -10,12 +11,9 @@ use Rattle.rules.specs.declared.Outcome.{Outcome}
 use Rattle.gate.specs.Promise.{Lending, handed_in, followed_in, judged_in, called_in}
 use Rattle.gate.specs.Needs.{Beyond, Alike, Same}
 use Rattle.gate.specs.Calls.{Host, holds}
-use Rattle.gate.specs.declared.Judged.TheVariants.{Good as Accepted}
 use Rattle.gate.proofs.Lending.{Lawful}
 use Rattle.gate.proofs.Beyond.{chosen_sized, called_beyond}
 use Rattle.gate.proofs.Unread.{called_unread}
-use Rattle.batch.specs.declared.Read.{Read}
-use Rattle.batch.specs.declared.Read.TheVariants.{Good, Bad}
 use Rattle.batch.specs.Rows.{events_in, answers_over}
 use Rattle.batch.specs.Promise.{host_of, one, held_after, outcomes, batch_tests, batched_by, batched_in}
 
@@ -46,30 +44,30 @@ module _ (v : Lending) (lawful : Lawful v) (n c d : ℕ) where
       go accept = let z = chosen_sized v lawful g gs ws fs e in record { guests = z.guests ∙ s.guests; capacity = z.capacity ∙ s.capacity; depth = z.depth ∙ s.depth }
       go (refuse r) = s
 
-  pub one_set : (r : Read) (h : Host v) → SetTo n c d h.gate → SetTo n c d (one v r h).0.gate
-  one_set (Good e) h s = called-set e h.gate h.guests h.waiting h.flight s
-  one_set Bad h s = s
+  pub one_set : (r : Option Event) (h : Host v) → SetTo n c d h.gate → SetTo n c d (one v r h).0.gate
+  one_set (Some e) h s = called-set e h.gate h.guests h.waiting h.flight s
+  one_set None h s = s
 
   -- and what stands beyond
-  pub one_beyond : (r : Read) (h : Host v) → SetTo n c d h.gate → Beyond v n c d h.guests h.waiting h.flight (one v r h)
-  one_beyond (Good e) h s =
-      of_these (λ i j k. Beyond v i j k h.guests h.waiting h.flight (one v (Good e) h)) h.gate s (called_beyond v lawful e h.gate h.guests h.waiting h.flight)
-  one_beyond Bad h s = record { guest-length = refl; waiting-length = refl; flight_length = refl; guests = refl; waiting = refl; flight = refl }
+  pub one_beyond : (r : Option Event) (h : Host v) → SetTo n c d h.gate → Beyond v n c d h.guests h.waiting h.flight (one v r h)
+  one_beyond (Some e) h s =
+      of_these (λ i j k. Beyond v i j k h.guests h.waiting h.flight (one v (Some e) h)) h.gate s (called_beyond v lawful e h.gate h.guests h.waiting h.flight)
+  one_beyond None h s = record { guest-length = refl; waiting-length = refl; flight_length = refl; guests = refl; waiting = refl; flight = refl }
 
   -- which it does not read
-  one_unread : (r : Read) (h k : Host v) → k.gate ≡ h.gate → SetTo n c d h.gate → Alike v n c d h.guests h.waiting h.flight k.guests k.waiting k.flight
+  one_unread : (r : Option Event) (h k : Host v) → k.gate ≡ h.gate → SetTo n c d h.gate → Alike v n c d h.guests h.waiting h.flight k.guests k.waiting k.flight
       → Same v n c d (one v r h) (one v r k)
-  one_unread (Good e) h k p s a =
-      subst (λ (g : Gate). Same v n c d (one v (Good e) h) (called_in v e g k.guests k.waiting k.flight)) (sym p)
+  one_unread (Some e) h k p s a =
+      subst (λ (g : Gate). Same v n c d (one v (Some e) h) (called_in v e g k.guests k.waiting k.flight)) (sym p)
       (of_these
-      (λ x y z. Alike v x y z h.guests h.waiting h.flight k.guests k.waiting k.flight → Same v x y z (one v (Good e) h) (called_in v e h.gate k.guests k.waiting k.flight))
+      (λ x y z. Alike v x y z h.guests h.waiting h.flight k.guests k.waiting k.flight → Same v x y z (one v (Some e) h) (called_in v e h.gate k.guests k.waiting k.flight))
       h.gate s (called_unread v lawful e h.gate h.guests h.waiting h.flight k.guests k.waiting k.flight) a)
-  one_unread Bad h k p s a = record { outcome = λ i. (one v Bad (host_of v (sym p i) h.guests h.waiting h.flight)).0; needed = a }
+  one_unread None h k p s a = record { outcome = λ i. (one v None (host_of v (sym p i) h.guests h.waiting h.flight)).0; needed = a }
 
   -- ANY NUMBER OF EVENTS
 
   -- what they leave, beside any outcome: `Beyond` speaks of the tables alone
-  pub held_beyond : (rs : List Read) (h : Host v) (o : Outcome) → SetTo n c d h.gate
+  pub held_beyond : (rs : List (Option Event)) (h : Host v) (o : Outcome) → SetTo n c d h.gate
       → Beyond v n c d h.guests h.waiting h.flight (o, (held_after v h rs).guests, (held_after v h rs).waiting, (held_after v h rs).flight)
   unfolding held_after
   held_beyond [] h o s = record { guest-length = refl; waiting-length = refl; flight_length = refl; guests = refl; waiting = refl; flight = refl }
@@ -86,12 +84,12 @@ module _ (v : Lending) (lawful : Lawful v) (n c d : ℕ) where
       }
 
   -- two hosts that differ at most in what stands beyond: the events come to the same, and leave the same gate and the same at every place needed
-  pub record Unread (rs : List Read) (h k : Host v) : Type 0 where
+  pub record Unread (rs : List (Option Event)) (h k : Host v) : Type 0 where
     pub outcome : outcomes v h rs ≡ outcomes v k rs
     pub gate : (held_after v h rs).gate ≡ (held_after v k rs).gate
     pub needed : Alike v n c d (held_after v h rs).guests (held_after v h rs).waiting (held_after v h rs).flight (held_after v k rs).guests (held_after v k rs).waiting (held_after v k rs).flight
 
-  pub held_unread : (rs : List Read) (h k : Host v) → k.gate ≡ h.gate → SetTo n c d h.gate
+  pub held_unread : (rs : List (Option Event)) (h k : Host v) → k.gate ≡ h.gate → SetTo n c d h.gate
       → Alike v n c d h.guests h.waiting h.flight k.guests k.waiting k.flight → Unread rs h k
   unfolding held_after outcomes
   held_unread [] h k p s a = record { outcome = refl; gate = sym p; needed = a }
@@ -129,5 +127,5 @@ module _ (v : Lending) (lawful : Lawful v) (es : List ℕ) (g : Gate) (gs : List
           (b.0 ≡ k.0) × (b.4 ≡ k.4) × Alike v g.guests g.setup.capacity g.setup.depth b.1 b.2 b.3 k.1 k.2 k.3
       go accept =
           let u = held_unread v lawful g.guests g.setup.capacity g.setup.depth (events_in es) h (host_of v g hs vs ds) refl (set_to g) a in
-          (λ i. record { gate = u.gate i; found = Accepted }, λ i. answers_over (u.outcome i) bs, u.needed)
+          (λ i. record { gate = u.gate i; found = Ok tt }, λ i. answers_over (u.outcome i) bs, u.needed)
       go (refuse r) = (refl, refl, a)

@@ -1,5 +1,6 @@
 -- DEMAND 3 through batches: a waiting request whose reservation is due goes by reservation, after exactly those that stand before it, over any run of batches.
 -- Assumes nothing.
+use Rattle.std.specs.Prelude.{Some, None, Option}
 use Prim.Native.Nat.{ℕ}
 use mathlib.Core.Path.{◌≡◌, refl, ap, ◌∙◌}
 use mathlib.Core.Bool.{Bool, true, false, ◌&&◌}
@@ -16,28 +17,27 @@ use Rattle.gate.specs.Calls.{Host, holds, call, shows, firm, narrow, free_replie
 use Rattle.gate.proofs.Lending.{Lawful}
 use Rattle.gate.proofs.Demand3.{calls_demand_3_places}
 use Rattle.gate.proofs.Runs.{calls_run}
-use Rattle.batch.specs.declared.Read.{Read}
-use Rattle.batch.specs.declared.Read.TheVariants.{Good, Bad}
 use Rattle.batch.specs.Rows.{count_of, event_from, event_number, EVENT_KIND, EVENT_GUEST, EVENT_ID, EVENT_TIME, EVENT_COST, EVENT_DELTA, EVENT_RHO, event_at, events_in}
 use Rattle.batch.specs.Promise.{batch_tests}
 use Rattle.batch.specs.Batches.{goods, narrow_read, Batch, done_by, all_done, held_batches, free_answers}
 use Rattle.batch.proofs.OneByOne.{batches_as_calls}
+use Rattle.rules.specs.declared.Event.{Event}
 
 -- IDS
 
 -- what a row brings, by its tests
-abbrev brings : (guest id time cost delta rho : ℕ) → (short first free second third : Bool) → Read
+abbrev brings : (guest id time cost delta rho : ℕ) → (short first free second third : Bool) → Option Event
 brings guest id time cost delta rho a b f c d =
     if a
     then
-    if b then Good (Arrival (record { guest = guest; id = id; cost = cost; delta = delta; rho = rho }) time)
+    if b then Some (Arrival (record { guest = guest; id = id; cost = cost; delta = delta; rho = rho }) time)
     else if f
     then
-    if c then Good (Completion (record { guest = guest; id = id }) time)
-    else if d then Good (Tick time)
-    else Bad
-    else Bad
-    else Bad
+    if c then Some (Completion (record { guest = guest; id = id }) time)
+    else if d then Some (Tick time)
+    else None
+    else None
+    else None
 
 -- every id that a row brings has 32 bits
 from_narrow : (kind guest id time cost delta rho : ℕ) → narrow_read (event_from kind guest id time cost delta rho) ≡ true
@@ -58,9 +58,9 @@ from_narrow kind guest id time cost delta rho = go (ltb id 4294967296) refl
 pub events-narrow : (es : List ℕ) → all narrow_read (events_in es) ≡ true
 unfolding events_in
 events-narrow es =
-    places_all narrow_read (tab (count_of es) (event_at es)) Bad
+    places_all narrow_read (tab (count_of es) (event_at es)) None
     (λ k l.
-    ap narrow_read (get_or-tab (count_of es) (event_at es) k Bad (rw length-tab at l))
+    ap narrow_read (get_or-tab (count_of es) (event_at es) k None (rw length-tab at l))
     ∙ from_narrow (event_number es k EVENT_KIND) (event_number es k EVENT_GUEST) (event_number es k EVENT_ID) (event_number es k EVENT_TIME)
     (event_number es k EVENT_COST) (event_number es k EVENT_DELTA) (event_number es k EVENT_RHO))
 
@@ -76,11 +76,11 @@ unfolding all_done
 all-narrow [] = refl
 all-narrow (b ∷ bs) = all_append narrow_read (done_by b) (all_done bs) (done-narrow b) (all-narrow bs)
 
-goods-narrow : (rs : List Read) → all narrow_read rs ≡ true → all narrow (goods rs) ≡ true
+goods-narrow : (rs : List (Option Event)) → all narrow_read rs ≡ true → all narrow (goods rs) ≡ true
 unfolding goods
 goods-narrow [] n = refl
-goods-narrow (Good e ∷ rs) n = let c = both (narrow e) (all narrow_read rs) n in join c.0 (goods-narrow rs c.1)
-goods-narrow (Bad ∷ rs) n = goods-narrow rs n
+goods-narrow (Some e ∷ rs) n = let c = both (narrow e) (all narrow_read rs) n in join c.0 (goods-narrow rs c.1)
+goods-narrow (None ∷ rs) n = goods-narrow rs n
 
 -- the events of a run of batches bring ids of 32 bits
 pub batches_narrow : (bs : List Batch) → all narrow (goods (all_done bs)) ≡ true
@@ -90,11 +90,11 @@ batches_narrow bs = goods-narrow (all_done bs) (all-narrow bs)
 
 module _ (v : Lending) where
   -- the answers where a place is free are those of the calls
-  pub free_calls : (rs : List Read) (h : Host v) → free_answers v h rs ≡ free_replies v h (goods rs)
+  pub free_calls : (rs : List (Option Event)) (h : Host v) → free_answers v h rs ≡ free_replies v h (goods rs)
   unfolding free_answers free_replies goods
   free_calls [] h = refl
-  free_calls (Good e ∷ rs) h = rw (free_calls rs (holds v (call v e h)))
-  free_calls (Bad ∷ rs) h = free_calls rs h
+  free_calls (Some e ∷ rs) h = rw (free_calls rs (holds v (call v e h)))
+  free_calls (None ∷ rs) h = free_calls rs h
 
   module _ (lawful : Lawful v) where
     -- tables that are long enough and sound stay so

@@ -1,4 +1,5 @@
 -- What the loop over the rows keeps, turn by turn: what was found of the tables stays true, and the answers so far stand in their rows. Assumes nothing.
+use Rattle.std.specs.Prelude.{Result, Some, None, Option}
 use Prim.Native.Nat.{ℕ, suc, ◌+◌, ◌*◌, ◌≤◌}
 use mathlib.Core.Path.{◌≡◌, refl, sym, ap, ◌∙◌, subst}
 use mathlib.Core.List.{List, [], ◌∷◌, ◌++◌}
@@ -18,32 +19,30 @@ use Rattle.gate.specs.Promise.{numbers, HandedIn, seen, called}
 use Rattle.gate.specs.Calls.{Host, holds}
 use Rattle.gate.specs.Judges.{Judges}
 use Rattle.gate.specs.Replies.{reply_of}
-use Rattle.gate.specs.declared.Judged.{Judged}
 use Rattle.gate.specs.declared.Reply.{Reply}
 use Rattle.gate.proofs.Once.{seen_once}
-use Rattle.batch.specs.declared.Read.{Read}
-use Rattle.batch.specs.declared.Read.TheVariants.{Good, Bad}
 use Rattle.batch.specs.Rows.{count_of, event_at, events_in, answer_wide, row_of, line_of, lines_of}
 use Rattle.batch.specs.Promise.{host_of, one, held_after, outcomes}
 use Rattle.batch.specs.Turns.{turn, Ran}
 use Rattle.batch.proofs.Runs.{length-lines, lines_snoc, held_snoc, outcomes_snoc, length-outcomes}
+use Rattle.rules.specs.declared.Refusal.{Refusal}
 
 -- ONE EVENT
 
-module _ (g : Gate) (gs ws fs : List ℕ) (r : Read) where
+module _ (g : Gate) (gs ws fs : List ℕ) (r : Option Event) where
   abbrev here : Host numbers
   here = host_of numbers g gs ws fs
 
   -- an event is a call
-  pub good-one : (e : Event) → r ≡ Good e → (h : HandedIn numbers) → seen h ≡ seen (called e g gs ws fs) → h ≡ one numbers r here
-  good-one e p h q = seen_once h (called e g gs ws fs) q ∙ ap (λ (x : Read). one numbers x here) (sym p)
+  pub good-one : (e : Event) → r ≡ Some e → (h : HandedIn numbers) → seen h ≡ seen (called e g gs ws fs) → h ≡ one numbers r here
+  good-one e p h q = seen_once h (called e g gs ws fs) q ∙ ap (λ (x : Option Event). one numbers x here) (sym p)
 
   -- what is none is refused 14
-  pub bad_one : r ≡ Bad → (o : Outcome) → o ≡ refusing BadEvent g → ◌≡◌ {A = HandedIn numbers} (o, gs, ws, fs) (one numbers r here)
-  bad_one p o q = ap (λ (x : Outcome). (x, gs, ws, fs)) q ∙ ap (λ (x : Read). one numbers x here) (sym p)
+  pub bad_one : r ≡ None → (o : Outcome) → o ≡ refusing BadEvent g → ◌≡◌ {A = HandedIn numbers} (o, gs, ws, fs) (one numbers r here)
+  bad_one p o q = ap (λ (x : Outcome). (x, gs, ws, fs)) q ∙ ap (λ (x : Option Event). one numbers x here) (sym p)
 
   -- which leaves what was found
-  pub bad_judges : (j : Judged) → Judges g gs ws fs j → (o : Outcome) → o ≡ refusing BadEvent g → Judges o.gate gs ws fs j
+  pub bad_judges : (j : Result Unit Refusal) → Judges g gs ws fs j → (o : Outcome) → o ≡ refusing BadEvent g → Judges o.gate gs ws fs j
   bad_judges j found o q = subst (λ (x : Outcome). Judges x.gate gs ws fs j) (sym q) found
 
 -- an answer put in its row
@@ -58,22 +57,22 @@ answer_put bs at o r p =
     ∙ ap (λ (x : Reply). sets bs at (row_of x)) p
 
 -- one turn: the event of a row is done, and its answer stands in the row
-pub turned : (r : Read) (k : ℕ) (h : Host numbers) (bs : List ℕ) (x : Read) → x ≡ r → (d : HandedIn numbers) → d ≡ one numbers x h → (bs' : List ℕ)
+pub turned : (r : Option Event) (k : ℕ) (h : Host numbers) (bs : List ℕ) (x : Option Event) → x ≡ r → (d : HandedIn numbers) → d ≡ one numbers x h → (bs' : List ℕ)
     → bs' ≡ sets bs (k * answer_wide) (line_of d.0)
     → ◌≡◌ {A = Host numbers × List ℕ} (host_of numbers d.0.gate d.1 d.2 d.3, bs') (turn r k h bs)
 turned r k h bs x p d q bs' s =
     (λ i. (holds numbers (q i), (s ∙ ap (λ (y : HandedIn numbers). sets bs (k * answer_wide) (line_of y.0)) q) i))
-    ∙ ap (λ (y : Read). turn y k h bs) p
+    ∙ ap (λ (y : Option Event). turn y k h bs) p
 
 -- ALL EVENTS
 
 -- the loop after k events, from a host h₀ and answers bs₀
-pub record Going (es : List ℕ) (found : Judged) (h₀ : Host numbers) (bs₀ : List ℕ) (k : ℕ) (g : Gate) (gs ws fs bs : List ℕ) : Type 0 where
+pub record Going (es : List ℕ) (found : Result Unit Refusal) (h₀ : Host numbers) (bs₀ : List ℕ) (k : ℕ) (g : Gate) (gs ws fs bs : List ℕ) : Type 0 where
   pub hold : host_of numbers g gs ws fs ≡ held_after numbers h₀ (tab k (event_at es))
   pub answers : bs ≡ sets bs₀ 0 (lines_of (outcomes numbers h₀ (tab k (event_at es))))
   pub judged : Judges g gs ws fs found
 
-module _ (es : List ℕ) (found : Judged) (g₀ : Gate) (gs₀ ws₀ fs₀ bs₀ : List ℕ) where
+module _ (es : List ℕ) (found : Result Unit Refusal) (g₀ : Gate) (gs₀ ws₀ fs₀ bs₀ : List ℕ) where
   abbrev h₀ : Host numbers
   h₀ = host_of numbers g₀ gs₀ ws₀ fs₀
 
@@ -108,7 +107,7 @@ module _ (es : List ℕ) (found : Judged) (g₀ : Gate) (gs₀ ws₀ fs₀ bs₀
             ∙ sets_append bs₀ 0 (lines_of os) (line_of o)
             ∙ ap (sets bs₀ 0) (sym (lines_snoc os o))
             ∙ ap (λ (x : List Outcome). sets bs₀ 0 (lines_of x)) (sym (outcomes_snoc numbers rs (f k) h₀))
-            ∙ ap (λ (x : List Read). sets bs₀ 0 (lines_of (outcomes numbers h₀ x))) (sym more);
+            ∙ ap (λ (x : List (Option Event)). sets bs₀ 0 (lines_of (outcomes numbers h₀ x))) (sym more);
         judged = j;
       }
 

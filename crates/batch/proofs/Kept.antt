@@ -1,5 +1,6 @@
 -- `untouched`: a refused batch changes nothing; and whatever is found, the answers are as long as before and the places past the last event hold what they
 -- held. Assumes nothing.
+use Rattle.std.specs.Prelude.{Err}
 use Prim.Native.Nat.{ℕ, ◌*◌, ◌≤◌}
 use mathlib.Core.Path.{◌≡◌, refl, sym, ap, ◌∙◌}
 use mathlib.Core.List.{List}
@@ -13,7 +14,6 @@ use Rattle.rules.specs.declared.Refusal.{Refusal}
 use Rattle.rules.proofs.Judged.{passed, number_of_some}
 use Rattle.gate.specs.Promise.{Lending}
 use Rattle.gate.specs.Calls.{Host}
-use Rattle.gate.specs.declared.Judged.TheVariants.{Bad as Barred}
 use Rattle.batch.specs.Rows.{count_of, events_in, answer_wide, lines_of, answers_over}
 use Rattle.batch.specs.Promise.{host_of, found_of, outcomes, batch_tests, batched_by, batched_in}
 use Rattle.batch.proofs.Runs.{length-lines, length-outcomes, length-events}
@@ -28,12 +28,12 @@ module _ (v : Lending) (es : List ℕ) (g : Gate) (gs : List v.Cell) (ws fs bs :
   h = host_of v g gs ws fs
 
   -- a refused batch changes nothing
-  pub batch_refusal_keeps : (r : Refusal) → (batched_in v es g gs ws fs bs).0.found ≡ Barred r
-      → batched_in v es g gs ws fs bs ≡ (record { gate = g; found = Barred r }, gs, ws, fs, bs)
+  pub batch_refusal_keeps : (r : Refusal) → (batched_in v es g gs ws fs bs).0.found ≡ Err r
+      → batched_in v es g gs ws fs bs ≡ (record { gate = g; found = Err r }, gs, ws, fs, bs)
   unfolding batched_in
   batch_refusal_keeps r e = go (judged (batch_tests es bs)) e
     where
-      go : (w : Verdict) → (batched_by v w es h bs).0.found ≡ Barred r → batched_by v w es h bs ≡ (record { gate = g; found = Barred r }, gs, ws, fs, bs)
+      go : (w : Verdict) → (batched_by v w es h bs).0.found ≡ Err r → batched_by v w es h bs ≡ (record { gate = g; found = Err r }, gs, ws, fs, bs)
       go accept e = absurd (number_of_some r (sym (ap found_of e)))
       go (refuse s) e = λ i. (record { gate = g; found = e i }, gs, ws, fs, bs)
 

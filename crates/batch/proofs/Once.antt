@@ -1,21 +1,21 @@
 -- `once`: any two outcomes that the promise of a batch admits are equal: what was found, the gate, every number of every table and of the answers.
 -- Assumes nothing.
+use Rattle.std.specs.Prelude.{Ok, Err, Result}
 use Prim.Native.Nat.{ℕ}
 use mathlib.Core.Path.{◌≡◌, refl, sym, ap, ◌∙◌}
 use mathlib.Core.List.{List}
 use Rattle.rules.specs.declared.Gate.{Gate}
 use Rattle.rules.proofs.Judged.{number_of_once, number_of_some}
 use Rattle.gate.specs.Promise.{Lending}
-use Rattle.gate.specs.declared.Judged.{Judged}
-use Rattle.gate.specs.declared.Judged.TheVariants.{Good as Accepted, Bad as Barred}
 use Rattle.batch.specs.Promise.{found_of, BatchIn, SeenBatchIn, seen_batch_in, batched_in}
+use Rattle.rules.specs.declared.Refusal.{Refusal}
 
 -- what was found is its number
-pub found_once : (i j : Judged) → found_of i ≡ found_of j → i ≡ j
-found_once Accepted Accepted h = refl
-found_once Accepted (Barred s) h = absurd (number_of_some s (sym h))
-found_once (Barred r) Accepted h = absurd (number_of_some r h)
-found_once (Barred r) (Barred s) h = ap Barred (number_of_once r s h)
+pub found_once : (i j : Result Unit Refusal) → found_of i ≡ found_of j → i ≡ j
+found_once (Ok _) (Ok _) h = refl
+found_once (Ok _) (Err s) h = absurd (number_of_some s (sym h))
+found_once (Err r) (Ok _) h = absurd (number_of_some r h)
+found_once (Err r) (Err s) h = ap Err (number_of_once r s h)
 
 module _ (v : Lending) where
   -- two outcomes of which a caller sees the same are equal

@@ -1,5 +1,6 @@
 -- Document 02, K5, "exactly as if they came one by one": what a batch leaves is what a run of calls with its events leaves, and its answers are theirs, the bad
 -- ones passed over. On any tables, sound or not, long enough or not: nothing is asked of them. Assumes nothing.
+use Rattle.std.specs.Prelude.{Some, None, Option}
 use Prim.Native.Nat.{ℕ}
 use mathlib.Core.Path.{◌≡◌, refl, sym, ap, ◌∙◌}
 use mathlib.Core.List.{List, [], ◌∷◌, map}
@@ -8,34 +9,33 @@ use Rattle.rules.specs.Refusals.{Verdict, accept, refuse, judged, is_accept}
 use Rattle.rules.specs.declared.Outcome.{Outcome}
 use Rattle.gate.specs.Promise.{Lending}
 use Rattle.gate.specs.Calls.{Host, holds, call, held, replies, wakings}
-use Rattle.batch.specs.declared.Read.{Read}
-use Rattle.batch.specs.declared.Read.TheVariants.{Good, Bad}
 use Rattle.batch.specs.Rows.{events_in, answers_over}
 use Rattle.batch.specs.Promise.{held_after, outcomes, batch_tests, batched_by, batched_in}
 use Rattle.batch.specs.Batches.{goods, good, Batch, done_by, all_done, leaves, batch, held_batches}
 use Rattle.batch.proofs.Runs.{held-append}
+use Rattle.rules.specs.declared.Event.{Event}
 
 module _ (v : Lending) where
   -- what events leave is what the calls leave
-  pub held_calls : (rs : List Read) (h : Host v) → held_after v h rs ≡ held v h (goods rs)
+  pub held_calls : (rs : List (Option Event)) (h : Host v) → held_after v h rs ≡ held v h (goods rs)
   unfolding held_after held goods
   held_calls [] h = refl
-  held_calls (Good e ∷ rs) h = held_calls rs (holds v (call v e h))
-  held_calls (Bad ∷ rs) h = held_calls rs h
+  held_calls (Some e ∷ rs) h = held_calls rs (holds v (call v e h))
+  held_calls (None ∷ rs) h = held_calls rs h
 
   -- their answers are the calls' answers
-  pub answers_calls : (rs : List Read) (h : Host v) → map Outcome.answer (good rs (outcomes v h rs)) ≡ replies v h (goods rs)
+  pub answers_calls : (rs : List (Option Event)) (h : Host v) → map Outcome.answer (good rs (outcomes v h rs)) ≡ replies v h (goods rs)
   unfolding outcomes replies goods good
   answers_calls [] h = refl
-  answers_calls (Good e ∷ rs) h = ap ((call v e h).0.answer ∷◌) (answers_calls rs (holds v (call v e h)))
-  answers_calls (Bad ∷ rs) h = answers_calls rs h
+  answers_calls (Some e ∷ rs) h = ap ((call v e h).0.answer ∷◌) (answers_calls rs (holds v (call v e h)))
+  answers_calls (None ∷ rs) h = answers_calls rs h
 
   -- and so are their times to wake
-  pub wakes_calls : (rs : List Read) (h : Host v) → map Outcome.wake (good rs (outcomes v h rs)) ≡ wakings v h (goods rs)
+  pub wakes_calls : (rs : List (Option Event)) (h : Host v) → map Outcome.wake (good rs (outcomes v h rs)) ≡ wakings v h (goods rs)
   unfolding outcomes wakings goods good
   wakes_calls [] h = refl
-  wakes_calls (Good e ∷ rs) h = ap ((call v e h).0.wake ∷◌) (wakes_calls rs (holds v (call v e h)))
-  wakes_calls (Bad ∷ rs) h = wakes_calls rs h
+  wakes_calls (Some e ∷ rs) h = ap ((call v e h).0.wake ∷◌) (wakes_calls rs (holds v (call v e h)))
+  wakes_calls (None ∷ rs) h = wakes_calls rs h
 
   -- a batch that is not refused as a whole: it leaves what the calls leave, and its answers are what they came to
   pub record AsCalls (es : List ℕ) (h : Host v) (bs : List ℕ) : Type 0 where

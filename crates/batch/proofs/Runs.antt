@@ -1,16 +1,18 @@
 -- Events one by one, for every way in which guests are lent: runs join, one event more, and as many answers as events. Assumes nothing.
+use Rattle.std.specs.Prelude.{Option}
 use Prim.Native.Nat.{ℕ, suc, ◌*◌}
 use mathlib.Core.Path.{◌≡◌, refl, sym, ap, ◌∙◌}
 use mathlib.Core.List.{List, [], ◌∷◌, ◌++◌, append_assoc, append-nil}
 use native.Mathlib.Omega.{arith}
 use lib.ListN.{length, length-append}
 use Rattle.lists.specs.Tab.{length-tab}
+use Rattle.rules.specs.declared.Event.{Event}
 use Rattle.rules.specs.declared.Outcome.{Outcome}
 use Rattle.gate.specs.Promise.{Lending}
 use Rattle.gate.specs.Calls.{Host, holds}
-use Rattle.batch.specs.declared.Read.{Read}
 use Rattle.batch.specs.Rows.{count_of, event_at, events_in, answer_wide, line_of, lines_of}
 use Rattle.batch.specs.Promise.{one, held_after, outcomes}
+use Rattle.rules.specs.declared.Event.{Event}
 
 -- ROWS OF ANSWERS
 
@@ -44,27 +46,27 @@ length-events es = length-tab (count_of es) (event_at es)
 
 module _ (v : Lending) where
   -- two runs are one
-  pub held-append : (rs ss : List Read) (h : Host v) → held_after v h (rs ++ ss) ≡ held_after v (held_after v h rs) ss
+  pub held-append : (rs ss : List (Option Event)) (h : Host v) → held_after v h (rs ++ ss) ≡ held_after v (held_after v h rs) ss
   unfolding held_after
   held-append [] ss h = refl
   held-append (r ∷ rs) ss h = held-append rs ss (holds v (one v r h))
 
-  pub outcomes-append : (rs ss : List Read) (h : Host v) → outcomes v h (rs ++ ss) ≡ outcomes v h rs ++ outcomes v (held_after v h rs) ss
+  pub outcomes-append : (rs ss : List (Option Event)) (h : Host v) → outcomes v h (rs ++ ss) ≡ outcomes v h rs ++ outcomes v (held_after v h rs) ss
   unfolding held_after outcomes
   outcomes-append [] ss h = refl
   outcomes-append (r ∷ rs) ss h = ap ((one v r h).0 ∷◌) (outcomes-append rs ss (holds v (one v r h)))
 
   -- one event more
-  pub held_snoc : (rs : List Read) (r : Read) (h : Host v) → held_after v h (rs ++ (r ∷ [])) ≡ holds v (one v r (held_after v h rs))
+  pub held_snoc : (rs : List (Option Event)) (r : Option Event) (h : Host v) → held_after v h (rs ++ (r ∷ [])) ≡ holds v (one v r (held_after v h rs))
   unfolding held_after
   held_snoc rs r h = held-append rs (r ∷ []) h
 
-  pub outcomes_snoc : (rs : List Read) (r : Read) (h : Host v) → outcomes v h (rs ++ (r ∷ [])) ≡ outcomes v h rs ++ ((one v r (held_after v h rs)).0 ∷ [])
+  pub outcomes_snoc : (rs : List (Option Event)) (r : Option Event) (h : Host v) → outcomes v h (rs ++ (r ∷ [])) ≡ outcomes v h rs ++ ((one v r (held_after v h rs)).0 ∷ [])
   unfolding outcomes
   outcomes_snoc rs r h = outcomes-append rs (r ∷ []) h
 
   -- as many as there are events
-  pub length-outcomes : (rs : List Read) (h : Host v) → length (outcomes v h rs) ≡ length rs
+  pub length-outcomes : (rs : List (Option Event)) (h : Host v) → length (outcomes v h rs) ≡ length rs
   unfolding outcomes
   length-outcomes [] h = refl
   length-outcomes (r ∷ rs) h = ap suc (length-outcomes rs (holds v (one v r h)))

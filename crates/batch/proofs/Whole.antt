@@ -1,4 +1,5 @@
 -- What the whole call hands back, by what its tests find: refused with nothing done, or every event done. Assumes nothing.
+use Rattle.std.specs.Prelude.{Ok}
 use Prim.Native.Nat.{ℕ, ◌*◌, ◌/◌, ◌≤◌, ◌<◌}
 use mathlib.Core.Path.{◌≡◌, sym, ap, ◌∙◌}
 use mathlib.Core.List.{List}
@@ -10,7 +11,6 @@ use Rattle.rules.specs.declared.Gate.{Gate}
 use Rattle.rules.specs.declared.Refusal.TheVariants.{AnswersShort, TooManyEvents}
 use Rattle.rules.specs.Refusals.{Verdict, accept, refuse, judged}
 use Rattle.gate.specs.Promise.{numbers}
-use Rattle.gate.specs.declared.Judged.TheVariants.{Good as Accepted}
 use Rattle.batch.specs.Rows.{count_of, most_events, answer_wide}
 use Rattle.batch.specs.Promise.{batch_tests, host_of, batched_by, batched_in, batched, seen_batch}
 use Rattle.batch.specs.Turns.{Ran}
@@ -44,7 +44,7 @@ module _ (es bs : List ℕ) where
 
     -- every event is done
     pub all_done_lem : judged (batch_tests es bs) ≡ accept → (g' : Gate) (gs' ws' fs' bs' : List ℕ) → Ran es (host_of numbers g gs ws fs) bs (host_of numbers g' gs' ws' fs') bs'
-        → seen_batch (record { gate = g'; found = Accepted }, gs', ws', fs', bs') ≡ seen_batch (batched es g gs ws fs bs)
+        → seen_batch (record { gate = g'; found = Ok tt }, gs', ws', fs', bs') ≡ seen_batch (batched es g gs ws fs bs)
     all_done_lem p g' gs' ws' fs' bs' r =
-        (λ i. seen_batch (record { gate = (r.hold i).gate; found = Accepted }, (r.hold i).guests, (r.hold i).waiting, (r.hold i).flight, r.answers i))
+        (λ i. seen_batch (record { gate = (r.hold i).gate; found = Ok tt }, (r.hold i).guests, (r.hold i).waiting, (r.hold i).flight, r.answers i))
         ∙ ap seen_batch (sym (followed accept p))

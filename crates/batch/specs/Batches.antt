@@ -1,6 +1,6 @@
 -- A run of batches, each handed what the last one left, beside a run of calls; and what the whole-call refusals are in plain facts. For every way in which
 -- guests are lent.
-use Rattle.std.specs.Prelude.{ℕ, ◌*◌, ◌<◌, ◌≡◌, Bool, true, ◌&&◌, List, [], ◌∷◌, ◌++◌, length, if◌then◌else◌}
+use Rattle.std.specs.Prelude.{ℕ, ◌*◌, ◌<◌, ◌≡◌, Bool, true, ◌&&◌, List, [], ◌∷◌, ◌++◌, length, if◌then◌else◌, Some, None, Option}
 use Rattle.rules.specs.Answers.{taken}
 use Rattle.rules.specs.Refused.{Case}
 use Rattle.rules.specs.Refusals.{judged, is_accept}
@@ -9,8 +9,6 @@ use Rattle.rules.specs.declared.Answer.{Answer}
 use Rattle.rules.specs.declared.Outcome.{Outcome}
 use Rattle.gate.specs.Promise.{Lending}
 use Rattle.gate.specs.Calls.{Host, holds, call, finds, narrow}
-use Rattle.batch.specs.declared.Read.{Read}
-use Rattle.batch.specs.declared.Read.TheVariants.{Good, Bad}
 use Rattle.batch.specs.declared.Batched.{Batched}
 use Rattle.batch.specs.Rows.{count_of, events_in, most_events, answer_wide}
 use Rattle.batch.specs.Promise.{found_of, BatchIn, host_of, batch_tests, batched_in}
@@ -35,22 +33,22 @@ Takes b = found_of b.found ≡ 0
 -- EVENTS AND CALLS
 
 -- the events among what was read, the bad ones passed over
-unfoldable pub goods : List Read → List Event
+unfoldable pub goods : List (Option Event) → List Event
 goods [] = []
-goods (Good e ∷ rs) = e ∷ goods rs
-goods (Bad ∷ rs) = goods rs
+goods (Some e ∷ rs) = e ∷ goods rs
+goods (None ∷ rs) = goods rs
 
 -- what the events among them came to
-unfoldable pub good : List Read → List Outcome → List Outcome
+unfoldable pub good : List (Option Event) → List Outcome → List Outcome
 good [] os = []
 good (r ∷ rs) [] = []
-good (Good e ∷ rs) (o ∷ os) = o ∷ good rs os
-good (Bad ∷ rs) (o ∷ os) = good rs os
+good (Some e ∷ rs) (o ∷ os) = o ∷ good rs os
+good (None ∷ rs) (o ∷ os) = good rs os
 
 -- the id, where there is one, has 32 bits
-abbrev pub narrow_read : Read → Bool
-narrow_read (Good e) = narrow e
-narrow_read Bad = true
+abbrev pub narrow_read : Option Event → Bool
+narrow_read (Some e) = narrow e
+narrow_read None = true
 
 -- A RUN OF BATCHES
 
@@ -60,11 +58,11 @@ pub record Batch : Type 0 where
   pub answers : List ℕ
 
 -- the events that a batch does: all of them, or none where the whole call is refused
-abbrev pub done_by : Batch → List Read
+abbrev pub done_by : Batch → List (Option Event)
 done_by b = if is_accept (judged (batch_tests b.events b.answers)) then events_in b.events else []
 
 -- those of a run of batches, one behind the other
-unfoldable pub all_done : List Batch → List Read
+unfoldable pub all_done : List Batch → List (Option Event)
 all_done [] = []
 all_done (b ∷ bs) = done_by b ++ all_done bs
 
@@ -83,10 +81,10 @@ module _ (v : Lending) where
   held_batches h (b ∷ bs) = held_batches (leaves (batch b h)) bs
 
   -- the answers to the events that are accepted and find a place free, in order
-  unfoldable pub free_answers : Host v → List Read → List Answer
+  unfoldable pub free_answers : Host v → List (Option Event) → List Answer
   free_answers h [] = []
-  free_answers h (Good e ∷ rs) =
+  free_answers h (Some e ∷ rs) =
       if taken (call v e h).0.answer && finds e h.gate
       then (call v e h).0.answer ∷ free_answers (holds v (call v e h)) rs
       else free_answers (holds v (call v e h)) rs
-  free_answers h (Bad ∷ rs) = free_answers h rs
+  free_answers h (None ∷ rs) = free_answers h rs

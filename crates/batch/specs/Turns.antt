@@ -1,14 +1,15 @@
 -- What the functions of crates/bulk do to what a host holds and to the answers, row by row. Their own contracts, no promise of a public call.
-use Rattle.std.specs.Prelude.{ℕ, ◌*◌, ◌≡◌, List}
+use Rattle.std.specs.Prelude.{ℕ, ◌*◌, ◌≡◌, List, Option}
 use Rattle.std.proofs.lemmas.List.Edits.{sets}
+use Rattle.rules.specs.declared.Event.{Event}
 use Rattle.gate.specs.Promise.{numbers}
 use Rattle.gate.specs.Calls.{Host, holds}
-use Rattle.batch.specs.declared.Read.{Read}
 use Rattle.batch.specs.Rows.{events_in, answer_wide, line_of, answers_over}
 use Rattle.batch.specs.Promise.{one, held_after, outcomes}
+use Rattle.rules.specs.declared.Event.{Event}
 
 -- an event is done, and its answer written in row k
-abbrev pub turn : Read → ℕ → Host numbers → List ℕ → Host numbers × List ℕ
+abbrev pub turn : Option Event → ℕ → Host numbers → List ℕ → Host numbers × List ℕ
 turn r k h bs = (holds numbers (one numbers r h), sets bs (k * answer_wide) (line_of (one numbers r h).0))
 
 -- every event is done, and its answer written in its row

@@ -1,5 +1,6 @@
 -- One event on lent numbers that show a page: an event that entered can be noted, and the numbers then show the page that it turns to; a refused one
 -- leaves all as it stood. Assumes nothing.
+use Rattle.std.specs.Prelude.{Err, Ok, Result as OkOrErr}
 use Prim.Native.Nat.{ℕ, ◌+◌, ◌-◌, ◌*◌, ◌^◌, ◌≤◌, ◌<◌}
 use mathlib.Core.Path.{◌≡◌, refl, sym, ap, ◌∙◌, subst}
 use mathlib.Core.Bool.{true, false, not}
@@ -35,8 +36,6 @@ use Rattle.table.proofs.Lens.{written-shown, known-room}
 use Rattle.table.proofs.Facts.{facts}
 use Rattle.index.specs.Index.{Beside}
 use Rattle.enter.specs.Enters.{EntersAt, Enters, EntersBeside}
-use Rattle.enter.specs.declared.Entered.{Entered}
-use Rattle.enter.specs.declared.Entered.TheVariants.{Refused as Barred, At}
 use Rattle.step.proofs.After.{choice-known}
 use Rattle.book.specs.Book.{noted}
 use Rattle.book.specs.Figures.{counted}
@@ -67,10 +66,10 @@ module _ (n : ℕ) (g : Gate) (gs ws fs bk fg : List ℕ) (k : Known g gs ws fs)
   unfolding turned booked step decided
   passed_over r q = rw q
 
-  pub refused-turn : (r : Refusal) (a : Entered) (hs vs es : List ℕ) → Enters e g gs ws fs a hs vs es → a ≡ Barred r
+  pub refused-turn : (r : Refusal) (a : OkOrErr Gate Refusal) (hs vs es : List ℕ) → Enters e g gs ws fs a hs vs es → a ≡ Err r
       → (page_of g hs vs es bk fg ≡ turned page e) × Known g hs vs es × Kept (n + 1) g vs bk fg
   refused-turn r a hs vs es c q =
-      let b : Enters e g gs ws fs (Barred r) hs vs es = subst (λ (y : Entered). Enters e g gs ws fs y hs vs es) q c in (
+      let b : Enters e g gs ws fs (Err r) hs vs es = subst (λ (y : OkOrErr Gate Refusal). Enters e g gs ws fs y hs vs es) q c in (
         (λ i. page_of g (b.1 i) (b.2 i) (b.3 i) bk fg) ∙ passed_over r b.0,
         subst (λ (z : Lent). Known z.0 z.1 z.2 z.3) (sym (λ i. (g, b.1 i, b.2 i, b.3 i))) k,
         subst (λ (z : List ℕ). Kept (n + 1) g z bk fg) (sym b.2) kept_still,
@@ -259,9 +258,9 @@ settled_asks n h hs vs es bk fg k e x ck dg eb ef o is js ls y =
     (settles n h hs vs es (noted_in e h vs bk) (counted_in e fg) k a o.answer (sym y.answers)))
 
 -- what entered, from what the entering answered
-pub entered_at : (e : Event) (g : Gate) (gs ws fs : List ℕ) (a : Entered) (hs vs es : List ℕ) → Enters e g gs ws fs a hs vs es → (h : Gate) → a ≡ At h → EntersAt e g gs ws fs h hs vs es
-entered_at e g gs ws fs a hs vs es c h q = subst (λ (y : Entered). Enters e g gs ws fs y hs vs es) q c
+pub entered_at : (e : Event) (g : Gate) (gs ws fs : List ℕ) (a : OkOrErr Gate Refusal) (hs vs es : List ℕ) → Enters e g gs ws fs a hs vs es → (h : Gate) → a ≡ Ok h → EntersAt e g gs ws fs h hs vs es
+entered_at e g gs ws fs a hs vs es c h q = subst (λ (y : OkOrErr Gate Refusal). Enters e g gs ws fs y hs vs es) q c
 
 -- the index of a table whose event was refused
-pub refused_beside : {vs ix : List ℕ} (g : Gate) (a : Entered) (r : Refusal) → a ≡ Barred r → EntersBeside g a vs ix → Beside vs ix g.waiting
-refused_beside {vs} {ix} g a r q b = subst (λ (y : Entered). EntersBeside g y vs ix) q b
+pub refused_beside : {vs ix : List ℕ} (g : Gate) (a : OkOrErr Gate Refusal) (r : Refusal) → a ≡ Err r → EntersBeside g a vs ix → Beside vs ix g.waiting
+refused_beside {vs} {ix} g a r q b = subst (λ (y : OkOrErr Gate Refusal). EntersBeside g y vs ix) q b

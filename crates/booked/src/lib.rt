@@ -1,4 +1,5 @@
 // One event on the book and the figures as numbers: noted, counted, struck. Functions for this repository's own crates.
+// Gate and tables stay side by side for the reason that stands at the head of sends.
 #![tactic(auto)]
 
 ghost use Rattle.std.specs.Prelude.{◌≡◌, ◌+◌, ◌^◌, ◌≤◌, ◌<◌, length};
@@ -12,11 +13,11 @@ ghost use Rattle.tally.specs.Kept.{page_of, Kept};
 ghost use Rattle.tally.specs.Notes.{struck_at, sent_for};
 ghost use Rattle.booked.specs.Turns.{noted_in, counted_in, Notable, gone_from, ahead_in, wait_in, struck_in, sent_in, Sendable, Settles, Entering};
 
-use enter::Entered;
 use rules::{Answer, Arriving, Event, Gate, Phase};
 use table::columns::{LTAG, WAITING_WIDE};
 use table::gates::Decision;
 use tally::columns::{ARRIVALS, COMPLETIONS, LIMITED, NOTE_WIDE, SINCE};
+use windows::After;
 
 // An arrival that entered is noted and counted. Its request stands last among the waiting.
 fn came(
@@ -58,7 +59,7 @@ fn gone(gate: Gate, book: &mut [u64], figures: &mut [u64], phase: Phase, guest: 
 {
     let count = gate.waiting as usize;
     let time = gate.time;
-    let place = tally::notes::find(&book[..], count, guest, id);
+    let place = tally::notes::find(&book[..], count, guest, id).unwrap();
     let since = book[place * NOTE_WIDE + SINCE];
     let limited = book[place * NOTE_WIDE + LIMITED];
     tally::notes::strike(book, place, count);
@@ -73,8 +74,7 @@ fn settled(gate: Gate, book: &mut [u64], figures: &mut [u64], answer: Answer)
 {
     match answer {
         Answer::Sent { phase, guest, id } => gone(gate, book, figures, phase, guest, id as u64),
-        Answer::Nothing => {}
-        Answer::Refused(_) => {}
+        Answer::Nothing | Answer::Refused(_) => {}
     }
 }
 
@@ -101,16 +101,8 @@ fn accepted(
 {
     noted(gate, &waiting[..], book, figures, event);
     let made = choose::choose(gate, guests, waiting, flight, index);
-    let answer = made.answer;
-    settled(gate, book, figures, answer);
+    settled(gate, book, figures, made.answer);
     made
-}
-
-// The gate after an event, and how many rows further back the waiting table stands.
-#[derive(Drop)]
-pub struct After {
-    pub gate: Gate,
-    pub gone: usize,
 }
 
 // One event: refused, and every number stands as it did; or it enters, is noted and counted, the choice is made, and what is sent is struck and
@@ -136,17 +128,16 @@ pub fn turn(
     ensures kept_2 { Kept (number + 1) result.gate (shifted result.gone waiting.new) book.new figures.new }
     ensures beside_2 { Beside (shifted result.gone waiting.new) index.new result.gate.waiting }
 {
-    let entered = enter::enter(gate, guests, waiting, flight, event, index);
-    match entered {
-        Entered::Refused(_) => After { gate, gone: 0 },
-        Entered::At(moved) => {
+    match enter::enter(gate, guests, waiting, flight, event, index) {
+        Err(_) => After { gate, gone: 0 },
+        Ok(moved) => {
             let made = accepted(
                 number, moved, guests, waiting, flight, book, figures, event, index,
             );
-            let after = made.gate;
-            let answer = made.answer;
-            let gone = index::gone_on(answer, &index[..]);
-            After { gate: after, gone }
+            After {
+                gate: made.gate,
+                gone: index::gone_on(made.answer, &index[..]),
+            }
         }
     }
 }

@@ -1,10 +1,12 @@
 -- A batch on a waiting table that is lent with more places than its gate has is that on its front: it comes to the same, and what stands past them stays. Assumes nothing.
+use Rattle.std.specs.Prelude.{Option}
 use Prim.Native.Nat.{ℕ, ◌*◌, ◌≤◌}
 use mathlib.Core.Path.{◌≡◌, refl, sym, ap, ◌∙◌}
 use mathlib.Core.List.{List, ◌++◌}
 use native.Mathlib.Omega.{arith}
 use lib.ListN.{length, take, drop, take-append-drop}
 use lib.Seq.{length-take-le, take_all, take-take}
+use Rattle.rules.specs.declared.Event.{Event}
 use Rattle.rules.specs.declared.Gate.{Gate}
 use Rattle.rules.specs.declared.Outcome.{Outcome}
 use Rattle.rules.specs.declared.Refusal.TheVariants.{BadEvent}
@@ -14,11 +16,11 @@ use Rattle.gate.specs.Promise.{numbers}
 use Rattle.gate.specs.Calls.{Host}
 use Rattle.gate.specs.Needs.{Beyond}
 use Rattle.gate.proofs.Lending.{numbers-lawful}
-use Rattle.batch.specs.declared.Read.{Read}
 use Rattle.batch.specs.Rows.{events_in, answers_over}
 use Rattle.batch.specs.Promise.{host_of, held_after}
 use Rattle.batch.specs.Turns.{Ran}
 use Rattle.batch.proofs.Beyond.{set_to, held_beyond, Unread, held_unread}
+use Rattle.rules.specs.declared.Event.{Event}
 
 -- lists that are alike up to n and beyond
 whole_alike : (n : ℕ) (xs ys : List ℕ) → take n xs ≡ take n ys → drop n xs ≡ drop n ys → xs ≡ ys
@@ -42,7 +44,7 @@ module _ (es bs : List ℕ) (g : Gate) (gs ws fs : List ℕ) (room : g.setup.cap
         answers = r.answers ∙ ap (λ (os : List Outcome). answers_over os bs) same.outcome;
       }
     where
-      rs : List Read
+      rs : List (Option Event)
       rs = events_in es
 
       same : Unread numbers numbers-lawful g.guests g.setup.capacity g.setup.depth rs part all

@@ -1,4 +1,5 @@
 -- A run of events on a table that stands in a window: what the loop over the rows keeps, turn by turn. Assumes nothing.
+use Rattle.std.specs.Prelude.{Result, Option}
 use Prim.Native.Nat.{ℕ, ◌+◌, ◌*◌, ◌≤◌, ◌<◌}
 use mathlib.Core.Path.{◌≡◌, ap, ◌∙◌}
 use mathlib.Core.List.{List}
@@ -11,26 +12,26 @@ use Rattle.windows.proofs.Staged.{Staged, staged_next}
 use Rattle.gate.specs.Promise.{numbers}
 use Rattle.gate.specs.Calls.{Host}
 use Rattle.gate.specs.Judges.{Judges}
-use Rattle.gate.specs.declared.Judged.{Judged}
 use Rattle.gate.proofs.Lending.{numbers-lawful}
-use Rattle.batch.specs.declared.Read.{Read}
 use Rattle.batch.specs.Rows.{event_at}
 use Rattle.batch.specs.Promise.{host_of}
 use Rattle.batch.specs.Turns.{turn}
 use Rattle.batch.proofs.Beyond.{set_to, one_set}
 use Rattle.batch.proofs.Going.{Going, going_none, going_next}
+use Rattle.rules.specs.declared.Refusal.{Refusal}
+use Rattle.rules.specs.declared.Event.{Event}
 
 -- a turn leaves the gate its places
-turn_places : (r : Read) (k : ℕ) (h : Host numbers) (bs : List ℕ) (x : Host numbers × List ℕ) → x ≡ turn r k h bs → x.0.gate.setup.capacity ≡ h.gate.setup.capacity
+turn_places : (r : Option Event) (k : ℕ) (h : Host numbers) (bs : List ℕ) (x : Host numbers × List ℕ) → x ≡ turn r k h bs → x.0.gate.setup.capacity ≡ h.gate.setup.capacity
 turn_places r k h bs x t =
     ap (λ (y : Host numbers × List ℕ). y.0.gate.setup.capacity) t
     ∙ (one_set numbers numbers-lawful h.gate.guests h.gate.setup.capacity h.gate.setup.depth r h (set_to h.gate)).capacity
 
 -- after k events the table stands in the window from row `start` on, with its index beside it
-abbrev pub Stage : (es : List ℕ) (found : Judged) (h₀ : Host numbers) (bs₀ : List ℕ) (size start : ℕ) (window : List ℕ) (k : ℕ) (g : Gate) (gs fs bs ix : List ℕ) → Type 0
+abbrev pub Stage : (es : List ℕ) (found : Result Unit Refusal) (h₀ : Host numbers) (bs₀ : List ℕ) (size start : ℕ) (window : List ℕ) (k : ℕ) (g : Gate) (gs fs bs ix : List ℕ) → Type 0
 Stage es found h₀ bs₀ size start window k g gs fs bs ix = Staged size start window ix g (λ ws. Going es found h₀ bs₀ k g gs ws fs bs)
 
-module _ (es : List ℕ) (found : Judged) (g₀ : Gate) (gs₀ ws₀ fs₀ bs₀ : List ℕ) (size : ℕ) where
+module _ (es : List ℕ) (found : Result Unit Refusal) (g₀ : Gate) (gs₀ ws₀ fs₀ bs₀ : List ℕ) (size : ℕ) where
   abbrev h₀ : Host numbers
   h₀ = host_of numbers g₀ gs₀ ws₀ fs₀
 

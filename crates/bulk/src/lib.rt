@@ -1,6 +1,7 @@
 // Many events in one call: each answered in its place of a lent buffer, exactly as if they came one by one. The lent tables are tested once for all of
 // them; where it pays, the waiting rows are copied once into a window and their index is built once for all of them. No `requires`: any value of any number, any
 // length of any slice. What it promises is in crates/batch/specs/Promise.antt.
+// Gate and tables stay side by side for the reason that stands at the head of sends.
 #![tactic(auto)]
 
 ghost use Rattle.std.specs.Prelude.{◌≡◌, true, List, ℕ, ◌+◌, ◌*◌, ◌≤◌, ◌<◌, length};
@@ -8,34 +9,32 @@ ghost use Rattle.table.specs.Columns.{waiting_wide};
 ghost use Rattle.table.specs.View.{Known};
 ghost use Rattle.index.specs.Index.{Beside, stands, shifted, Snug};
 ghost use Rattle.windows.specs.Window.{spare, Window};
-ghost use Rattle.gate.specs.declared.Judged.TheVariants.{Good};
 ghost use Rattle.gate.specs.Promise.{numbers};
 ghost use Rattle.gate.specs.Judges.{Judges};
 ghost use Rattle.batch.specs.Rows.{count_of, event_at, answer_wide};
 ghost use Rattle.batch.specs.Promise.{host_of, one, seen_batch, batched};
 ghost use Rattle.batch.specs.Turns.{turn, Ran};
 
-use batch::{Batched, Read};
+use batch::Batched;
 use calling::numbers::follow;
-use gate::Judged;
 use index::{INDEX_WIDE, MOST_WALKED};
-use rules::{Gate, Outcome, Refusal};
+use rules::{Event, Gate, Outcome, Refusal};
 use slots::answers::{ANSWER_WIDE, put_answer};
 use slots::events::{EVENT_WIDE, MOST_EVENTS, event_at};
 use table::columns::WAITING_WIDE;
-use windows::WINDOW_LONG;
+use windows::{After, Ended, WINDOW_LONG};
 
 // With fewer events than these the window and its index cost more to set up than the events save by them.
 const LEAST_EVENTS: usize = 16;
 
-// One event as it was read, on lent tables of which `found` is true; what is no event is refused 14 and changes nothing.
+// One event as its row has it, on lent tables of which `found` is true; what is no event is refused 14 and changes nothing.
 fn answer(
     gate: Gate,
     guests: &mut [u64],
     waiting: &mut [u64],
     flight: &mut [u64],
-    found: Judged,
-    event: Read,
+    found: Result<(), Refusal>,
+    event: Option<Event>,
     index: &mut [u16],
 ) -> Outcome
     requires judges { Judges gate guests.old waiting.old flight.old found }
@@ -45,16 +44,9 @@ fn answer(
     ensures beside_2 { Beside (stands index.old result.answer waiting.new) index.new result.gate.waiting }
 {
     match event {
-        Read::Good(good) => follow(gate, guests, waiting, flight, found, good, index),
-        Read::Bad => table::gates::refused(gate, Refusal::BadEvent),
+        Some(good) => follow(gate, guests, waiting, flight, found, good, index),
+        None => table::gates::refused(gate, Refusal::BadEvent),
     }
-}
-
-// The gate after a row, and how many rows further back the waiting table stands.
-#[derive(Clone, Copy)]
-struct After {
-    gate: Gate,
-    gone: usize,
 }
 
 // The event of row k is answered in row k.
@@ -65,7 +57,7 @@ fn answer_row(
     guests: &mut [u64],
     waiting: &mut [u64],
     flight: &mut [u64],
-    found: Judged,
+    found: Result<(), Refusal>,
     answers: &mut [u64],
     index: &mut [u16],
 ) -> After
@@ -80,12 +72,10 @@ fn answer_row(
     let event = event_at(events, k);
     let outcome = answer(gate, guests, waiting, flight, found, event, index);
     put_answer(answers, k * ANSWER_WIDE, outcome);
-    let after = outcome.gate;
-    let told = outcome.answer;
-    let gone = index::gone_on(told, &index[..]);
+    let gone = index::gone_on(outcome.answer, index);
     After {
-        gate: after,
-        gone: gone,
+        gate: outcome.gate,
+        gone,
     }
 }
 
@@ -99,7 +89,7 @@ fn answer_row_in(
     start: usize,
     size: usize,
     flight: &mut [u64],
-    found: Judged,
+    found: Result<(), Refusal>,
     answers: &mut [u64],
     index: &mut [u16],
 ) -> After
@@ -122,13 +112,6 @@ fn answer_row_in(
     )
 }
 
-// The gate after the last row, and the row of the window from which on the waiting table stands.
-#[derive(Clone, Copy)]
-struct Ended {
-    gate: Gate,
-    start: usize,
-}
-
 // Every event is answered in its row, on tables of which `found` is true, the waiting one at the front of a window; the index goes on from event to event.
 fn answer_rows_in(
     events: &[u64],
@@ -137,7 +120,7 @@ fn answer_rows_in(
     window: &mut [u64],
     size: usize,
     flight: &mut [u64],
-    found: Judged,
+    found: Result<(), Refusal>,
     answers: &mut [u64],
     index: &mut [u16],
 ) -> Ended
@@ -146,39 +129,24 @@ fn answer_rows_in(
     requires by_index { (ws : List ℕ) × Window size 0 window.old ws × Judges first guests.old ws flight.old found × Beside ws index.old first.waiting × Snug first ws index.old }
     ensures { (ws : List ℕ) → Window size 0 window.old ws → (vs : List ℕ) × Window size result.start window.new vs × Ran events.now (host_of numbers first guests.old ws flight.old) answers.old (host_of numbers result.gate guests.new vs flight.new) answers.new }
 {
-    let count = events.len() / EVENT_WIDE;
     let mut gate = first;
-    let mut start: usize = 0;
-    let mut k: usize = 0;
-    while k < count {
+    let mut start = 0;
+    for k in 0..events.len() / EVENT_WIDE {
         start = windows::settle(window, start, size);
         let after = answer_row_in(
             events, k, gate, guests, window, start, size, flight, found, answers, index,
         );
         gate = after.gate;
         start += after.gone;
-        k += 1;
     }
-    Ended {
-        gate: gate,
-        start: start,
-    }
+    Ended { gate, start }
 }
 
 // An index pays where the tables were found sound, for so many events over so many waiting.
-fn pays(found: Judged, events: usize, rows: usize) -> bool
-    ensures { result ≡ true → found ≡ Good }
+fn pays(found: Result<(), Refusal>, events: usize, rows: usize) -> bool
+    ensures { result ≡ true → found ≡ Ok tt }
 {
-    if events < LEAST_EVENTS {
-        return false;
-    }
-    if rows <= MOST_WALKED {
-        return false;
-    }
-    match found {
-        Judged::Good => true,
-        Judged::Bad(_) => false,
-    }
+    LEAST_EVENTS <= events && MOST_WALKED < rows && found.is_ok()
 }
 
 // Every event is answered in its row, without an index: the lent table is its own window.
@@ -188,7 +156,7 @@ fn answer_walked(
     guests: &mut [u64],
     waiting: &mut [u64],
     flight: &mut [u64],
-    found: Judged,
+    found: Result<(), Refusal>,
     answers: &mut [u64],
 ) -> Gate
     requires answer_wide_in_bounds { count_of events.now * answer_wide ≤ length answers.old }
@@ -196,7 +164,6 @@ fn answer_walked(
     ensures { Ran events.now (host_of numbers gate guests.old waiting.old flight.old) answers.old (host_of numbers result guests.new waiting.new flight.new) answers.new }
 {
     let size = waiting.len();
-    let mut none = [0u16; 1];
     let ended = answer_rows_in(
         events,
         gate,
@@ -206,7 +173,7 @@ fn answer_walked(
         flight,
         found,
         answers,
-        &mut none[..0],
+        &mut [],
     );
     ended.gate
 }
@@ -236,7 +203,7 @@ fn answer_beside(
         &mut window[..],
         size,
         flight,
-        Judged::Good,
+        Ok(()),
         answers,
         &mut index[..],
     );
@@ -252,7 +219,7 @@ fn answer_all(
     guests: &mut [u64],
     waiting: &mut [u64],
     flight: &mut [u64],
-    found: Judged,
+    found: Result<(), Refusal>,
     answers: &mut [u64],
 ) -> Gate
     requires answer_wide_in_bounds { count_of events.now * answer_wide ≤ length answers.old }
@@ -282,19 +249,19 @@ pub fn call(
     if answers.len() / ANSWER_WIDE < count {
         return Batched {
             gate: gate,
-            found: Judged::Bad(Refusal::AnswersShort),
+            found: Err(Refusal::AnswersShort),
         };
     }
     if MOST_EVENTS < count {
         return Batched {
             gate: gate,
-            found: Judged::Bad(Refusal::TooManyEvents),
+            found: Err(Refusal::TooManyEvents),
         };
     }
-    let found = calling::numbers::judge(gate, &guests[..], &waiting[..], &flight[..]);
+    let found = calling::numbers::judge(gate, guests, waiting, flight);
     let after = answer_all(events, gate, guests, waiting, flight, found, answers);
     Batched {
         gate: after,
-        found: Judged::Good,
+        found: Ok(()),
     }
 }

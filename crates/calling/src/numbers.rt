@@ -6,26 +6,25 @@ ghost use Rattle.gate.specs.Promise.{seen, called};
 ghost use Rattle.gate.specs.Judges.{Judges};
 ghost use Rattle.index.specs.Index.{Beside, stands, Snug};
 
-use gate::Judged;
 use rules::{Arriving, Event, Flight, Gate, Outcome, Refusal};
 use sound::is_sound;
 use sound::lengths::{is_countable, is_short};
 use table::gates;
 
 // The lent tables judged, 2 before 3; counts out of range give 3 at once.
-pub fn judge(gate: Gate, guests: &[u64], waiting: &[u64], flight: &[u64]) -> Judged
+pub fn judge(gate: Gate, guests: &[u64], waiting: &[u64], flight: &[u64]) -> Result<(), Refusal>
     ensures { Judges gate guests.now waiting.now flight.now result }
 {
     if !is_countable(gate) {
-        return Judged::Bad(Refusal::Unsound);
+        return Err(Refusal::Unsound);
     }
     if is_short(gate, guests, waiting, flight) {
-        return Judged::Bad(Refusal::ShortTable);
+        return Err(Refusal::ShortTable);
     }
     if !is_sound(gate, guests, waiting, flight) {
-        return Judged::Bad(Refusal::Unsound);
+        return Err(Refusal::Unsound);
     }
-    Judged::Good
+    Ok(())
 }
 
 // One event on lent tables of which `found` is true: no public call, but what one is made of. `found` stays true of what is handed back, and so does the index
@@ -35,7 +34,7 @@ pub fn follow(
     guests: &mut [u64],
     waiting: &mut [u64],
     flight: &mut [u64],
-    found: Judged,
+    found: Result<(), Refusal>,
     event: Event,
     index: &mut [u16],
 ) -> Outcome
@@ -46,28 +45,12 @@ pub fn follow(
     ensures beside_2 { Beside (stands index.old result.answer waiting.new) index.new result.gate.waiting }
 {
     match found {
-        Judged::Bad(why) => gates::refused(gate, why),
-        Judged::Good => step::step_and_wake(gate, guests, waiting, flight, event, index),
+        Err(why) => gates::refused(gate, why),
+        Ok(()) => step::step_and_wake(gate, guests, waiting, flight, event, index),
     }
 }
 
-// The same with no index: the event walks the rows, which costs less than to build one for it.
-fn walk(
-    gate: Gate,
-    guests: &mut [u64],
-    waiting: &mut [u64],
-    flight: &mut [u64],
-    found: Judged,
-    event: Event,
-) -> Outcome
-    requires { Judges gate guests.old waiting.old flight.old found }
-    ensures { seen (result, guests.new, waiting.new, flight.new) ≡ seen (called event gate guests.old waiting.old flight.old) }
-{
-    let mut none = [0u16; 1];
-    follow(gate, guests, waiting, flight, found, event, &mut none[..0])
-}
-
-// One event: the lent tables are judged, then the event itself.
+// One event: the lent tables are judged, then the event itself, with no index: to walk the rows costs less than to build one for it.
 pub fn call(
     gate: Gate,
     guests: &mut [u64],
@@ -77,8 +60,8 @@ pub fn call(
 ) -> Outcome
     ensures { seen (result, guests.new, waiting.new, flight.new) ≡ seen (called event gate guests.old waiting.old flight.old) }
 {
-    let found = judge(gate, &guests[..], &waiting[..], &flight[..]);
-    walk(gate, guests, waiting, flight, found, event)
+    let found = judge(gate, guests, waiting, flight);
+    follow(gate, guests, waiting, flight, found, event, &mut [])
 }
 
 // A tick: the time is set, and the choice made.

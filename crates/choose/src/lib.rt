@@ -1,14 +1,14 @@
 // The choice on a table that is known to be sound: one walk over the waiting rows finds what each phase would send, or, where an index stands beside them, a look at
 // the first row of each guest. For this repository's own crates, and no public call.
+// Gate and tables stay side by side for the reason that stands at the head of sends.
 #![tactic(auto)]
 
-ghost use Rattle.std.specs.Prelude.{◌&&◌, ◌*◌, ◌≤◌, ◌<◌, leb, length};
+ghost use Rattle.std.specs.Prelude.{◌&&◌, List, ℕ, ◌<◌, eqb, leb, if◌then◌else◌};
 ghost use Rattle.rules.specs.Numbers.{ceiling};
 ghost use Rattle.rules.specs.Tables.{Request, settings_of};
 ghost use Rattle.rules.specs.Choice.{due_at, choice};
-ghost use Rattle.table.specs.Columns.{guest_wide, waiting_wide, most_guests, most_capacity};
 ghost use Rattle.table.specs.View.{guests_of, waiting_of, Known};
-ghost use Rattle.walks.specs.Walks.{Picks, Owned, Rising, SharesFit};
+ghost use Rattle.walks.specs.Walks.{Picks};
 ghost use Rattle.index.specs.Index.{Beside, stands, Snug};
 ghost use Rattle.table.specs.Does.{Leaves, weight_phase, reservation_phase};
 
@@ -17,29 +17,19 @@ use rules::{Answer, Gate};
 use sends::{latest_limit, send_by_reservation, send_by_weight};
 use table::gates;
 use table::gates::Decision;
-use walks::Found;
+use walks::queue::Queue;
 
-// What each phase would send: by the first rows of the guests where there is an index, and more rows than are as well walked.
-pub fn first_in_line(
-    waiting: &[u64],
-    count: usize,
-    guests: &[u64],
-    known: usize,
-    time: u64,
-    latest: u64,
-    index: &[u16],
-) -> Firsts
-    requires count_le_most_capacity { (count ≤ most_capacity) × (count * waiting_wide ≤ length waiting.now) × (known ≤ most_guests) × (known * guest_wide ≤ length guests.now) }
-    requires owned { Owned waiting.now count known × Rising waiting.now count × SharesFit waiting.now count }
-    requires time_le_ceiling { (time ≤ ceiling) × (latest ≤ ceiling) }
-    requires beside { Beside waiting.now index.now count }
-    ensures picks { Picks (λ q. due_at (settings_of (guests_of guests.now known) q) time q && leb q.ltag latest) Request.rtag (waiting_of waiting.now count) result.due }
-    ensures picks_2 { Picks (λ q. leb q.ltag time) Request.stag (waiting_of waiting.now count) result.open }
+// What each phase would send under a rule for limits: by the first rows of the guests where there is an index, and more rows than are as well walked.
+pub fn first_in_line(queue: Queue, rule: u64, index: &[u16]) -> Firsts
+    requires { Beside queue.waiting.now index.now queue.count }
+    ensures picks { let q = queue.entry in Picks (λ r. due_at (settings_of (guests_of q.guests.now q.known) r) q.time r && leb r.ltag (if eqb rule 2 then q.time else ceiling)) Request.rtag (waiting_of q.waiting.now q.count) result.due }
+    ensures picks_2 { let q = queue.entry in Picks (λ r. leb r.ltag q.time) Request.stag (waiting_of q.waiting.now q.count) result.open }
 {
-    if index::is_walked(index, count) {
-        return picks::first_in_line(waiting, count, guests, known, time, latest);
+    let latest = latest_limit(rule, queue.time);
+    if index::is_walked(index, queue.count) {
+        return picks::first_in_line(queue, latest);
     }
-    heads::first_in_line(waiting, count, guests, known, time, latest, index)
+    heads::first_in_line(queue, latest, index)
 }
 
 // The weight phase: the open request with the smallest share tag, which the walk found, goes.
@@ -48,7 +38,7 @@ fn by_weight(
     guests: &mut [u64],
     waiting: &mut [u64],
     flight: &mut [u64],
-    found: Found,
+    found: Option<usize>,
     index: &mut [u16],
 ) -> Decision
     requires known { Known gate guests.old waiting.old flight.old }
@@ -59,8 +49,8 @@ fn by_weight(
     ensures beside_2 { Beside (stands index.old result.answer waiting.new) index.new result.gate.waiting }
 {
     match found {
-        Found::At(place) => send_by_weight(gate, guests, waiting, flight, place, index),
-        Found::Nothing => gates::decided(gate, Answer::Nothing),
+        Some(place) => send_by_weight(gate, guests, waiting, flight, place, index),
+        None => gates::decided(gate, Answer::Nothing),
     }
 }
 
@@ -78,24 +68,19 @@ fn by_reservation(
     ensures leaves { Leaves reservation_phase gate guests.old waiting.old flight.old result guests.new (stands index.old result.answer waiting.new) flight.new }
     ensures beside_2 { Beside (stands index.old result.answer waiting.new) index.new result.gate.waiting }
 {
-    let known = gate.guests as usize;
-    let count = gate.waiting as usize;
-    let time = gate.time;
-    let latest = latest_limit(gate.setup.rule, time);
-    let firsts = first_in_line(
-        &waiting[..],
-        count,
-        &guests[..],
-        known,
-        time,
-        latest,
-        &index[..],
-    );
+    let queue = Queue {
+        waiting: &waiting[..],
+        count: gate.waiting as usize,
+        guests: &guests[..],
+        known: gate.guests as usize,
+        time: gate.time,
+    };
+    let firsts = first_in_line(queue, gate.setup.rule, &index[..]);
     let found = firsts.due;
     let spare = firsts.open;
     match found {
-        Found::At(place) => send_by_reservation(gate, &guests[..], waiting, flight, place, index),
-        Found::Nothing => by_weight(gate, guests, waiting, flight, spare, index),
+        Some(place) => send_by_reservation(gate, &guests[..], waiting, flight, place, index),
+        None => by_weight(gate, guests, waiting, flight, spare, index),
     }
 }
 

@@ -1,5 +1,6 @@
 // The clock of a board that counts microseconds in 32 bits: one record that each reading moves on. It tells the time in nanoseconds, as the gate
 // takes it. What a reading does is in specs/Reading.antt. No `requires`: whatever record, whatever reading.
+// Whether a reading was taken is a number, and no Option: the record is C's.
 #![tactic(auto)]
 
 ghost use Rattle.std.specs.Prelude.{◌≡◌};
@@ -71,7 +72,7 @@ fn advance(time: u64, last: u32, started: u32, reading: u32) -> Turn
     if CEILING - since < time {
         return Turn {
             told: Told {
-                refusal: refusals::number(Refusal::TimeAboveCeiling),
+                refusal: u64::from(Refusal::TimeAboveCeiling),
                 time: 0,
             },
             clock: Clock {

@@ -4,7 +4,7 @@
 
 ghost use Rattle.std.specs.Prelude.{◌≡◌, ◌&&◌, ◌+◌, ◌*◌, ◌≤◌, ◌<◌, leb, length};
 ghost use Rattle.rules.specs.Numbers.{most_delta};
-ghost use Rattle.arrays.specs.Counters.{counter_wide, counter_at, good_counters, one_more, row_set, counted_row, counted_all, cleared_all};
+ghost use Rattle.arrays.specs.Counters.{counter_wide, DELTA, RHO, counter_at, good_counters, one_more, row_set, counted_row, counted_all, cleared_all};
 
 pub mod handing; // what a request is handed on with
 
@@ -23,14 +23,18 @@ pub const DELTA: usize = 0;
 // Where rho stands in a row.
 pub const RHO: usize = 1;
 
+// The counters of a guest at an array: what was completed for it since its last request there, all told, and by reservation.
+#[derive(Clone, Copy)]
+pub struct Counter {
+    pub delta: u64,
+    pub rho: u64,
+}
+
 // A row is good: delta is not past its stop, and rho not above delta.
-fn is_good_row(delta: u64, rho: u64) -> bool
-    ensures { result ≡ (leb delta most_delta && leb rho delta) }
+fn is_good_row(counter: Counter) -> bool
+    ensures { result ≡ (leb counter.delta most_delta && leb counter.rho counter.delta) }
 {
-    if MOST_COUNT < delta {
-        return false;
-    }
-    rho <= delta
+    counter.delta <= MOST_COUNT && counter.rho <= counter.delta
 }
 
 // So many rows are good.
@@ -38,44 +42,42 @@ pub fn is_good(counters: &[u64], rows: usize) -> bool
     requires { rows * counter_wide ≤ length counters.now }
     ensures { result ≡ good_counters counters.now rows }
 {
-    let mut row = 0;
-    while row < rows {
-        let at = row * COUNTER_WIDE;
-        if !is_good_row(counters[at + DELTA], counters[at + RHO]) {
+    for row in 0..rows {
+        if !is_good_row(read(counters, row)) {
             return false;
         }
-        row += 1;
     }
     true
 }
 
-// Number `which` of a row.
-pub fn read(counters: &[u64], row: usize, which: usize) -> u64
-    requires { (row * counter_wide + counter_wide ≤ length counters.now) × (which < counter_wide) }
-    ensures { result ≡ counter_at counters.now row which }
+// Both numbers of a row.
+pub fn read(counters: &[u64], row: usize) -> Counter
+    requires { row * counter_wide + counter_wide ≤ length counters.now }
+    ensures delta { result.delta ≡ counter_at counters.now row DELTA }
+    ensures rho { result.rho ≡ counter_at counters.now row RHO }
 {
-    counters[row * COUNTER_WIDE + which]
+    let at = row * COUNTER_WIDE;
+    Counter {
+        delta: counters[at + DELTA],
+        rho: counters[at + RHO],
+    }
 }
 
 // Sets both numbers of a row.
-pub fn set_row(counters: &mut [u64], row: usize, delta: u64, rho: u64)
+pub fn set_row(counters: &mut [u64], row: usize, counter: Counter)
     requires { row * counter_wide + counter_wide ≤ length counters.old }
-    ensures { counters.new ≡ row_set row delta rho counters.old }
+    ensures { counters.new ≡ row_set row counter.delta counter.rho counters.old }
 {
     let at = row * COUNTER_WIDE;
-    counters[at + DELTA] = delta;
-    counters[at + RHO] = rho;
+    counters[at + DELTA] = counter.delta;
+    counters[at + RHO] = counter.rho;
 }
 
 // One more, but it stops.
 fn one_more(count: u64) -> u64
     ensures { result ≡ one_more count }
 {
-    if count < MOST_COUNT {
-        count + 1
-    } else {
-        MOST_COUNT
-    }
+    count.saturating_add(1).min(MOST_COUNT)
 }
 
 // One more in a row: of delta, and of rho where the request had been sent by reservation.
@@ -83,13 +85,16 @@ fn count_row(counters: &mut [u64], row: usize, reserved: bool)
     requires { row * counter_wide + counter_wide ≤ length counters.old }
     ensures { counters.new ≡ counted_row reserved row counters.old }
 {
-    let delta = one_more(read(&counters[..], row, DELTA));
-    let rho = read(&counters[..], row, RHO);
-    if reserved {
-        set_row(counters, row, delta, one_more(rho));
-    } else {
-        set_row(counters, row, delta, rho);
-    }
+    let before = read(counters, row);
+    let counter = Counter {
+        delta: one_more(before.delta),
+        rho: if reserved {
+            one_more(before.rho)
+        } else {
+            before.rho
+        },
+    };
+    set_row(counters, row, counter);
 }
 
 // A completion counts for its guest at every array.
@@ -97,10 +102,8 @@ pub fn count_all(counters: &mut [u64], arrays: usize, guests: usize, guest: usiz
     requires { (arrays * guests * counter_wide ≤ length counters.old) × (guest < guests) }
     ensures { counters.new ≡ counted_all arrays guests guest reserved counters.old }
 {
-    let mut array = 0;
-    while array < arrays {
+    for array in 0..arrays {
         count_row(counters, array * guests + guest, reserved);
-        array += 1;
     }
 }
 
@@ -109,9 +112,6 @@ pub fn clear_all(counters: &mut [u64], guests: usize, array: usize)
     requires { (array * guests + guests) * counter_wide ≤ length counters.old }
     ensures { counters.new ≡ cleared_all guests array guests counters.old }
 {
-    let mut guest = 0;
-    while guest < guests {
-        set_row(counters, array * guests + guest, 0, 0);
-        guest += 1;
-    }
+    let from = array * guests * COUNTER_WIDE;
+    counters[from..from + guests * COUNTER_WIDE].fill(0);
 }

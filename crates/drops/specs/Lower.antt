@@ -8,6 +8,8 @@ use Rattle.lists.specs.Stores.{stores, stores_other, stores-next}
 use Rattle.lists.specs.Lines.{whether}
 use Rattle.rules.specs.Numbers.{ceiling, most_cost, down}
 use Rattle.table.specs.Columns.{RESERVATION, RNEXT, guest_wide, GUEST, COST, RTAG, waiting_wide, guest_at, waiting_at}
+use Rattle.drops.specs.declared.Fall.{Fall}
+use Rattle.drops.specs.Fall.{Falls}
 use Rattle.moves.specs.Moves.{fall_of, next_dropped, tag_dropped, tags_dropped, last_past, Unreserved}
 
 -- w is xs after i turns
@@ -105,3 +107,10 @@ dropped_is g c n gs ws {w} {s} {m} {r} e f h l = (
       (l ∙ ap (λ (x : ℕ). last_past g (c * s) s x ws n) f ∙ ap (λ (x : ℕ). last_past g (c * x) x (guest_at gs g RNEXT - c * x) ws n) e),
   h ∙ ap (λ (x : ℕ). tags_dropped g (c * x) ws n) e,
 )
+
+-- the same by the fall of the guest
+pub fallen_is : (g c n : ℕ) (gs ws : List ℕ) {w : List ℕ} {r : ℕ} {f : Fall} → Falls g c gs f
+    → w ≡ tags_dropped g f.by ws n → r ≡ last_past g f.by f.spacing f.next ws n → (set gs (g * guest_wide + RNEXT) r ≡ next_dropped g c n ws gs) × (w ≡ tags_dropped g (fall_of g c gs) ws n)
+fallen_is g c n gs ws {f = f} h e l =
+    dropped_is g c n gs ws h.spacing (h.next ∙ ap (λ (x : ℕ). guest_at gs g RNEXT - x) h.by)
+    (e ∙ ap (λ (x : ℕ). tags_dropped g x ws n) h.by) (l ∙ ap (λ (x : ℕ). last_past g x f.spacing f.next ws n) h.by)

@@ -32,7 +32,7 @@ use Rattle.moves.specs.Moves.{appended, followed}
 use Rattle.table.specs.Stamp.{lawful_tags, moves_fit}
 use Rattle.walks.specs.Survey.{highest}
 use Rattle.shares.specs.Passing.{passing_is}
-use Rattle.stamps.specs.declared.Stamp.{Stamp}
+use Rattle.tags.specs.declared.Stamp.{Stamp}
 use Rattle.table.specs.Does.{placed_gate}
 use Rattle.enter.specs.Enters.{EntersAt}
 use Rattle.stamps.specs.Arrive.{stamp_of, request_of, Stampable, Ready, Placeable, Placed}

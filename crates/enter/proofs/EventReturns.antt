@@ -1,4 +1,5 @@
 -- What the functions of the events know at their calls and at their ends, from what their callees ensure. Assumes nothing.
+use Rattle.std.specs.Prelude.{Some, None, Option}
 use Prim.Native.Nat.{ℕ, ◌*◌, ◌≤◌, ◌<◌}
 use mathlib.Core.Path.{◌≡◌, sym, subst}
 use mathlib.Core.List.{List}
@@ -15,8 +16,6 @@ use Rattle.table.specs.Columns.{flight_wide}
 use Rattle.table.specs.View.{table_of, Known}
 use Rattle.moves.specs.Moves.{freed}
 use Rattle.walks.specs.Walks.{Finds}
-use Rattle.walks.specs.declared.Found.{Found}
-use Rattle.walks.specs.declared.Found.TheVariants.{At, Nothing as NoPlace}
 use Rattle.table.specs.Does.{timed_gate, freed_gate}
 use Rattle.enter.specs.Enters.{EntersAt}
 use Rattle.table.proofs.Facts.{facts}
@@ -31,13 +30,13 @@ module _ (g : Gate) (gs ws fs : List ℕ) (k : Known g gs ws fs) where
     pub tick_returns : (m : Gate) → m ≡ timed_gate now g → EntersAt (Tick now) g gs ws fs m gs ws fs
     tick_returns m p = subst (λ (x : Gate). EntersAt (Tick now) g gs ws fs x gs ws fs) (sym p) (tick_enters g gs ws fs k now l h)
 
-    module _ (a : Flight) (known : a.guest < g.guests) (x : Found) (found : Finds a t.flight x) where
+    module _ (a : Flight) (known : a.guest < g.guests) (x : Option ℕ) (found : Finds a t.flight x) where
       -- nothing of this name is in flight
-      pub absent_is : x ≡ NoPlace → verdict t (Completion a now) ≡ refuse NotInFlight
+      pub absent_is : x ≡ None → verdict t (Completion a now) ≡ refuse NotInFlight
       absent_is e = completion_absent g gs ws fs k now a known l h (subst (Finds a t.flight) e found)
 
-      module _ (place : ℕ) (e : x ≡ At place) where
-        at_place : Finds a t.flight (At place)
+      module _ (place : ℕ) (e : x ≡ Some place) where
+        at_place : Finds a t.flight (Some place)
         at_place = subst (Finds a t.flight) e found
 
         pub out_asks : (place < g.flight) × (g.flight * flight_wide ≤ length fs)

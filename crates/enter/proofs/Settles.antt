@@ -1,4 +1,5 @@
 -- What an arrival finds and leaves around its placing: the shares settled or not, and whether its name is new. Assumes nothing.
+use Rattle.std.specs.Prelude.{Some, None, Option}
 use Prim.Native.Nat.{ℕ, ◌+◌, ◌-◌, ◌*◌, ◌≤◌, ◌<◌}
 use mathlib.Core.Path.{◌≡◌, refl, sym, ap, ◌∙◌, subst}
 use mathlib.Core.Bool.{Bool, true, false, not, ◌&&◌, and_assoc}
@@ -35,8 +36,6 @@ use Rattle.table.proofs.Facts.{facts}
 use Rattle.walks.specs.Walks.{Finds}
 use Rattle.walks.specs.Survey.{own_of}
 use Rattle.walks.specs.OwnLaws.{Says, own_says}
-use Rattle.walks.specs.declared.Found.{Found}
-use Rattle.walks.specs.declared.Found.TheVariants.{At, Nothing as NoPlace}
 use Rattle.walks.specs.declared.survey.Own.{Own}
 use Rattle.walks.specs.declared.survey.Own.TheVariants.{Repeated, Waits, Idle}
 use Rattle.enter.proofs.Arrivals.{arrival_used, arrival_full}
@@ -137,13 +136,13 @@ module _ (g : Gate) (gs ws fs : List ℕ) (k : Known g gs ws fs) (a : Arriving) 
   pub waits-refused : lacks f (map name at.waiting) ≡ false → verdict at comes ≡ refuse IdInUse
   waits-refused e = arrival_used g gs ws fs k a now timely.known timely.late timely.early timely.cheap timely.many (waits_used at f e)
 
-  module _ (x : Found) (found : Finds f at.flight x) where
-    pub flies-refused : (place : ℕ) → x ≡ At place → verdict at comes ≡ refuse IdInUse
+  module _ (x : Option ℕ) (found : Finds f at.flight x) where
+    pub flies-refused : (place : ℕ) → x ≡ Some place → verdict at comes ≡ refuse IdInUse
     flies-refused place e =
-        let h : Finds f at.flight (At place) = subst (Finds f at.flight) e found in
+        let h : Finds f at.flight (Some place) = subst (Finds f at.flight) e found in
         arrival_used g gs ws fs k a now timely.known timely.late timely.early timely.cheap timely.many (flies_used at f h.1)
 
-    module _ (e : x ≡ NoPlace) (absent : lacks f (map name at.waiting) ≡ true) where
+    module _ (e : x ≡ None) (absent : lacks f (map name at.waiting) ≡ true) where
       new : lacks f (names at) ≡ true
       new = names-new at f absent (subst (Finds f at.flight) e found)
 

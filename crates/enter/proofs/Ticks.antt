@@ -1,4 +1,5 @@
 -- A tick and a completion of a known table: each refusal, and what enters before the choice. Assumes nothing.
+use Rattle.std.specs.Prelude.{Some, None}
 use Prim.Native.Nat.{ℕ, ◌-◌, ◌≤◌, ◌<◌}
 use mathlib.Core.Path.{◌≡◌, sym, ap, ◌∙◌}
 use mathlib.Core.List.{List}
@@ -22,7 +23,6 @@ use Rattle.table.specs.View.{gate_at, flight_form, table_of, Known}
 use Rattle.walks.specs.Walks.{Finds}
 use Rattle.moves.specs.Moves.{freed}
 use Rattle.moves.specs.MovesLaws.{freed_is}
-use Rattle.walks.specs.declared.Found.TheVariants.{At, Nothing as NoPlace}
 use Rattle.table.specs.Does.{written, timed_gate, freed_gate}
 use Rattle.table.proofs.Lens.{known_written}
 use Rattle.enter.specs.Enters.{EntersAt}
@@ -72,11 +72,11 @@ module _ (g : Gate) (gs ws fs : List ℕ) (k : Known g gs ws fs) (now : ℕ) whe
       completion_judged = others-judged g gs ws fs k ev a.guest now (completion_names t a now) known l h
 
       -- nothing of this name is in flight
-      pub completion_absent : Finds a t.flight NoPlace → verdict t ev ≡ refuse NotInFlight
+      pub completion_absent : Finds a t.flight None → verdict t ev ≡ refuse NotInFlight
       unfolding event_tests
       completion_absent f = completion_judged ∙ rw f
 
-      module _ (place : ℕ) (f : Finds a t.flight (At place)) where
+      module _ (place : ℕ) (f : Finds a t.flight (Some place)) where
         pub out-here : place < g.flight
         out-here = omega (arith, f.0, length-rows flight_form fs g.flight)
 

@@ -9,13 +9,11 @@ ghost use Rattle.index.specs.Index.{Beside};
 ghost use Rattle.enter.specs.Enters.{Enters, EntersBeside};
 ghost use Rattle.stamps.specs.Arrive.{Timely, Ready};
 
-use crate::Entered;
 use crate::rows::{ends, own_rows, place_last};
 use ranges::{is_fair, is_spread};
 use rules::{Arriving, Gate, Refusal};
 use stamps::tags_of;
 use tags::CEILING;
-use walks::Found;
 use walks::survey::Own;
 
 // At a guest with something waiting: nothing is settled.
@@ -27,7 +25,7 @@ fn arrive_busy(
     what: Arriving,
     time: u64,
     index: &mut [u16],
-) -> Entered
+) -> Result<Gate, Refusal>
     requires known { Known gate guests.old waiting.old flight.old }
     requires ready { Ready gate guests.old waiting.old flight.old what time }
     requires guest_value { idle_at (table_of gate guests.old waiting.old flight.old) what.guest ≡ false }
@@ -35,14 +33,11 @@ fn arrive_busy(
     ensures enters { Enters (Arrival what time) gate guests.old waiting.old flight.old result guests.new waiting.new flight.new }
     ensures enters_beside { EntersBeside gate result waiting.new index.new }
 {
-    let tags = tags_of(&guests[..], what, time, false);
-    let rtag = tags.rtag;
-    let ltag = tags.ltag;
-    let stag = tags.stag;
-    if !tags::stamp_fits(rtag, ltag, stag) {
-        return Entered::Refused(Refusal::TagAboveCeiling);
+    let stamp = tags_of(&guests[..], what, time, false);
+    if !stamp.fits() {
+        return Err(Refusal::TagAboveCeiling);
     }
-    Entered::At(place_last(gate, guests, waiting, what, time, tags, index))
+    Ok(place_last(gate, guests, waiting, what, time, stamp, index))
 }
 
 // At an idle guest: the waiting share tags move so that the smallest comes to the time, where none then passes the ceiling.
@@ -54,7 +49,7 @@ fn arrive_idle(
     what: Arriving,
     time: u64,
     index: &mut [u16],
-) -> Entered
+) -> Result<Gate, Refusal>
     requires known { Known gate guests.old waiting.old flight.old }
     requires ready { Ready gate guests.old waiting.old flight.old what time }
     requires guest_value { idle_at (table_of gate guests.old waiting.old flight.old) what.guest ≡ true }
@@ -64,21 +59,18 @@ fn arrive_idle(
 {
     let known = gate.guests as usize;
     let count = gate.waiting as usize;
-    let tags = tags_of(&guests[..], what, time, true);
-    let rtag = tags.rtag;
-    let ltag = tags.ltag;
-    let stag = tags.stag;
-    if !tags::stamp_fits(rtag, ltag, stag) {
-        return Entered::Refused(Refusal::TagAboveCeiling);
+    let stamp = tags_of(&guests[..], what, time, true);
+    if !stamp.fits() {
+        return Err(Refusal::TagAboveCeiling);
     }
-    let span = ends(&waiting[..], count, known, &index[..]);
+    let span = ends(gate, &guests[..], &waiting[..], &index[..]);
     let least = span.least;
     let most = span.most;
     if CEILING < most + time - least {
-        return Entered::Refused(Refusal::TagAboveCeiling);
+        return Err(Refusal::TagAboveCeiling);
     }
     shares::adjust(guests, known, waiting, count, time, least);
-    Entered::At(place_last(gate, guests, waiting, what, time, tags, index))
+    Ok(place_last(gate, guests, waiting, what, time, stamp, index))
 }
 
 // A request whose name no waiting request has: it may be in flight, or find no place to wait.
@@ -91,7 +83,7 @@ fn arrive_new(
     time: u64,
     idle: bool,
     index: &mut [u16],
-) -> Entered
+) -> Result<Gate, Refusal>
     requires known { Known gate guests.old waiting.old flight.old }
     requires timely { Timely gate what time }
     requires waiting_value { lacks (called_by what) (map name (waiting_of waiting.old gate.waiting)) ≡ true }
@@ -103,10 +95,10 @@ fn arrive_new(
     let flying = gate.flight as usize;
     let found = walks::flight::find_flight(&flight[..], flying, what.guest, what.id as u64);
     match found {
-        Found::At(_) => Entered::Refused(Refusal::IdInUse),
-        Found::Nothing => {
+        Some(_) => Err(Refusal::IdInUse),
+        None => {
             if gate.waiting == gate.setup.capacity {
-                return Entered::Refused(Refusal::NoRoom);
+                return Err(Refusal::NoRoom);
             }
             if idle {
                 arrive_idle(gate, guests, waiting, flight, what, time, index)
@@ -126,31 +118,31 @@ pub fn arrive(
     what: Arriving,
     time: u64,
     index: &mut [u16],
-) -> Entered
+) -> Result<Gate, Refusal>
     requires known { Known gate guests.old waiting.old flight.old }
     requires beside { Beside waiting.old index.old gate.waiting }
     ensures enters { Enters (Arrival what time) gate guests.old waiting.old flight.old result guests.new waiting.new flight.new }
     ensures enters_beside { EntersBeside gate result waiting.new index.new }
 {
     if gate.guests <= what.guest {
-        return Entered::Refused(Refusal::UnknownGuest);
+        return Err(Refusal::UnknownGuest);
     }
     if CEILING < time {
-        return Entered::Refused(Refusal::TimeAboveCeiling);
+        return Err(Refusal::TimeAboveCeiling);
     }
     if time < gate.time {
-        return Entered::Refused(Refusal::TimeBeforeLast);
+        return Err(Refusal::TimeBeforeLast);
     }
     if !is_fair(what.cost) {
-        return Entered::Refused(Refusal::BadCost);
+        return Err(Refusal::BadCost);
     }
     if !is_spread(what.delta, what.rho) {
-        return Entered::Refused(Refusal::BadDelta);
+        return Err(Refusal::BadDelta);
     }
     let count = gate.waiting as usize;
     let own = own_rows(&waiting[..], count, what.guest, what.id as u64, &index[..]);
     match own {
-        Own::Repeated => Entered::Refused(Refusal::IdInUse),
+        Own::Repeated => Err(Refusal::IdInUse),
         Own::Waits => arrive_new(gate, guests, waiting, flight, what, time, false, index),
         Own::Idle => arrive_new(gate, guests, waiting, flight, what, time, true, index),
     }

@@ -3,11 +3,9 @@ ghost use Rattle.rules.specs.declared.Event.TheVariants.{Completion, Tick};
 ghost use Rattle.table.specs.View.{Known};
 ghost use Rattle.enter.specs.Enters.{Enters};
 
-use crate::Entered;
 use rules::{Flight, Gate, Refusal};
 use table::gates;
 use tags::CEILING;
-use walks::Found;
 
 // A tick: only the time moves on.
 pub fn wait(
@@ -16,17 +14,17 @@ pub fn wait(
     waiting: &mut [u64],
     flight: &mut [u64],
     time: u64,
-) -> Entered
+) -> Result<Gate, Refusal>
     requires { Known gate guests.old waiting.old flight.old }
     ensures { Enters (Tick time) gate guests.old waiting.old flight.old result guests.new waiting.new flight.new }
 {
     if CEILING < time {
-        return Entered::Refused(Refusal::TimeAboveCeiling);
+        return Err(Refusal::TimeAboveCeiling);
     }
     if time < gate.time {
-        return Entered::Refused(Refusal::TimeBeforeLast);
+        return Err(Refusal::TimeBeforeLast);
     }
-    Entered::At(gates::timed(gate, time))
+    Ok(gates::timed(gate, time))
 }
 
 // A completion: the named request leaves the array.
@@ -37,26 +35,26 @@ pub fn complete(
     flight: &mut [u64],
     which: Flight,
     time: u64,
-) -> Entered
+) -> Result<Gate, Refusal>
     requires { Known gate guests.old waiting.old flight.old }
     ensures { Enters (Completion which time) gate guests.old waiting.old flight.old result guests.new waiting.new flight.new }
 {
     if gate.guests <= which.guest {
-        return Entered::Refused(Refusal::UnknownGuest);
+        return Err(Refusal::UnknownGuest);
     }
     if CEILING < time {
-        return Entered::Refused(Refusal::TimeAboveCeiling);
+        return Err(Refusal::TimeAboveCeiling);
     }
     if time < gate.time {
-        return Entered::Refused(Refusal::TimeBeforeLast);
+        return Err(Refusal::TimeBeforeLast);
     }
     let flying = gate.flight as usize;
     let found = walks::flight::find_flight(&flight[..], flying, which.guest, which.id as u64);
     match found {
-        Found::At(place) => {
+        Some(place) => {
             moves::rows::take_out(flight, place, flying);
-            Entered::At(gates::freed(gate, time))
+            Ok(gates::freed(gate, time))
         }
-        Found::Nothing => Entered::Refused(Refusal::NotInFlight),
+        None => Err(Refusal::NotInFlight),
     }
 }

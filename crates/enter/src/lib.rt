@@ -1,5 +1,6 @@
 // What an event does before the choice is made, on a table that is known to be sound: its refusals in their order, then what enters. For this
 // repository's own crates, and no public call. Soundness is shown once, where a table comes from, and kept by every event.
+// Gate and tables stay side by side for the reason that stands at the head of sends.
 #![tactic(auto)]
 
 ghost use Rattle.table.specs.View.{Known};
@@ -12,13 +13,6 @@ pub mod arrive; // an arrival
 pub mod events; // a completion and a tick
 mod rows; // what an arrival asks of the waiting rows, and the placing
 
-// What an event comes to: it is refused, or it enters, and this is the gate as the choice finds it.
-#[derive(Drop)]
-pub enum Entered {
-    Refused(Refusal),
-    At(Gate),
-}
-
 // An event: refused, and every number stands as it did, or entered. The index follows the rows.
 pub fn enter(
     gate: Gate,
@@ -27,7 +21,7 @@ pub fn enter(
     flight: &mut [u64],
     event: Event,
     index: &mut [u16],
-) -> Entered
+) -> Result<Gate, Refusal>
     requires known { Known gate guests.old waiting.old flight.old }
     requires beside { Beside waiting.old index.old gate.waiting }
     ensures enters { Enters event gate guests.old waiting.old flight.old result guests.new waiting.new flight.new }

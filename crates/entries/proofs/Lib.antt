@@ -1,1 +1,2 @@
 pub mod AllRows
+pub mod RowTests

@@ -16,18 +16,18 @@ use Rattle.lines.specs.Line.{line_of, LINE}
 use Rattle.lines.specs.Put.{Put}
 use Rattle.lines.proofs.PutLaws.{put_as}
 use Rattle.trace.specs.Printed.{answered}
-use Rattle.trace.specs.declared.Read.{Read}
-use Rattle.trace.specs.declared.Read.TheVariants.{Good, Bad}
 use Rattle.feed.specs.Promise.{Judged}
+use Rattle.std.specs.Prelude.{Some, None}
+use Rattle.trace.specs.Event.{Read}
 
 module _ (g : Gate) (gs ws fs : List ℕ) (x : Read) where
   -- a good event is answered by the step
-  pub good-answers : (e : Event) → x ≡ Good e → {d : Decision} {hs vs es : List ℕ} → Leaves (λ t. step t e) g gs ws fs d hs vs es → Leaves (λ t. answered t x) g gs ws fs d hs vs es
+  pub good-answers : (e : Event) → x ≡ Some e → {d : Decision} {hs vs es : List ℕ} → Leaves (λ t. step t e) g gs ws fs d hs vs es → Leaves (λ t. answered t x) g gs ws fs d hs vs es
   unfolding answered
   good-answers e p {d} {hs} {vs} {es} l = subst (λ (y : Read). Leaves (λ t. answered t y) g gs ws fs d hs vs es) (sym p) l
 
   -- a bad one leaves all as it stood
-  pub bad_answers : Known g gs ws fs → x ≡ Bad → (d : Decision) → d ≡ decision_of g (Refused BadEvent) → Leaves (λ t. answered t x) g gs ws fs d gs ws fs × Known d.gate gs ws fs
+  pub bad_answers : Known g gs ws fs → x ≡ None → (d : Decision) → d ≡ decision_of g (Refused BadEvent) → Leaves (λ t. answered t x) g gs ws fs d gs ws fs × Known d.gate gs ws fs
   unfolding answered
   bad_answers k p d q = (
     subst (λ (y : Decision). Leaves (λ t. answered t x) g gs ws fs y gs ws fs) (sym q) (stays g gs ws fs k {f = λ t. answered t x} (ap (answered (table_of g gs ws fs)) p)),

@@ -13,9 +13,8 @@ use Rattle.windows.specs.Window.{Window}
 use Rattle.windows.proofs.Staged.{Staged, staged_next}
 use Rattle.windows.proofs.Longer.{lengthened, longer_known, longer_written, front_long, front-whole, front-shown}
 use Rattle.lines.specs.Put.{Put}
-use Rattle.trace.specs.Event.{event_of, events_of}
+use Rattle.trace.specs.Event.{event_of, events_of, Read}
 use Rattle.trace.specs.Printed.{answers_to, table_after, lines_from}
-use Rattle.trace.specs.declared.Read.{Read}
 use Rattle.feed.specs.Promise.{Judged, FedBy}
 use Rattle.feed.proofs.Going.{Going, going_none, going_next, one_same, run-same}
 

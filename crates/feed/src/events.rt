@@ -1,5 +1,5 @@
 // The events of a part of a trace, each judged and its line written.
-ghost use Rattle.std.specs.Prelude.{◌≡◌, List, ℕ, ◌+◌, ◌*◌, ◌≤◌, ◌<◌, ◌^◌, min, length, drop};
+ghost use Rattle.std.specs.Prelude.{◌≡◌, List, ℕ, ◌+◌, ◌*◌, ◌≤◌, ◌<◌, ◌^◌, length, drop};
 ghost use Rattle.table.specs.Columns.{waiting_wide};
 ghost use Rattle.table.specs.View.{Known};
 ghost use Rattle.table.specs.Does.{Leaves};
@@ -8,14 +8,15 @@ ghost use Rattle.windows.specs.Window.{spare, Window};
 ghost use Rattle.lines.specs.Line.{LINE};
 ghost use Rattle.trace.specs.Event.{event_of};
 ghost use Rattle.trace.specs.Printed.{answered};
-ghost use Rattle.feed.specs.Promise.{Judged, FedBy};
+ghost use Rattle.tables.specs.Tables.{AreKnown};
+ghost use Rattle.feed.specs.Promise.{Judged, FedBy, Feeds};
 
 use index::{INDEX_WIDE, MOST_WALKED};
-use rules::{Answer, Gate, Refusal};
-use table::columns::WAITING_WIDE;
+use rules::{Answer, Event, Gate, Refusal};
+use table::columns::{WAITING_LONG, WAITING_WIDE};
 use table::gates;
 use table::gates::Decision;
-use trace::Read;
+use tables::Tables;
 use windows::WINDOW_LONG;
 
 // One event as it was read is entered into the tables and answered; a bad one is refused 14 and changes nothing. No line tells when to wake the gate,
@@ -25,7 +26,7 @@ fn judge(
     guests: &mut [u64],
     waiting: &mut [u64],
     flight: &mut [u64],
-    event: Read,
+    event: Option<Event>,
     index: &mut [u16],
 ) -> Decision
     requires known { Known gate guests.old waiting.old flight.old }
@@ -35,12 +36,13 @@ fn judge(
     ensures beside_2 { Beside (stands index.old result.answer waiting.new) index.new result.gate.waiting }
 {
     match event {
-        Read::Good(good) => step::step(gate, guests, waiting, flight, good, index),
-        Read::Bad => gates::decided(gate, Answer::Refused(Refusal::BadEvent)),
+        Some(good) => step::step(gate, guests, waiting, flight, good, index),
+        None => gates::decided(gate, Answer::Refused(Refusal::BadEvent)),
     }
 }
 
-// The gate after an event, the place after its line, and how many rows further back the waiting table stands.
+// The gate after an event, the place after its line, and how many rows further back the waiting table stands. The place goes with every
+// turn, so it is no windows::After with a place beside it.
 #[derive(Drop)]
 pub struct After {
     pub gate: Gate,
@@ -72,14 +74,12 @@ fn one(
 {
     let event = items::read_event(version, &bytes[from..from + 14]);
     let judged = judge(gate, guests, waiting, flight, event, index);
-    let after = judged.gate;
-    let answer = judged.answer;
-    let gone = index::gone_on(answer, &index[..]);
-    let next = lines::put_line(out, at, number, answer);
+    let gone = index::gone_on(judged.answer, &index[..]);
+    let next = lines::put_line(out, at, number, judged.answer);
     After {
-        gate: after,
+        gate: judged.gate,
         at: next,
-        gone: gone,
+        gone,
     }
 }
 
@@ -121,30 +121,23 @@ fn one_in(
     )
 }
 
-// The smaller of two numbers.
-fn least(a: usize, b: usize) -> usize
-    ensures { result ≡ min a b }
-{
-    if a < b { a } else { b }
-}
-
-// The gate after a run of events, how many they were, and how many bytes of lines they gave.
+// How many events a run had, and how many bytes of lines they gave.
 #[derive(Drop)]
 pub struct Fed {
-    pub gate: Gate,
     pub events: usize,
     pub bytes: usize,
 }
 
-// The same, and where the table of the waiting requests stands in its window.
+// The same, with the gate after them, and where the table of the waiting requests stands in its window.
 #[derive(Drop)]
 pub struct FedIn {
     pub fed: Fed,
+    pub gate: Gate,
     pub start: usize,
 }
 
-// Judges as many whole events of the bytes of a trace of this version as `out` has room for, on the table that stands at the front of a window; with no index it
-// stays there.
+// Judges as many whole events of the bytes of a trace of this version as `out` has room for, on the table that stands at the front of a window; with no index
+// it stays there.
 fn feed_in(
     version: u64,
     bytes: &[u8],
@@ -160,14 +153,13 @@ fn feed_in(
     requires bytes_bound { number + length bytes.now < 2 ^ 64 }
     requires size_in_bounds { 0 < length index.old → spare * waiting_wide + size ≤ length window.old }
     requires by_index { (ws : List ℕ) × Window size 0 window.old ws × Known first guests.old ws flight.old × Beside ws index.old first.waiting × Snug first ws index.old }
-    ensures { (ws : List ℕ) → Window size 0 window.old ws → (vs : List ℕ) × Window size result.start window.new vs × FedBy version bytes.now number first guests.old ws flight.old result.fed.gate guests.new vs flight.new out.old out.new result.fed.events result.fed.bytes }
+    ensures { (ws : List ℕ) → Window size 0 window.old ws → (vs : List ℕ) × Window size result.start window.new vs × FedBy version bytes.now number first guests.old ws flight.old result.gate guests.new vs flight.new out.old out.new result.fed.events result.fed.bytes }
 {
-    let n = least(bytes.len() / 14, out.len() / 65);
+    let n = (bytes.len() / 14).min(out.len() / 65);
     let mut gate = first;
     let mut start: usize = 0;
-    let mut i: usize = 0;
     let mut at: usize = 0;
-    while i < n {
+    for i in 0..n {
         start = windows::settle(window, start, size);
         let after = one_in(
             version,
@@ -187,102 +179,73 @@ fn feed_in(
         gate = after.gate;
         at = after.at;
         start += after.gone;
-        i += 1;
     }
     let fed = Fed {
-        gate,
         events: n,
         bytes: at,
     };
-    FedIn { fed, start }
+    FedIn { fed, gate, start }
 }
 
 // The same with no index, on the table as it is lent: so few wait that each event walks them.
-fn feed_walked(
-    version: u64,
-    bytes: &[u8],
-    number: u64,
-    first: Gate,
-    guests: &mut [u64],
-    waiting: &mut [u64],
-    flight: &mut [u64],
-    out: &mut [u8],
-) -> Fed
-    requires known { Known first guests.old waiting.old flight.old }
+fn feed_walked(version: u64, bytes: &[u8], number: u64, tables: &mut Tables, out: &mut [u8]) -> Fed
+    requires known { AreKnown tables.old }
     requires bytes_bound { number + length bytes.now < 2 ^ 64 }
-    ensures { FedBy version bytes.now number first guests.old waiting.old flight.old result.gate guests.new waiting.new flight.new out.old out.new result.events result.bytes }
+    ensures { Feeds version bytes.now number tables.old tables.new out.old out.new result.events result.bytes }
 {
-    let mut none = [0u16; 1];
-    let size = waiting.len();
     let made = feed_in(
         version,
         bytes,
         number,
-        first,
-        guests,
-        waiting,
-        size,
-        flight,
+        tables.gate,
+        &mut tables.guests,
+        &mut tables.waiting,
+        WAITING_LONG,
+        &mut tables.flight,
         out,
-        &mut none[..0],
+        &mut [],
     );
+    tables.gate = made.gate;
     made.fed
 }
 
 // The same with an index, on a copy of the table in a window; one walk of the rows builds it for all events.
-fn feed_beside(
-    version: u64,
-    bytes: &[u8],
-    number: u64,
-    first: Gate,
-    guests: &mut [u64],
-    waiting: &mut [u64],
-    flight: &mut [u64],
-    out: &mut [u8],
-) -> Fed
-    requires known { Known first guests.old waiting.old flight.old }
+fn feed_beside(version: u64, bytes: &[u8], number: u64, tables: &mut Tables, out: &mut [u8]) -> Fed
+    requires known { AreKnown tables.old }
     requires bytes_bound { number + length bytes.now < 2 ^ 64 }
-    ensures { FedBy version bytes.now number first guests.old waiting.old flight.old result.gate guests.new waiting.new flight.new out.old out.new result.events result.bytes }
+    ensures { Feeds version bytes.now number tables.old tables.new out.old out.new result.events result.bytes }
 {
-    let size = first.setup.capacity as usize * WAITING_WIDE;
-    let rows = first.waiting as usize;
+    let size = tables.gate.setup.capacity as usize * WAITING_WIDE;
+    let rows = tables.gate.waiting as usize;
     let mut window = [0u64; WINDOW_LONG];
     let mut index = [0u16; INDEX_WIDE];
-    windows::open(&waiting[..], size, rows, &mut window, &mut index);
+    windows::open(&tables.waiting, size, rows, &mut window, &mut index);
     let made = feed_in(
         version,
         bytes,
         number,
-        first,
-        guests,
+        tables.gate,
+        &mut tables.guests,
         &mut window,
         size,
-        flight,
+        &mut tables.flight,
         out,
         &mut index,
     );
-    windows::close(&window, made.start, size, waiting);
+    windows::close(&window, made.start, size, &mut tables.waiting);
+    tables.gate = made.gate;
     made.fed
 }
 
-// Judges as many whole events of the bytes of a trace of this version as `out` has room for, the first of which has the number after `number`: with an index of the
-// waiting rows, unless so few wait that they are as well walked.
-pub fn feed(
-    version: u64,
-    bytes: &[u8],
-    number: u64,
-    first: Gate,
-    guests: &mut [u64],
-    waiting: &mut [u64],
-    flight: &mut [u64],
-    out: &mut [u8],
-) -> Fed
-    requires known { Known first guests.old waiting.old flight.old }
+// Judges as many whole events of the bytes of a trace of this version as `out` has room for, the first of which has the number after `number`: with an index
+// of the waiting rows, unless so few wait that they are as well walked.
+pub fn feed(version: u64, bytes: &[u8], number: u64, tables: &mut Tables, out: &mut [u8]) -> Fed
+    requires known { AreKnown tables.old }
     requires bytes_bound { number + length bytes.now < 2 ^ 64 }
-    ensures { FedBy version bytes.now number first guests.old waiting.old flight.old result.gate guests.new waiting.new flight.new out.old out.new result.events result.bytes }
+    ensures { Feeds version bytes.now number tables.old tables.new out.old out.new result.events result.bytes }
 {
-    if first.waiting as usize <= MOST_WALKED {
-        return feed_walked(version, bytes, number, first, guests, waiting, flight, out);
+    if tables.gate.waiting as usize <= MOST_WALKED {
+        return feed_walked(version, bytes, number, tables, out);
     }
-    feed_beside(version, bytes, number, first, guests, waiting, flight, out)
+    feed_beside(version, bytes, number, tables, out)
 }

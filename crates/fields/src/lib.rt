@@ -1,17 +1,16 @@
 // The fields of the header of a trace, read from its bytes. Functions for this repository's own crates.
+// Versions and kinds are numbers of a trace, byte for byte, so they stay numbers.
 #![tactic(auto)]
 
 ghost use Rattle.std.specs.Prelude.{◌≡◌, ◌&&◌, ◌+◌, ◌≤◌, ◌<◌, length, take};
 ghost use Rattle.lists.specs.Words.{all};
 ghost use Rattle.lists.specs.Tab.{tab};
 ghost use Rattle.rules.specs.Sound.{counted, ruled, settled};
-ghost use Rattle.trace.specs.Little.{four_at};
-ghost use Rattle.trace.specs.Header.{mark, same, body as body_of, version_of, depth_of, guests_of, capacity_of, rule_in, credit_at, settings_at};
+ghost use Rattle.trace.specs.Little.{two_at, four_at};
+ghost use Rattle.trace.specs.Header.{mark, same, body as body_of, version_of, depth_of, guests_of, capacity_of, rule_in, credit_at, record_at, settings_at};
 
-use crate::little::{four, two, wide};
 use ranges::{is_counted, is_ruled, is_settled};
-
-pub mod little; // numbers from bytes
+use rules::Settings;
 
 // Where the limit stands in a guest's record.
 const LIMIT_AT: usize = 4;
@@ -28,9 +27,10 @@ pub fn body(version: u64, guests: usize) -> usize
     ensures { result ≡ body_of version guests }
 {
     if version == 2 {
-        return 10 + 14 * guests;
+        10 + 14 * guests
+    } else {
+        9 + 12 * guests
     }
-    9 + 12 * guests
 }
 
 // The three letters.
@@ -38,7 +38,23 @@ pub fn is_marked(bytes: &[u8]) -> bool
     requires { 9 ≤ length bytes.now }
     ensures { result ≡ same (take 3 bytes.now) mark }
 {
-    check::same(&bytes[..3], b"SGQ")
+    bytes.starts_with(b"SGQ")
+}
+
+// The number of 16 bits from a place on.
+fn short_at(bytes: &[u8], at: usize) -> u64
+    requires { at + 2 ≤ length bytes.now }
+    ensures { result ≡ two_at bytes.now at }
+{
+    u64::from(u16::from_le_bytes([bytes[at], bytes[at + 1]]))
+}
+
+// The number of 32 bits from a place on.
+fn number_at(bytes: &[u8], at: usize) -> u64
+    requires { at + 4 ≤ length bytes.now }
+    ensures { result ≡ four_at bytes.now at }
+{
+    u64::from(u32::from_le_bytes([bytes[at], bytes[at + 1], bytes[at + 2], bytes[at + 3]]))
 }
 
 // The version.
@@ -46,7 +62,7 @@ pub fn version_in(bytes: &[u8]) -> u64
     requires { 9 ≤ length bytes.now }
     ensures { result ≡ version_of bytes.now }
 {
-    two(bytes[3], bytes[4]) as u64
+    short_at(bytes, 3)
 }
 
 // The depth.
@@ -54,7 +70,7 @@ pub fn depth_in(bytes: &[u8]) -> u64
     requires { 9 ≤ length bytes.now }
     ensures { result ≡ depth_of bytes.now }
 {
-    wide(bytes[5])
+    u64::from(bytes[5])
 }
 
 // How many guests there are.
@@ -62,7 +78,7 @@ pub fn guests_in(bytes: &[u8]) -> usize
     requires { 9 ≤ length bytes.now }
     ensures { (result ≡ guests_of bytes.now) × (result < 256) }
 {
-    bytes[6] as usize
+    usize::from(bytes[6])
 }
 
 // The capacity.
@@ -70,7 +86,7 @@ pub fn capacity_in(bytes: &[u8]) -> u64
     requires { 9 ≤ length bytes.now }
     ensures { result ≡ capacity_of bytes.now }
 {
-    two(bytes[7], bytes[8]) as u64
+    short_at(bytes, 7)
 }
 
 // The rule for limits, which a trace of version 1 cannot say.
@@ -78,10 +94,7 @@ pub fn rule_in(bytes: &[u8], version: u64) -> u64
     requires { body_of version 0 ≤ length bytes.now }
     ensures { result ≡ rule_in version bytes.now }
 {
-    if version == 2 {
-        return wide(bytes[9]);
-    }
-    1
+    if version == 2 { u64::from(bytes[9]) } else { 1 }
 }
 
 // Depth, guests, capacity and rule lie in their ranges.
@@ -89,18 +102,8 @@ pub fn has_counts(bytes: &[u8], version: u64) -> bool
     requires { (9 ≤ length bytes.now) × (body_of version 0 ≤ length bytes.now) }
     ensures { result ≡ counted (depth_of bytes.now) (guests_of bytes.now) (capacity_of bytes.now) && ruled (rule_in version bytes.now) }
 {
-    if !is_counted(depth_in(bytes), guests_in(bytes) as u64, capacity_in(bytes)) {
-        return false;
-    }
-    is_ruled(rule_in(bytes, version))
-}
-
-// The number of 32 bits from a place on.
-pub fn number_at(bytes: &[u8], at: usize) -> u64
-    requires { at + 4 ≤ length bytes.now }
-    ensures { result ≡ four_at bytes.now at }
-{
-    four(bytes[at], bytes[at + 1], bytes[at + 2], bytes[at + 3]) as u64
+    is_counted(depth_in(bytes), guests_in(bytes) as u64, capacity_in(bytes))
+        && is_ruled(rule_in(bytes, version))
 }
 
 // The credit in the record that begins at a place, which a trace of version 1 cannot say.
@@ -109,37 +112,37 @@ pub fn credit_at(bytes: &[u8], version: u64, at: usize) -> u64
     ensures { result ≡ credit_at version bytes.now at }
 {
     if version == 2 {
-        let from = at + CREDIT_AT;
-        return two(bytes[from], bytes[from + 1]) as u64;
+        short_at(bytes, at + CREDIT_AT)
+    } else {
+        0
     }
-    0
 }
 
-// The settings of guest k lie in their ranges.
-fn has_settings_at(bytes: &[u8], version: u64, k: usize) -> bool
+// The settings in the record of guest k.
+#[tactic(auto, using(trace::proofs::HeaderLaws::record_fits, trace::proofs::HeaderLaws::credit_fits))]
+pub fn settings_of(bytes: &[u8], version: u64, k: usize) -> Settings
     requires { (k < 256) × (body_of version (k + 1) ≤ length bytes.now) }
-    ensures { result ≡ settled (settings_at version bytes.now k) }
+    ensures { result ≡ settings_at version bytes.now k }
 {
     let at = body(version, k);
-    is_settled(
-        number_at(bytes, at),
-        number_at(bytes, at + LIMIT_AT),
-        number_at(bytes, at + SHARES_AT),
-        credit_at(bytes, version, at),
-    )
+    Settings {
+        reservation: number_at(bytes, at),
+        limit: number_at(bytes, at + LIMIT_AT),
+        shares: number_at(bytes, at + SHARES_AT),
+        credit: credit_at(bytes, version, at),
+    }
 }
 
-// The settings of all guests do.
+// The settings of all guests lie in their ranges.
 pub fn has_settings(bytes: &[u8], version: u64, guests: usize) -> bool
     requires { (guests < 256) × (body_of version guests ≤ length bytes.now) }
     ensures { result ≡ all settled (tab guests (settings_at version bytes.now)) }
 {
-    let mut k: usize = 0;
-    while k < guests {
-        if !has_settings_at(bytes, version, k) {
+    for k in 0..guests {
+        let s = settings_of(bytes, version, k);
+        if !is_settled(s.reservation, s.limit, s.shares, s.credit) {
             return false;
         }
-        k += 1;
     }
     true
 }

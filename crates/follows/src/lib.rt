@@ -1,5 +1,6 @@
 // What follows once a call is judged: the gate is asked, and what it accepts is counted and noted. What has to be known of the tables as they stood is read before the
 // gate is asked. Functions for this repository's own crates.
+// The host lends its slices one by one, so they stay side by side: the C interface.
 #![tactic(auto)]
 
 ghost use Rattle.std.specs.Prelude.{◌≡◌};
@@ -9,7 +10,7 @@ ghost use Rattle.arrays.specs.Promise.{ask_tests, asked};
 
 use arrays::{Ask, Asking, Site};
 use counters::handing::{arriving_of, is_taken};
-use counters::{count_all, set_row};
+use counters::{Counter, count_all, set_row};
 use phases::{BY_RESERVATION, close_up, note, phase_at, place_of};
 use rules::{Flight, Gate, Outcome};
 
@@ -35,7 +36,7 @@ fn follow_arrival(
     if !is_taken(answer) {
         return outcome;
     }
-    set_row(counters, row, 0, 0);
+    set_row(counters, row, Counter { delta: 0, rho: 0 });
     note(phases, gate.flight as usize, answer);
     outcome
 }
@@ -57,7 +58,7 @@ fn follow_completion(
 {
     let flying = gate.flight as usize;
     let place = place_of(&flight[..], flying, which);
-    let reserved = phase_at(&phases[..], place) == BY_RESERVATION;
+    let reserved = place.is_some_and(|place| phase_at(&phases[..], place) == BY_RESERVATION);
     let outcome = calling::numbers::complete(gate, guests, waiting, flight, which, time);
     let answer = outcome.answer;
     if !is_taken(answer) {
@@ -70,7 +71,7 @@ fn follow_completion(
         which.guest as usize,
         reserved,
     );
-    close_up(phases, flying, place);
+    close_up(phases, flying, place.unwrap());
     note(phases, flying - 1, answer);
     outcome
 }

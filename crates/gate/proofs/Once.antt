@@ -1,5 +1,6 @@
 -- `once`: any two outcomes that the promise of a call admits are equal. What the paper shows of an answer is that answer alone, so of a
 -- time to wake, and the promise fixes the rest number by number. Assumes nothing.
+use Rattle.std.specs.Prelude.{Some, None, Option}
 use Prim.Native.Nat.{ℕ}
 use mathlib.Core.Path.{◌≡◌, refl, sym, ap, ◌∙◌}
 use mathlib.Core.List.{List}
@@ -13,8 +14,6 @@ use Rattle.rules.specs.declared.Phase.{Phase}
 use Rattle.rules.specs.declared.Phase.TheVariants.{Reservation, Weight}
 use Rattle.rules.specs.declared.Answer.{Answer}
 use Rattle.rules.specs.declared.Answer.TheVariants.{Nothing, Sent, Refused}
-use Rattle.rules.specs.declared.Wake.{Wake}
-use Rattle.rules.specs.declared.Wake.TheVariants.{At, Never}
 use Rattle.table.specs.View.{outcome_of}
 use Rattle.gate.specs.Promise.{Lending, numbers, HandedIn, SeenIn, seen_in, called_in, opened_in, seen}
 
@@ -53,11 +52,11 @@ shown_once (Refused r) (Refused s) h = ap Refused (number_of_once r s (ap (value
 -- TIMES TO WAKE
 
 -- two that are shown alike are equal
-pub hour_once : (w x : Wake) → hour w ≡ hour x → w ≡ x
-hour_once (At n) (At m) h = ap (λ (l : List ℕ). At (get_or l 0 0)) h
-hour_once (At n) Never h = absurd (omega (arith, ap length h))
-hour_once Never (At m) h = absurd (omega (arith, ap length h))
-hour_once Never Never h = refl
+pub hour_once : (w x : Option ℕ) → hour w ≡ hour x → w ≡ x
+hour_once (Some n) (Some m) h = ap (λ (l : List ℕ). Some (get_or l 0 0)) h
+hour_once (Some n) None h = absurd (omega (arith, ap length h))
+hour_once None (Some m) h = absurd (omega (arith, ap length h))
+hour_once None None h = refl
 
 -- OUTCOMES
 

@@ -1,5 +1,5 @@
 -- A run of calls, each handed what the last one left, for every way in which guests are lent: what proofs/Runs.antt, Order.antt and Demand3.antt speak of.
-use Rattle.std.specs.Prelude.{ℕ, suc, ◌-◌, Bool, true, not, ◌&&◌, List, [], ◌∷◌, ◌++◌, ltb, take, drop, if◌then◌else◌}
+use Rattle.std.specs.Prelude.{ℕ, suc, ◌-◌, Bool, true, not, ◌&&◌, List, [], ◌∷◌, ◌++◌, ltb, take, drop, if◌then◌else◌, Option}
 use Rattle.lists.specs.Lines.{line_at}
 use Rattle.rules.specs.Tables.{Request, Table}
 pub use Rattle.rules.specs.Answers.{taken}
@@ -9,7 +9,6 @@ use Rattle.rules.specs.Order.{brings}
 use Rattle.turns.specs.Turn.{is_due, ahead}
 use Rattle.rules.specs.declared.Gate.{Gate}
 use Rattle.rules.specs.declared.Answer.{Answer}
-use Rattle.rules.specs.declared.Wake.{Wake}
 use Rattle.table.specs.Columns.{waiting_wide}
 use Rattle.table.specs.View.{request_form}
 use Rattle.gate.specs.Promise.{Lending, HandedIn, table_in, short_in, sound_in, called_in}
@@ -65,7 +64,7 @@ module _ (v : Lending) where
   replies h (e ∷ es) = (call e h).0.answer ∷ replies (holds (call e h)) es
 
   -- what the outcomes of a run of calls carry: when to wake the gate, after each
-  unfoldable pub wakings : Host → List Event → List Wake
+  unfoldable pub wakings : Host → List Event → List (Option ℕ)
   wakings h [] = []
   wakings h (e ∷ es) = (call e h).0.wake ∷ wakings (holds (call e h)) es
 

@@ -1,12 +1,10 @@
 -- What a call answers, as five numbers: kind, guest, id, refusal and wake. What an answer does not have is 0.
-use Rattle.std.specs.Prelude.{ℕ}
+use Rattle.std.specs.Prelude.{ℕ, Some, None, Option}
 use Rattle.rules.specs.Answers.{number_of}
 use Rattle.rules.specs.declared.Phase.{Phase}
 use Rattle.rules.specs.declared.Phase.TheVariants.{Reservation, Weight}
 use Rattle.rules.specs.declared.Answer.{Answer}
 use Rattle.rules.specs.declared.Answer.TheVariants.{Nothing, Sent, Refused}
-use Rattle.rules.specs.declared.Wake.{Wake}
-use Rattle.rules.specs.declared.Wake.TheVariants.{At, Never}
 use Rattle.gate.specs.declared.Reply.{Reply}
 
 -- the kind of a send: 1 by reservation, 2 by weight
@@ -29,12 +27,12 @@ abbrev pub never : ℕ
 never = 18446744073709551615
 
 -- a time to wake as the fifth number
-abbrev pub fifth_of : Wake → ℕ
-fifth_of (At n) = n
-fifth_of Never = never
+abbrev pub fifth_of : Option ℕ → ℕ
+fifth_of (Some n) = n
+fifth_of None = never
 
 -- an answer and a time to wake as five numbers
-abbrev pub reply_of : Answer → Wake → Reply
+abbrev pub reply_of : Answer → Option ℕ → Reply
 reply_of a w = record { kind = (four_of a).0; guest = (four_of a).1; id = (four_of a).2; refusal = (four_of a).3; wake = fifth_of w }
 
 -- the first four of the five

@@ -2,13 +2,13 @@
 // and `replies` has what they answer as numbers.
 #![tactic(auto)]
 
-use rules::Refusal;
+use rules::Setup;
 
-// What is found before a call moves anything: nothing stands against it, or a refusal.
+// What a gate is opened with: what is set for the whole array, and how many guests there are. Any numbers, until they are judged.
 #[derive(Clone, Copy)]
-pub enum Judged {
-    Good,
-    Bad(Refusal),
+pub struct Opening {
+    pub setup: Setup,
+    pub guests: u64,
 }
 
 // An answer as five numbers: the kind (0 nothing, 1 sent by reservation, 2 sent by weight, 3 refused), the guest and id sent, the refusal's

@@ -1,5 +1,6 @@
 -- Batches through C: what `sgq_batch` hands back is the batch over numbers, so 16 and 17 are exact, any two outcomes are equal, a refused batch leaves the seven
 -- numbers, and a host in C holds after a run of batches what a host over numbers holds; demand 3 and what a limit is worth then stand through it. Assumes nothing.
+use Rattle.std.specs.Prelude.{Ok, Err, Result}
 use Prim.Native.Nat.{ℕ}
 use mathlib.Core.Path.{◌≡◌, refl, sym, ap, ◌∙◌}
 use mathlib.Core.Bool.{true}
@@ -12,8 +13,6 @@ use Rattle.rules.specs.declared.Outcome.{Outcome}
 use Rattle.worth.specs.Worth.{Worth}
 use Rattle.gate.specs.Promise.{numbers}
 use Rattle.gate.specs.Calls.{Host, firm}
-use Rattle.gate.specs.declared.Judged.{Judged}
-use Rattle.gate.specs.declared.Judged.TheVariants.{Good, Bad}
 use Rattle.gate.proofs.Lending.{numbers-lawful}
 use Rattle.batch.specs.Promise.{found_of, BatchIn, seen_batch, batched, outcomes}
 use Rattle.batch.specs.Batches.{batch_cases, goods, good, Batch, batch, leaves, held_batches, all_done, free_answers}
@@ -25,6 +24,7 @@ use Rattle.batch.proofs.Worth.{batches_worth}
 use Rattle.hands.specs.Host.{gate_in, found_written, batch_hosted}
 use Rattle.hands.specs.Calls.{Lent, inside, shown_by, BackBatch, through_batch, kept_batch, held_by_batches, RefusesBatch, TakesBatch}
 use Rattle.hands.proofs.Runs.{gate-back, seven_over}
+use Rattle.rules.specs.declared.Refusal.{Refusal}
 
 -- what was handed back, with the seven numbers written
 pub batch-returned : (es v v' : List ℕ) (g : Gate) → g ≡ gate_in v → (gs ws fs bs : List ℕ) (n : ℕ) (b : BatchIn numbers) → seen_batch b ≡ seen_batch (batched es g gs ws fs bs)
@@ -48,9 +48,9 @@ module _ (b : Batch) (h : Lent) (seven : length h.seven ≡ 7) where
   back = batch numbers b (inside h)
 
   -- the seven numbers after a batch are its gate
-  gate-after : (j : Judged) → back.0.found ≡ j → gate_in (found_written j back.0.gate h.seven) ≡ back.0.gate
-  gate-after Good p = gate-back back.0.gate h.seven seven
-  gate-after (Bad r) p =
+  gate-after : (j : Result Unit Refusal) → back.0.found ≡ j → gate_in (found_written j back.0.gate h.seven) ≡ back.0.gate
+  gate-after (Ok _) p = gate-back back.0.gate h.seven seven
+  gate-after (Err r) p =
       sym (ap (λ (c : BatchIn numbers). c.0.gate) (batch_refusal_keeps numbers b.events (gate_in h.seven) h.guests h.waiting h.flight b.answers r p))
 
   -- so a host in C holds after a batch what a host over numbers holds
@@ -62,9 +62,9 @@ module _ (b : Batch) (h : Lent) (seven : length h.seven ≡ 7) where
   still_seven : length (kept_batch (through_batch b h)).seven ≡ 7
   still_seven = go back.0.found
     where
-      go : (j : Judged) → length (found_written j back.0.gate h.seven) ≡ 7
-      go Good = seven_over back.0.gate h.seven seven
-      go (Bad r) = seven
+      go : (j : Result Unit Refusal) → length (found_written j back.0.gate h.seven) ≡ 7
+      go (Ok _) = seven_over back.0.gate h.seven seven
+      go (Err r) = seven
 
 -- A RUN OF BATCHES
 

@@ -3,8 +3,7 @@ use Prim.Native.Nat.{ℕ}
 use mathlib.Core.Path.{◌≡◌, sym, ap, ◌∙◌}
 use mathlib.Core.List.{List}
 use lib.ListN.{get_or}
-use Rattle.moved.specs.Moves.{moved_shown, moves}
-use Rattle.moved.specs.declared.Moved.{Moved}
+use Rattle.moved.specs.Moves.{Moved, moved_shown, moves}
 use Rattle.hands.specs.Traces.{three_of}
 use Rattle.hands.specs.declared.Carried.{Carried}
 

@@ -1,5 +1,6 @@
 -- `once`: any two outcomes that the promise of a call through C admits are equal: the answer's five numbers, the gate's seven, every number of
 -- every table. And four numbers are one answer only, the fifth one time to wake, so nothing of an answer is lost on the way. Assumes nothing.
+use Rattle.std.specs.Prelude.{Some, None, Option}
 use Prim.Native.Nat.{ℕ, ◌≤◌}
 use mathlib.Core.Path.{◌≡◌, refl, sym, ap, ◌∙◌}
 use mathlib.Core.List.{List}
@@ -12,8 +13,6 @@ use Rattle.rules.specs.declared.Phase.{Phase}
 use Rattle.rules.specs.declared.Phase.TheVariants.{Reservation, Weight}
 use Rattle.rules.specs.declared.Answer.{Answer}
 use Rattle.rules.specs.declared.Answer.TheVariants.{Nothing, Sent, Refused}
-use Rattle.rules.specs.declared.Wake.{Wake}
-use Rattle.rules.specs.declared.Wake.TheVariants.{At, Never}
 use Rattle.rules.specs.Numbers.{ceiling}
 use Rattle.gate.specs.Promise.{called, opened}
 use Rattle.gate.specs.declared.Reply.{Reply}
@@ -56,16 +55,16 @@ four_once (Refused r) (Refused s) h = ap Refused (number_of_once r s (ap (λ (f 
 -- TIMES TO WAKE
 
 -- a time to wake is at most the ceiling, as every one that is told is
-abbrev pub Timely : Wake → Type 0
-Timely (At n) = n ≤ ceiling
-Timely Never = Unit {0}
+abbrev pub Timely : Option ℕ → Type 0
+Timely (Some n) = n ≤ ceiling
+Timely None = Unit {0}
 
 -- two of them that have the same fifth number are equal
-pub fifth_once : (w x : Wake) → Timely w → Timely x → fifth_of w ≡ fifth_of x → w ≡ x
-fifth_once (At n) (At m) a b h = ap At h
-fifth_once (At n) Never a b h = absurd (omega (arith, h))
-fifth_once Never (At m) a b h = absurd (omega (arith, h))
-fifth_once Never Never a b h = refl
+pub fifth_once : (w x : Option ℕ) → Timely w → Timely x → fifth_of w ≡ fifth_of x → w ≡ x
+fifth_once (Some n) (Some m) a b h = ap Some h
+fifth_once (Some n) None a b h = absurd (omega (arith, h))
+fifth_once None (Some m) a b h = absurd (omega (arith, h))
+fifth_once None None a b h = refl
 
 -- OUTCOMES
 

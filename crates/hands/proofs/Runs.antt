@@ -1,6 +1,7 @@
 -- The demands through C, over the gate's seven numbers and the three tables as a host holds them: each refusal number exactly, a run of calls is a run
 -- of steps of document 01, order of acceptance, demand 3, what a limit is worth, and tables that stay sound. What is written over the seven numbers reads back as that
 -- gate, so the calls through C are those of crate gate. Assumes nothing.
+use Rattle.std.specs.Prelude.{Option}
 use Prim.Native.Nat.{ℕ}
 use mathlib.Core.Path.{◌≡◌, refl, sym, ap, ◌∙◌}
 use mathlib.Core.Bool.{Bool, true, false, not, ◌&&◌, false≢true}
@@ -22,7 +23,6 @@ use Rattle.rules.specs.declared.Gate.{Gate}
 use Rattle.rules.specs.declared.Phase.TheVariants.{Reservation, Weight}
 use Rattle.rules.specs.declared.Answer.{Answer}
 use Rattle.rules.specs.declared.Answer.TheVariants.{Nothing, Sent, Refused}
-use Rattle.rules.specs.declared.Wake.{Wake}
 use Rattle.worth.specs.Worth.{Worth}
 use Rattle.gate.specs.Promise.{numbers, called, opened, settings_in, table_in, short_in, sound_in, open_short_in, HandedIn}
 use Rattle.gate.specs.Calls.{Host, holds, call, held, replies, wakings, firm, narrow, took, finds, free_replies}
@@ -142,7 +142,7 @@ through_in_order n es h seven = (
 
 -- DEMAND 3, by places
 
-takes-taken : (a : Answer) (w : Wake) → takes (reply_of a w) ≡ taken a
+takes-taken : (a : Answer) (w : Option ℕ) → takes (reply_of a w) ≡ taken a
 takes-taken Nothing w = refl
 takes-taken (Sent Reservation g i) w = refl
 takes-taken (Sent Weight g i) w = refl
@@ -186,20 +186,20 @@ through_worth h es seven f n = (replies numbers (inside h) es, fours-back es h s
 -- REFUSED EXACTLY
 
 -- the numbers of an answer say that it is a refusal with a number just where the paper shows it so
-refuses_is : (a : Answer) (w : Wake) (n : ℕ) → Refuses (reply_of a w) n ↔ (shown a ≡ X n)
+refuses_is : (a : Answer) (w : Option ℕ) (n : ℕ) → Refuses (reply_of a w) n ↔ (shown a ≡ X n)
 refuses_is Nothing w n = (λ p. absurd (omega (arith, p.0)), λ p. absurd (omega (arith, ap Printed.letter p)))
 refuses_is (Sent Reservation g i) w n = (λ p. absurd (omega (arith, p.0)), λ p. absurd (omega (arith, ap Printed.letter p)))
 refuses_is (Sent Weight g i) w n = (λ p. absurd (omega (arith, p.0)), λ p. absurd (omega (arith, ap Printed.letter p)))
 refuses_is (Refused r) w n = (λ p. ap X p.1, λ p. (refl, ap (λ (q : Printed). get_or q.values 0 0) p))
 
-pub takes_is : (a : Answer) (w : Wake) → Takes (reply_of a w) ↔ (taken a ≡ true)
+pub takes_is : (a : Answer) (w : Option ℕ) → Takes (reply_of a w) ↔ (taken a ≡ true)
 takes_is Nothing w = (λ p. refl, λ p k. omega (arith, k))
 takes_is (Sent Reservation g i) w = (λ p. refl, λ p k. omega (arith, k))
 takes_is (Sent Weight g i) w = (λ p. refl, λ p k. omega (arith, k))
 takes_is (Refused r) w = (λ p. absurd (p refl), λ p. absurd (false≢true p))
 
 -- what is refused exactly is so through C
-told : {cs : List Case} (a : Answer) (w : Wake) → RefusedExactly cs (λ n. shown a ≡ X n) (taken a ≡ true) → RefusedExactly cs (Refuses (reply_of a w)) (Takes (reply_of a w))
+told : {cs : List Case} (a : Answer) (w : Option ℕ) → RefusedExactly cs (λ n. shown a ≡ X n) (taken a ≡ true) → RefusedExactly cs (Refuses (reply_of a w)) (Takes (reply_of a w))
 told a w x = record { number = λ n. Iff.trans (refuses_is a w n) (x.number n); no_number = Iff.trans (takes_is a w) x.no_number }
 
 -- Each number of an arrival, a completion and a tick is given exactly where document 01 says.

@@ -4,8 +4,7 @@ use Prim.Native.Nat.{ℕ}
 use mathlib.Core.Path.{◌≡◌, sym, ap, ◌∙◌}
 use mathlib.Core.List.{List}
 use lib.ListN.{get_or}
-use Rattle.salvage.specs.Salvages.{salvaged_shown, salvages}
-use Rattle.salvage.specs.declared.Salvaged.{Salvaged}
+use Rattle.salvage.specs.Salvages.{Salvaged, salvaged_shown, salvages}
 use Rattle.hands.specs.Traces.{mended_of}
 use Rattle.hands.specs.declared.Mended.{Mended}
 

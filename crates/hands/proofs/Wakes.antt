@@ -1,5 +1,6 @@
 -- K2 through C: the fifth number of an accepted call is when to wake the gate that it leaves, all bits one where no tick would ever send; of a
 -- refusal it is 0. Assumes nothing.
+use Rattle.std.specs.Prelude.{Some, None, Option}
 use Prim.Native.Nat.{ℕ}
 use mathlib.Core.Path.{◌≡◌, refl, sym, ap, subst}
 use mathlib.Core.Bool.{true}
@@ -13,8 +14,6 @@ use Rattle.rules.specs.declared.Refusal.{Refusal}
 use Rattle.rules.specs.declared.Phase.TheVariants.{Reservation, Weight}
 use Rattle.rules.specs.declared.Answer.{Answer}
 use Rattle.rules.specs.declared.Answer.TheVariants.{Nothing, Sent, Refused}
-use Rattle.rules.specs.declared.Wake.{Wake}
-use Rattle.rules.specs.declared.Wake.TheVariants.{At, Never}
 use Rattle.gate.specs.Promise.{numbers, called, opened, HandedIn}
 use Rattle.gate.specs.Calls.{Host, shows, call, firm}
 use Rattle.gate.proofs.Lending.{numbers-lawful}
@@ -27,13 +26,13 @@ use Rattle.hands.proofs.Once.{Timely}
 use Rattle.hands.proofs.Runs.{call_back, takes_is}
 
 -- a time to wake of a table is at most the ceiling, so it is never all bits one
-timely : (w : Wake) (t : Table) → Wakes t w → Timely w
-timely (At n) t x = x.at_most
-timely Never t x = tt
+timely : (w : Option ℕ) (t : Table) → Wakes t w → Timely w
+timely (Some n) t x = x.at_most
+timely None t x = tt
 
 -- An accepted call, on tables that are long enough and sound.
 pub through-wakes : (h : Lent) (e : Event) → length h.seven ≡ 7 → firm numbers (inside h) ≡ true → Takes (through e h).0
-    → (w : Wake) × Wakes (shown_by (kept (through e h))) w × Timely w × ((through e h).0.wake ≡ fifth_of w)
+    → (w : Option ℕ) × Wakes (shown_by (kept (through e h))) w × Timely w × ((through e h).0.wake ≡ fifth_of w)
 through-wakes h e seven f t =
     let x = call numbers e (inside h) in
     let w = x.0.wake in
@@ -47,7 +46,7 @@ through-opening-wakes seven d n c rule ss gs ws fs t =
     ap fifth_of (opening-wakes numbers numbers-lawful d n c rule ss gs ws fs ((takes_is x.0.answer x.0.wake).0 t))
 
 -- kind 3 is a refusal's
-is_refused : (a : Answer) (w : Wake) (n : ℕ) → Refuses (reply_of a w) n → ((r : Refusal) → a ≡ Refused r → w ≡ At 0) → fifth_of w ≡ 0
+is_refused : (a : Answer) (w : Option ℕ) (n : ℕ) → Refuses (reply_of a w) n → ((r : Refusal) → a ≡ Refused r → w ≡ Some 0) → fifth_of w ≡ 0
 is_refused Nothing w n p k = absurd (omega (arith, p.0))
 is_refused (Sent Reservation g i) w n p k = absurd (omega (arith, p.0))
 is_refused (Sent Weight g i) w n p k = absurd (omega (arith, p.0))

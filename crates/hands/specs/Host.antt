@@ -1,17 +1,16 @@
 -- The calls as a host in C sees them: the gate as seven numbers, the answer as five.
-use Rattle.std.specs.Prelude.{ℕ, List, get_or, set}
+use Rattle.std.specs.Prelude.{ℕ, List, get_or, set, Ok, Err, Result}
 use Rattle.rules.specs.declared.Gate.{Gate}
 use Rattle.rules.specs.declared.Answer.{Answer}
 use Rattle.rules.specs.declared.Answer.TheVariants.{Nothing, Sent, Refused}
 use Rattle.table.specs.View.{gate_at, Handed}
 use Rattle.gate.specs.Promise.{numbers}
 use Rattle.gate.specs.Replies.{reply_of}
-use Rattle.gate.specs.declared.Judged.{Judged}
-use Rattle.gate.specs.declared.Judged.TheVariants.{Good, Bad}
 use Rattle.batch.specs.Promise.{found_of, BatchIn}
 use Rattle.gate.specs.declared.Reply.{Reply}
 use Rattle.arrays.specs.declared.Site.{Site}
 use Rattle.arrays.specs.Promise.{HandedAt}
+use Rattle.rules.specs.declared.Refusal.{Refusal}
 
 -- the gate that seven numbers are: depth, guests, capacity, time, waiting, flight, rule
 abbrev pub gate_in : List ℕ → Gate
@@ -34,9 +33,9 @@ hosted v h = (reply_of h.0.answer h.0.wake, written h.0.answer h.0.gate v, h.1, 
 -- A BATCH (document 02, K5)
 
 -- the seven numbers after a batch: one that is refused as a whole leaves them as they stood
-abbrev pub found_written : Judged → Gate → List ℕ → List ℕ
-found_written Good g v = gate_over g v
-found_written (Bad r) g v = v
+abbrev pub found_written : Result Unit Refusal → Gate → List ℕ → List ℕ
+found_written (Ok _) g v = gate_over g v
+found_written (Err r) g v = v
 
 -- THE PROMISE: 0 or the number of the refusal, the seven numbers, the three tables and the answers after a batch that hands back b
 abbrev pub batch_hosted : List ℕ → BatchIn numbers → ℕ × List ℕ × List ℕ × List ℕ × List ℕ × List ℕ

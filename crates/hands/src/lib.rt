@@ -11,11 +11,11 @@ ghost use Rattle.salvage.specs.Salvages.{salvaged_shown};
 ghost use Rattle.hands.specs.Traces.{three_of, mended_of};
 
 use batch::Batched;
-use gate::{Judged, Reply};
-use moved::Moved;
+use gate::Reply;
+use moved::Stopped;
 use replies::five_of;
-use rules::{Answer, Gate, Outcome, Setup};
-use salvage::Salvaged;
+use rules::{Answer, Gate, Outcome, Refusal, Setup};
+use salvage::Written;
 use table::gates::gate_at;
 
 // The gate that seven numbers are.
@@ -70,8 +70,8 @@ pub fn hand_over(seven: &mut [u64; 7], done: Batched) -> u64
     let found = done.found;
     let gate = done.gate;
     match found {
-        Judged::Bad(why) => refusals::number(why),
-        Judged::Good => {
+        Err(why) => u64::from(why),
+        Ok(()) => {
             gate_over(seven, gate);
             0
         }
@@ -88,21 +88,21 @@ pub struct Carried {
 }
 
 // A move's answer as its three numbers.
-pub fn three_of(done: Moved) -> Carried
+pub fn three_of(done: Result<usize, Stopped>) -> Carried
     ensures { three_of result ≡ moved_shown done }
 {
     match done {
-        Moved::Written(long) => Carried {
+        Ok(long) => Carried {
             refusal: 0,
             written: long as u64,
             event: 0,
         },
-        Moved::Refused { why, event } => {
-            let n = refusals::number(why);
+        Err(Stopped { why, event }) => {
+            let event = event.map_or(0, |number| number.get());
             Carried {
-                refusal: n,
+                refusal: u64::from(why),
                 written: 0,
-                event: event,
+                event,
             }
         }
     }
@@ -118,22 +118,19 @@ pub struct Mended {
 }
 
 // A salvage's answer as its three numbers.
-pub fn mended_of(done: Salvaged) -> Mended
+pub fn mended_of(done: Result<Written, Refusal>) -> Mended
     ensures { mended_of result ≡ salvaged_shown done }
 {
     match done {
-        Salvaged::Written { bytes, rows } => Mended {
+        Ok(Written { bytes, rows }) => Mended {
             refusal: 0,
             bytes: bytes as u64,
             rows: rows as u64,
         },
-        Salvaged::Refused(why) => {
-            let n = refusals::number(why);
-            Mended {
-                refusal: n,
-                bytes: 0,
-                rows: 0,
-            }
-        }
+        Err(why) => Mended {
+            refusal: u64::from(why),
+            bytes: 0,
+            rows: 0,
+        },
     }
 }

@@ -1,8 +1,6 @@
 -- The row that a phase holds of those looked at: by the smallest tag, and of equal tags the earliest.
-use Rattle.std.specs.Prelude.{ℕ, ◌<◌, Bool, ◌&&◌, ◌||◌, List, ltb, eqb, if◌then◌else◌}
+use Rattle.std.specs.Prelude.{ℕ, ◌<◌, Bool, ◌&&◌, ◌||◌, List, ltb, eqb, if◌then◌else◌, Some, None, Option}
 use Rattle.table.specs.Columns.{RESERVATION, RTAG, LTAG, guest_at, waiting_at}
-use Rattle.walks.specs.declared.Found.{Found}
-use Rattle.walks.specs.declared.Found.TheVariants.{At, Nothing}
 use Rattle.heads.specs.declared.Held.{Held}
 
 -- at this time neither phase could send row j, of guest g: its limit tag is not reached, nor, where its guest has a reservation, its reservation tag
@@ -19,5 +17,5 @@ unfoldable pub nearer : Held → (place tag : ℕ) → Held
 nearer h place tag = if before h place tag then record { place = place; tag = tag } else h
 
 -- the place that is held, where it is one of the first `count`
-unfoldable pub found_in : Held → (count : ℕ) → Found
-found_in h count = if ltb h.place count then At h.place else Nothing
+unfoldable pub found_in : Held → (count : ℕ) → Option ℕ
+found_in h count = if ltb h.place count then Some h.place else None

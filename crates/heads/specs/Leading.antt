@@ -1,6 +1,6 @@
 -- The choice of one phase, guest by guest: what is held after some guests, where the first row of each is looked at. A row goes before another by the smaller
 -- tag, and of equal tags by the earlier place: tag and place are one number here, 2,048 places to a tag. Assumes nothing.
-use Rattle.std.specs.Prelude.{ℕ, ◌+◌, ◌-◌, ◌*◌, ◌≤◌, ◌<◌, ◌≡◌, Bool, ◌&&◌, ◌||◌, List, ◌⊎◌, eqb, ltb, if◌then◌else◌}
+use Rattle.std.specs.Prelude.{ℕ, ◌+◌, ◌-◌, ◌*◌, ◌≤◌, ◌<◌, ◌≡◌, Bool, ◌&&◌, ◌||◌, List, ◌⊎◌, eqb, ltb, if◌then◌else◌, Some, None}
 use Rattle.std.proofs.Math.Path.{refl}
 use Rattle.std.proofs.Common.{sym, ap, ◌∙◌, inl, arith, eqb-true, ltb-true, ltb-false, leb-true}
 use Rattle.std.proofs.Math.Bool.{true, false}
@@ -16,7 +16,6 @@ use Rattle.table.specs.Columns.{RESERVATION, LTAG, most_capacity, guest_at, wait
 use Rattle.table.specs.View.{request_form, waiting_of}
 use Rattle.walks.specs.Walks.{Picks, Owned, Rising, Counts}
 use Rattle.walks.specs.WalksRows.{due_in, open_in, due_parts, open_at}
-use Rattle.walks.specs.declared.Found.TheVariants.{At, Nothing}
 use Rattle.index.specs.Index.{owner_of, Head, Leads}
 use Rattle.seeks.specs.Reads.{row_here, head_first, rising_on, guests_more}
 use Rattle.heads.specs.Heads.{Barred, before, nearer, found_in}
@@ -138,7 +137,7 @@ module _ (ws : List ℕ) (count : ℕ) where
           all : (k : ℕ) → k < length rows → ok (at rows k) ≡ true → key h.tag h.place ≤ key (tag (at rows k)) k
           all k l o = let there : k < count = omega (arith, l, length-rows request_form ws count) in w.low k there (owned k there) o
 
-          go : (c : Bool) → ltb h.place count ≡ c → ((h.place ≡ count) × (h.tag ≡ top)) ⊎ Holding ok tag rows count h → Picks ok tag rows (if c then At h.place else Nothing)
+          go : (c : Bool) → ltb h.place count ≡ c → ((h.place ≡ count) × (h.tag ≡ top)) ⊎ Holding ok tag rows count h → Picks ok tag rows (if c then Some h.place else None)
           go true e (inl n) = absurd (omega (arith, n.0, ltb-true h.place count e))
           go true e (inr k) =
               let inside : h.place < length rows = omega (arith, k.inside, length-rows request_form ws count) in

@@ -1,5 +1,6 @@
 -- Where the rows stand after what was heard, and the index beside them. Assumes nothing.
 use Prim.Native.Nat.{ℕ}
+use Rattle.std.specs.Prelude.{Option}
 use mathlib.Core.Path.{◌≡◌, sym, ap, ◌∙◌, subst}
 use mathlib.Core.List.{List}
 use Rattle.rules.specs.Tables.{Table}
@@ -29,11 +30,11 @@ module _ (ix ws : List ℕ) where
   sent_stood p t i a e = send_stood a (e ∙ sent_answer p t i)
 
   -- to send nothing leaves them
-  pub nothing_stands : {g : Gate} {n : ℕ} (r : Said) → r ≡ said_of g Nothing n → stands ix r.answer ws ≡ ws
+  pub nothing_stands : {g : Gate} {n : Option ℕ} (r : Said) → r ≡ said_of g Nothing n → stands ix r.answer ws ≡ ws
   unfolding stands
   nothing_stands r e = ap (λ (x : Said). stands ix x.answer ws) e
 
   -- and so does a refusal
-  pub refused-stands : {g : Gate} {n : ℕ} {why : Refusal} (r : Said) → r ≡ said_of g (Refused why) n → stands ix r.answer ws ≡ ws
+  pub refused-stands : {g : Gate} {n : Option ℕ} {why : Refusal} (r : Said) → r ≡ said_of g (Refused why) n → stands ix r.answer ws ≡ ws
   unfolding stands
   refused-stands r e = ap (λ (x : Said). stands ix x.answer ws) e

@@ -1,37 +1,31 @@
 // What the lines of another gate say that it did at one event: the line is heard, and the tables follow it, with the index of the waiting rows beside them; one of no
 // numbers is none, and the rows are walked. Functions for this repository's own crates.
+// Gate and tables stay side by side for the reason that stands at the head of sends.
 #![tactic(auto)]
 
-ghost use Rattle.std.specs.Prelude.{◌&&◌, List, ℕ, ◌+◌, ◌≤◌, ◌<◌, leb, length, drop};
-ghost use Rattle.rules.specs.Tables.{Request, settings_of};
-ghost use Rattle.rules.specs.Choice.{due_at, choice};
+ghost use Rattle.std.specs.Prelude.{List, ℕ, ◌+◌, ◌≤◌, ◌<◌, length, drop, Some, IsSome};
+ghost use Rattle.rules.specs.Choice.{choice};
 ghost use Rattle.rules.specs.Chosen.{at};
 ghost use Rattle.rules.specs.Run.{step};
-ghost use Rattle.rules.specs.declared.Phase.TheVariants.{Reservation};
-ghost use Rattle.table.specs.View.{guests_of, waiting_of, table_of, Known};
+ghost use Rattle.table.specs.View.{waiting_of, table_of, Known};
 ghost use Rattle.walks.specs.Walks.{Picks};
-ghost use Rattle.walks.specs.declared.Found.TheVariants.{At};
 ghost use Rattle.index.specs.Index.{Beside, stood, stands, Snug};
 ghost use Rattle.windows.specs.Window.{Window};
 ghost use Rattle.sends.specs.Firsts.{FirstOf};
-ghost use Rattle.lines.specs.Line.{LINE};
 ghost use Rattle.trace.specs.Event.{event_of};
 ghost use Rattle.trace.specs.Printed.{answered};
-ghost use Rattle.trace.specs.declared.Read.TheVariants.{Good};
 ghost use Rattle.judge.specs.Acceptable.{entire};
 ghost use Rattle.judge.specs.Judging.{ok_in, tag_in, sent_at, heard_in, heard_choice, heard};
-ghost use Rattle.judge.specs.Hearing.{latest_in, Lending, Sends, Hears};
+ghost use Rattle.judge.specs.Hearing.{Sends, Hears};
 
 use choose::first_in_line;
-use enter::Entered;
 use judge::Said;
-use picks::Firsts;
+use lines::LINE_LONG;
 use rules::{Answer, Event, Gate, Phase, Refusal};
-use sends::{latest_limit, send_by_reservation, send_by_weight};
+use sends::{send_by_reservation, send_by_weight};
 use table::columns::WAITING_WIDE;
 use ties::{find_send, hear_plain, send_of};
-use trace::Read;
-use walks::Found;
+use walks::queue::Queue;
 
 // The request at `place`, the first of its guest, goes in this phase.
 fn send_in(
@@ -72,19 +66,18 @@ fn hear_send(
     phase: Phase,
     number: u64,
     said: &[u8],
-    text: &mut [u8],
+    text: &mut [u8; LINE_LONG],
     index: &mut [u16],
 ) -> Said
     requires known { Known gate guests.old waiting.old flight.old }
     requires flight_lt_depth { gate.flight < gate.setup.depth }
-    requires picks { Picks (ok_in phase (table_of gate guests.old waiting.old flight.old)) (tag_in phase) (waiting_of waiting.old gate.waiting) (At place) }
-    requires in_bounds { LINE ≤ length text.old }
+    requires picks { Picks (ok_in phase (table_of gate guests.old waiting.old flight.old)) (tag_in phase) (waiting_of waiting.old gate.waiting) (Some place) }
     requires beside { Beside waiting.old index.old gate.waiting × Snug gate waiting.old index.old }
     ensures hears { Hears (heard_in number said.now phase (table_of gate guests.old waiting.old flight.old) (tag_in phase (at (waiting_of waiting.old gate.waiting) place))) (sent_at phase (table_of gate guests.old waiting.old flight.old) place).answer number result guests.new (stands index.old result.answer waiting.new) flight.new }
-    ensures beside_2 { 0 < result.long → Beside (stands index.old result.answer waiting.new) index.new result.gate.waiting }
+    ensures beside_2 { IsSome result.long → Beside (stands index.old result.answer waiting.new) index.new result.gate.waiting }
 {
     let answer = send_of(&waiting[..], place, phase);
-    let told = find_send(
+    let heard = find_send(
         gate,
         &guests[..],
         &waiting[..],
@@ -95,31 +88,19 @@ fn hear_send(
         text,
         &index[..],
     );
-    let there = told.place;
-    let long = told.long;
-    if long == 0 {
-        return Said { gate, answer, long };
-    }
-    let after = send_in(gate, guests, waiting, flight, there, phase, index);
+    let Some(told) = heard else {
+        return Said {
+            gate,
+            answer,
+            long: None,
+        };
+    };
+    let after = send_in(gate, guests, waiting, flight, told.place, phase, index);
     Said {
         gate: after,
         answer,
-        long,
+        long: Some(told.long),
     }
-}
-
-// What each phase would send.
-fn firsts_of(gate: Gate, guests: &[u64], waiting: &[u64], index: &[u16]) -> Firsts
-    requires lending { Lending gate guests.now waiting.now }
-    requires beside { Beside waiting.now index.now gate.waiting }
-    ensures picks { Picks (λ q. due_at (settings_of (guests_of guests.now gate.guests) q) gate.time q && leb q.ltag (latest_in Reservation gate)) Request.rtag (waiting_of waiting.now gate.waiting) result.due }
-    ensures picks_2 { Picks (λ q. leb q.ltag gate.time) Request.stag (waiting_of waiting.now gate.waiting) result.open }
-{
-    let known = gate.guests as usize;
-    let count = gate.waiting as usize;
-    let time = gate.time;
-    let latest = latest_limit(gate.setup.rule, time);
-    first_in_line(waiting, count, guests, known, time, latest, index)
 }
 
 // The choice at the table that an event entered.
@@ -130,23 +111,27 @@ fn hear_choice(
     flight: &mut [u64],
     number: u64,
     said: &[u8],
-    text: &mut [u8],
+    text: &mut [u8; LINE_LONG],
     index: &mut [u16],
 ) -> Said
     requires known { Known gate guests.old waiting.old flight.old }
-    requires in_bounds { LINE ≤ length text.old }
     requires beside { Beside waiting.old index.old gate.waiting × Snug gate waiting.old index.old }
     ensures hears { Hears (heard_choice number said.now (table_of gate guests.old waiting.old flight.old)) (choice (table_of gate guests.old waiting.old flight.old)).answer number result guests.new (stands index.old result.answer waiting.new) flight.new }
-    ensures beside_2 { 0 < result.long → Beside (stands index.old result.answer waiting.new) index.new result.gate.waiting }
+    ensures beside_2 { IsSome result.long → Beside (stands index.old result.answer waiting.new) index.new result.gate.waiting }
 {
     if gate.setup.depth <= gate.flight {
         return hear_plain(gate, Answer::Nothing, number, said, text);
     }
-    let firsts = firsts_of(gate, &guests[..], &waiting[..], &index[..]);
-    let found = firsts.due;
-    let spare = firsts.open;
-    match found {
-        Found::At(place) => hear_send(
+    let queue = Queue {
+        waiting: &waiting[..],
+        count: gate.waiting as usize,
+        guests: &guests[..],
+        known: gate.guests as usize,
+        time: gate.time,
+    };
+    let firsts = first_in_line(queue, gate.setup.rule, &index[..]);
+    match (firsts.due, firsts.open) {
+        (Some(place), _) => hear_send(
             gate,
             guests,
             waiting,
@@ -158,21 +143,19 @@ fn hear_choice(
             text,
             index,
         ),
-        Found::Nothing => match spare {
-            Found::At(place) => hear_send(
-                gate,
-                guests,
-                waiting,
-                flight,
-                place,
-                Phase::Weight,
-                number,
-                said,
-                text,
-                index,
-            ),
-            Found::Nothing => hear_plain(gate, Answer::Nothing, number, said, text),
-        },
+        (None, Some(place)) => hear_send(
+            gate,
+            guests,
+            waiting,
+            flight,
+            place,
+            Phase::Weight,
+            number,
+            said,
+            text,
+            index,
+        ),
+        (None, None) => hear_plain(gate, Answer::Nothing, number, said, text),
     }
 }
 
@@ -185,21 +168,18 @@ fn hear_good(
     event: Event,
     number: u64,
     said: &[u8],
-    text: &mut [u8],
+    text: &mut [u8; LINE_LONG],
     index: &mut [u16],
 ) -> Said
     requires known { Known gate guests.old waiting.old flight.old }
-    requires in_bounds { LINE ≤ length text.old }
     requires beside { Beside waiting.old index.old gate.waiting × Snug gate waiting.old index.old }
-    ensures hears { Hears (heard number said.now (table_of gate guests.old waiting.old flight.old) (entire (Good event))) (step (table_of gate guests.old waiting.old flight.old) event).answer number result guests.new (stands index.old result.answer waiting.new) flight.new }
-    ensures beside_2 { 0 < result.long → Beside (stands index.old result.answer waiting.new) index.new result.gate.waiting }
+    ensures hears { Hears (heard number said.now (table_of gate guests.old waiting.old flight.old) (entire (Some event))) (step (table_of gate guests.old waiting.old flight.old) event).answer number result guests.new (stands index.old result.answer waiting.new) flight.new }
+    ensures beside_2 { IsSome result.long → Beside (stands index.old result.answer waiting.new) index.new result.gate.waiting }
 {
     let entered = enter::enter(gate, guests, waiting, flight, event, index);
     match entered {
-        Entered::Refused(why) => hear_plain(gate, Answer::Refused(why), number, said, text),
-        Entered::At(moved) => hear_choice(
-            moved, guests, waiting, flight, number, said, text, index,
-        ),
+        Err(why) => hear_plain(gate, Answer::Refused(why), number, said, text),
+        Ok(moved) => hear_choice(moved, guests, waiting, flight, number, said, text, index),
     }
 }
 
@@ -214,22 +194,21 @@ fn hear(
     flight: &mut [u64],
     number: u64,
     said: &[u8],
-    text: &mut [u8],
+    text: &mut [u8; LINE_LONG],
     index: &mut [u16],
 ) -> Said
     requires from_in_bounds { from + 14 ≤ length bytes.now }
     requires known { Known gate guests.old waiting.old flight.old }
-    requires in_bounds { LINE ≤ length text.old }
     requires beside { Beside waiting.old index.old gate.waiting × Snug gate waiting.old index.old }
     ensures hears { Hears (heard number said.now (table_of gate guests.old waiting.old flight.old) (entire (event_of version (drop from bytes.now)))) (answered (table_of gate guests.old waiting.old flight.old) (event_of version (drop from bytes.now))).answer number result guests.new (stands index.old result.answer waiting.new) flight.new }
-    ensures beside_2 { 0 < result.long → Beside (stands index.old result.answer waiting.new) index.new result.gate.waiting }
+    ensures beside_2 { IsSome result.long → Beside (stands index.old result.answer waiting.new) index.new result.gate.waiting }
 {
     let event = items::read_event(version, &bytes[from..from + 14]);
     match event {
-        Read::Good(good) => hear_good(
+        Some(good) => hear_good(
             gate, guests, waiting, flight, good, number, said, text, index,
         ),
-        Read::Bad => hear_plain(gate, Answer::Refused(Refusal::BadEvent), number, said, text),
+        None => hear_plain(gate, Answer::Refused(Refusal::BadEvent), number, said, text),
     }
 }
 
@@ -246,13 +225,12 @@ pub fn hear_in(
     flight: &mut [u64],
     number: u64,
     said: &[u8],
-    text: &mut [u8],
+    text: &mut [u8; LINE_LONG],
     index: &mut [u16],
 ) -> Said
     requires from_in_bounds { from + 14 ≤ length bytes.now }
-    requires in_bounds { LINE ≤ length text.old }
     requires by_index { (ws : List ℕ) × Window size start window.old ws × Known gate guests.old ws flight.old × Beside ws index.old gate.waiting × Snug gate ws index.old }
-    ensures { (ws : List ℕ) → Window size start window.old ws → (vs : List ℕ) × Window size start window.new vs × Hears (heard number said.now (table_of gate guests.old ws flight.old) (entire (event_of version (drop from bytes.now)))) (answered (table_of gate guests.old ws flight.old) (event_of version (drop from bytes.now))).answer number result guests.new (stands index.old result.answer vs) flight.new × (0 < result.long → Beside (stands index.old result.answer vs) index.new result.gate.waiting) }
+    ensures { (ws : List ℕ) → Window size start window.old ws → (vs : List ℕ) × Window size start window.new vs × Hears (heard number said.now (table_of gate guests.old ws flight.old) (entire (event_of version (drop from bytes.now)))) (answered (table_of gate guests.old ws flight.old) (event_of version (drop from bytes.now))).answer number result guests.new (stands index.old result.answer vs) flight.new × (IsSome result.long → Beside (stands index.old result.answer vs) index.new result.gate.waiting) }
 {
     let first = start * WAITING_WIDE;
     hear(

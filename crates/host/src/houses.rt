@@ -6,9 +6,9 @@ ghost use Rattle.arrays.specs.Promise.{asked, begun};
 ghost use Rattle.hands.specs.Host.{gate_in, site_at, house_hosted};
 
 use arrays::{Asking, Site};
-use gate::Reply;
+use gate::{Opening, Reply};
 use hands::{gate_in, hand_back};
-use rules::Flight;
+use rules::{Flight, Setup};
 
 // Opens an array: its gate with these counts, under this rule for limits, and with four settings a guest; its counters and phases begin at 0.
 #[unsafe(no_mangle)]
@@ -30,8 +30,17 @@ pub extern "C" fn sgq_arrays_open(
     ensures { (result, seven.new, guests.new, waiting.new, flight.new, counters.new, phases.new) ≡ house_hosted seven.old (begun (site_at arrays array) depth known capacity rule settings.now guests.old waiting.old flight.old counters.old phases.old) }
 {
     let site = Site { arrays, array };
+    let setup = Setup {
+        depth,
+        capacity,
+        rule,
+    };
+    let opening = Opening {
+        setup,
+        guests: known,
+    };
     let outcome = house::open(
-        site, depth, known, capacity, rule, settings, guests, waiting, flight, counters, phases,
+        site, opening, settings, guests, waiting, flight, counters, phases,
     );
     hand_back(seven, outcome)
 }

@@ -14,9 +14,9 @@ ghost use Rattle.gate.specs.Promise.{called, opened};
 ghost use Rattle.batch.specs.Promise.{batched};
 ghost use Rattle.hands.specs.Host.{gate_in, hosted, batch_hosted};
 
-use gate::Reply;
+use gate::{Opening, Reply};
 use hands::{gate_in, hand_back, hand_over};
-use rules::{Arriving, Flight};
+use rules::{Arriving, Flight, Setup};
 
 // Opens the lent tables with these counts, under this rule for limits, and with four settings a guest.
 #[unsafe(no_mangle)]
@@ -33,9 +33,16 @@ pub extern "C" fn sgq_open(
 ) -> Reply
     ensures { (result, seven.new, guests.new, waiting.new, flight.new) ≡ hosted seven.old (opened depth known capacity rule settings.now guests.old waiting.old flight.old) }
 {
-    let outcome = opens::open(
-        depth, known, capacity, rule, settings, guests, waiting, flight,
-    );
+    let setup = Setup {
+        depth,
+        capacity,
+        rule,
+    };
+    let opening = Opening {
+        setup,
+        guests: known,
+    };
+    let outcome = opens::open(opening, settings, guests, waiting, flight);
     hand_back(seven, outcome)
 }
 

@@ -1,5 +1,6 @@
 // The calls at one of a house's arrays, over lent numbers: the counters of all arrays, and the gate, the tables and the phases of the one that is named. Any value of
 // any number, any length of any slice. What each promises is in crates/arrays/specs/Promise.antt.
+// The host lends its slices one by one, so they stay side by side: the C interface.
 #![tactic(auto)]
 
 ghost use Rattle.std.specs.Prelude.{◌≡◌};
@@ -11,7 +12,7 @@ use arrays::{Ask, Asking, Site};
 use counters::clear_all;
 use counters::handing::is_taken;
 use follows::follow;
-use gate::Judged;
+use gate::Opening;
 use rules::{Flight, Gate, Outcome};
 use sites::{judge, judge_opening};
 
@@ -30,8 +31,8 @@ pub fn ask(
 {
     let found = judge(site, gate, &counters[..], &phases[..], what);
     match found {
-        Judged::Bad(why) => calling::counts::refused(gate, why),
-        Judged::Good => follow(site, gate, guests, waiting, flight, counters, phases, what),
+        Err(why) => calling::counts::refused(gate, why),
+        Ok(()) => follow(site, gate, guests, waiting, flight, counters, phases, what),
     }
 }
 
@@ -99,10 +100,7 @@ pub fn arrive(
 // An opening, once nothing stands against opening the gate: where it is accepted, the counters and phases of this array begin at 0.
 fn begin(
     site: Site,
-    depth: u64,
-    known: u64,
-    capacity: u64,
-    rule: u64,
+    opening: Opening,
     settings: &[u64],
     guests: &mut [u64],
     waiting: &mut [u64],
@@ -110,28 +108,23 @@ fn begin(
     counters: &mut [u64],
     phases: &mut [u64],
 ) -> Outcome
-    requires { judged (opening_tests site depth known capacity rule counters.old phases.old) ≡ accept }
-    ensures { (result, guests.new, waiting.new, flight.new, counters.new, phases.new) ≡ begun site depth known capacity rule settings.now guests.old waiting.old flight.old counters.old phases.old }
+    requires { judged (opening_tests site opening.setup.depth opening.guests opening.setup.capacity opening.setup.rule counters.old phases.old) ≡ accept }
+    ensures { (result, guests.new, waiting.new, flight.new, counters.new, phases.new) ≡ begun site opening.setup.depth opening.guests opening.setup.capacity opening.setup.rule settings.now guests.old waiting.old flight.old counters.old phases.old }
 {
-    let outcome = opens::open(
-        depth, known, capacity, rule, settings, guests, waiting, flight,
-    );
+    let outcome = opens::open(opening, settings, guests, waiting, flight);
     let answer = outcome.answer;
     if !is_taken(answer) {
         return outcome;
     }
-    clear_all(counters, known as usize, site.array as usize);
-    phases::clear(phases, depth as usize);
+    clear_all(counters, opening.guests as usize, site.array as usize);
+    phases::clear(phases, opening.setup.depth as usize);
     outcome
 }
 
 // Opens an array: its gate with these counts, under this rule, and with four settings a guest; its counters and phases begin at 0.
 pub fn open(
     site: Site,
-    depth: u64,
-    known: u64,
-    capacity: u64,
-    rule: u64,
+    opening: Opening,
     settings: &[u64],
     guests: &mut [u64],
     waiting: &mut [u64],
@@ -139,21 +132,13 @@ pub fn open(
     counters: &mut [u64],
     phases: &mut [u64],
 ) -> Outcome
-    ensures { seen_at (result, guests.new, waiting.new, flight.new, counters.new, phases.new) ≡ seen_at (begun site depth known capacity rule settings.now guests.old waiting.old flight.old counters.old phases.old) }
+    ensures { seen_at (result, guests.new, waiting.new, flight.new, counters.new, phases.new) ≡ seen_at (begun site opening.setup.depth opening.guests opening.setup.capacity opening.setup.rule settings.now guests.old waiting.old flight.old counters.old phases.old) }
 {
-    let found = judge_opening(
-        site,
-        depth,
-        known,
-        capacity,
-        rule,
-        &counters[..],
-        &phases[..],
-    );
+    let found = judge_opening(site, opening, &counters[..], &phases[..]);
     match found {
-        Judged::Bad(why) => opens::not_opened(why),
-        Judged::Good => begin(
-            site, depth, known, capacity, rule, settings, guests, waiting, flight, counters, phases,
+        Err(why) => opens::not_opened(why),
+        Ok(()) => begin(
+            site, opening, settings, guests, waiting, flight, counters, phases,
         ),
     }
 }

@@ -1,6 +1,7 @@
 // An index over the waiting rows, so that an event need not walk them: for each guest the place of its first and of its last row, for each row the place of the next
 // one of its guest. It is built by one walk of the rows and kept beside them; a place is written one higher, and 0 says that there is none. Functions for this
 // repository's own crates.
+// Places are numbers in one array of fixed size, and no Options: there is no heap, and an Option<u16> is twice as wide.
 #![tactic(auto)]
 
 ghost use Rattle.std.specs.Prelude.{◌≡◌, false, List, ℕ, ◌+◌, ◌-◌, ◌*◌, ◌≤◌, ◌<◌, length, get_or};
@@ -34,10 +35,8 @@ fn fall(index: &mut [u16], upto: usize, mark: u16)
     requires { upto ≤ length index.old }
     ensures { Rewritten (λ j. fallen mark (get_or index.old j 0)) index.old index.new 0 upto }
 {
-    let mut i: usize = 0;
-    while i < upto {
-        index[i] = fallen_by(index[i], mark);
-        i += 1;
+    for number in index[..upto].iter_mut() {
+        *number = fallen_by(*number, mark);
     }
 }
 
@@ -46,22 +45,8 @@ fn close(index: &mut [u16], from: usize, upto: usize, mark: u16)
     requires { (from ≤ upto) × (upto < length index.old) }
     ensures { Rewritten (λ j. fallen mark (get_or index.old (j + 1) 0)) index.old index.new from upto }
 {
-    let mut i = from;
-    while i < upto {
+    for i in from..upto {
         index[i] = fallen_by(index[i + 1], mark);
-        i += 1;
-    }
-}
-
-// No guest has a row.
-fn clear(index: &mut [u16])
-    requires { length index.old ≡ index_wide }
-    ensures { Rewritten (λ j. 0) index.old index.new 0 NEXTS }
-{
-    let mut i: usize = 0;
-    while i < NEXTS {
-        index[i] = 0;
-        i += 1;
     }
 }
 
@@ -120,12 +105,10 @@ pub fn build(waiting: &[u64], count: usize, index: &mut [u16])
     requires by_index { (k : ℕ) → k < count → owner_of waiting.now k < most_guests }
     ensures { Indexed waiting.now index.new count }
 {
-    clear(index);
-    let mut k: usize = 0;
-    while k < count {
+    index[..NEXTS].fill(0);
+    for k in 0..count {
         let guest = waiting[k * WAITING_WIDE + GUEST];
         link(index, k, guest);
-        k += 1;
     }
 }
 
@@ -133,10 +116,7 @@ pub fn build(waiting: &[u64], count: usize, index: &mut [u16])
 pub fn is_walked(index: &[u16], count: usize) -> bool
     ensures { result ≡ false → 0 < length index.now }
 {
-    if index.len() == 0 {
-        return true;
-    }
-    count <= MOST_WALKED
+    index.is_empty() || count <= MOST_WALKED
 }
 
 // A row of `guest` is placed last: the index, where there is one, follows.
@@ -145,7 +125,7 @@ pub fn keep_placed(index: &mut [u16], count: usize, guest: u64)
     requires by_index { (ws : List ℕ) × Beside ws index.old count }
     ensures { (ws ws' : List ℕ) → Beside ws index.old count → Gains ws ws' count guest → Beside ws' index.new (count + 1) }
 {
-    if index.len() == 0 {
+    if index.is_empty() {
         return;
     }
     link(index, count, guest);
@@ -157,7 +137,7 @@ pub fn keep_sent(index: &mut [u16], place: usize, count: usize, guest: u64)
     requires by_index { (ws : List ℕ) × Beside ws index.old count }
     ensures { (ws ws' : List ℕ) → Beside ws index.old count → Head ws guest 0 place → Loses ws ws' count place → Beside ws' index.new (count - 1) }
 {
-    if index.len() == 0 {
+    if index.is_empty() {
         return;
     }
     unlink(index, place, count, guest);
@@ -168,15 +148,11 @@ pub fn gone_on(answer: Answer, index: &[u16]) -> usize
     ensures upper_bound { (result ≤ 1) × (0 < result → 0 < length index.now) }
     ensures by_index { (ws : List ℕ) → stands index.now answer ws ≡ shifted result ws }
 {
-    if index.len() == 0 {
+    if index.is_empty() {
         return 0;
     }
     match answer {
-        Answer::Sent {
-            phase: _,
-            guest: _,
-            id: _,
-        } => 1,
+        Answer::Sent { .. } => 1,
         _ => 0,
     }
 }

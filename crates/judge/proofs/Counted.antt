@@ -13,12 +13,11 @@ use Rattle.rules.specs.Answers.{number_of}
 use Rattle.rules.specs.Choice.{Result}
 use Rattle.rules.specs.declared.Answer.{Answer}
 use Rattle.lines.specs.Line.{decimal_of, spaced, answer_of, line_of, trace_refused, refusal_line}
-use Rattle.trace.specs.Header.{header_of}
+use Rattle.trace.specs.Header.{header_of, Header}
 use Rattle.trace.specs.Printed.{lines_from}
-use Rattle.trace.specs.declared.Header.{Header}
-use Rattle.trace.specs.declared.Header.TheVariants.{Opened, Refused as Unopened}
 use Rattle.judge.specs.Acceptable.{head_by, head_line, lines_of}
 use Rattle.judge.proofs.Bytes.{free, digits_free, spaced-free, answer_free}
+use Rattle.std.specs.Prelude.{Ok, Err}
 
 -- how many bytes 10 there are
 abbrev pub ends : List ℕ → ℕ
@@ -48,8 +47,8 @@ line-ends n a =
 -- and so does the header line
 head_ends : (h : Header) → ends (head_by h) ≡ 1
 unfolding refusal_line
-head_ends (Opened v d n c r) = refl
-head_ends (Unopened r) =
+head_ends (Ok o) = refl
+head_ends (Err r) =
     ends-append trace_refused (spaced (number_of r ∷ []) ++ (10 ∷ []))
     ∙ (let j = ends-append (spaced (number_of r ∷ [])) (10 ∷ []) in let k = ends-free (spaced (number_of r ∷ [])) (spaced-free (number_of r ∷ [])) in omega (arith, j, k))
 

@@ -1,5 +1,6 @@
 -- What the definition hears at one event is what may stand there, in plain facts: it follows with a result exactly where the result may stand and the lines begin
 -- with its line. In a sound table. Assumes nothing.
+use Rattle.std.specs.Prelude.{Some, None, Option}
 use Prim.Native.Nat.{ℕ, ◌+◌, ◌<◌}
 use mathlib.Core.Path.{◌≡◌, refl, sym, ap, ◌∙◌, subst}
 use mathlib.Core.Bool.{Bool, true, false, true≢false}
@@ -24,10 +25,7 @@ use Rattle.rules.specs.declared.Answer.TheVariants.{Sent}
 use Rattle.rules.proofs.Facts.{Sound}
 use Rattle.rules.proofs.EnterSound.{enter-sound}
 use Rattle.rules.proofs.Places.{Says as Picked, least-place, least-none}
-use Rattle.walks.specs.declared.Found.{Found}
-use Rattle.walks.specs.declared.Found.TheVariants.{At, Nothing as NoPlace}
 use Rattle.lines.specs.Line.{line_of}
-use Rattle.trace.specs.declared.Read.TheVariants.{Good, Bad}
 use Rattle.judge.specs.Acceptable.{MayGo, MayChoose, full, reservation, weight, nothing, Asked, entire, cut_off, refusing, MayDecide, May}
 use Rattle.judge.specs.Judging.{begins, follows, wrong, told, ok_in, tag_in, sent_at, ties, named, place_from, leads, sent_in, heard_in, heard_weight, heard_reservation, heard_choice, heard_by, heard}
 use Rattle.judge.proofs.Bytes.{begins_is, line_once}
@@ -35,6 +33,7 @@ use Rattle.judge.proofs.Places.{Says, place_says, place_found}
 use Rattle.judge.proofs.Tied.{leads-first, first-leads}
 use Rattle.judge.proofs.Ties.{one_place}
 use Rattle.judge.proofs.Heard.{sent_answer}
+use Rattle.std.specs.Prelude.{Some, None}
 
 -- to follow is not to be wrong
 pub never : {r : Result} → wrong ≡ follows r → ⊥
@@ -88,7 +87,7 @@ module _ (n : ℕ) (ls : List ℕ) where
         spoken : Spoken r
 
       -- by whether it is the first of its guest
-      goes_at : (r : Result) (i : ℕ) → Says test 0 w (At i) → (b : Bool) → leads w i ≡ b → (if b then follows (sent_at p t i) else wrong) ≡ follows r → Goes r
+      goes_at : (r : Result) (i : ℕ) → Says test 0 w (Some i) → (b : Bool) → leads w i ≡ b → (if b then follows (sent_at p t i) else wrong) ≡ follows r → Goes r
       goes_at r i a false z e = absurd (never e)
       goes_at r i a true z e =
           let q = at w a.place in
@@ -108,9 +107,9 @@ module _ (n : ℕ) (ls : List ℕ) where
       unfolding heard_in
       send_goes r e = go (place_from test 0 w) (place_says test 0 w) e
         where
-          go : (x : Found) → Says test 0 w x → sent_in p t x ≡ follows r → Goes r
-          go NoPlace a e = absurd (never e)
-          go (At i) a e = goes_at r i a (leads w i) refl e
+          go : (x : Option ℕ) → Says test 0 w x → sent_in p t x ≡ follows r → Goes r
+          go None a e = absurd (never e)
+          go (Some i) a e = goes_at r i a (leads w i) refl e
 
       send_heard : (i : ℕ) → MayGo (ok_in p t) (tag_in p) w i → (r : Result) → r ≡ sent_at p t i → Spoken r → heard_in n ls p t m ≡ follows r
       unfolding heard_in
@@ -120,7 +119,7 @@ module _ (n : ℕ) (ls : List ℕ) where
           let tag : tag_in p q ≡ m = omega (arith, g.smallest i₀ f.inside f.good, f.smallest i g.inside g.good) in
           let y : test q ≡ true = join (join g.good (eq-eqb (tag_in p q) m tag)) its in
           ap (sent_in p t) (place_found test 0 w i g.inside y (λ j l. other j l (test (at w j)) refl its))
-          ∙ ap (λ (k : ℕ). sent_in p t (At k)) (let z : 0 + i ≡ i = omega arith in z) ∙ rw (first-leads w i g.first) (ap follows (sym e))
+          ∙ ap (λ (k : ℕ). sent_in p t (Some k)) (let z : 0 + i ≡ i = omega arith in z) ∙ rw (first-leads w i g.first) (ap follows (sym e))
         where
           -- an earlier one with the same line would have the same name
           other : (j : ℕ) → j < i → (b : Bool) → test (at w j) ≡ b → begins (line_of n (Sent p (at w i).guest (at w i).id)) ls ≡ true → b ≡ false
@@ -183,20 +182,20 @@ module _ (n : ℕ) (ls : List ℕ) where
 
     pub heard_may : (x : Asked) (r : Result) → heard n ls t x ≡ follows r → May t x r × Spoken r
     unfolding heard
-    heard_may (entire (Good e)) r h = go (verdict t e) refl h
+    heard_may (entire (Some e)) r h = go (verdict t e) refl h
       where
         go : (v : Verdict) → verdict t e ≡ v → heard_by n ls v t e ≡ follows r → MayDecide v t e r × Spoken r
         go accept k h = choice_may (enter t e) (entered e k) r h
         go (refuse why) k h = told-follows (refusing t why) r h
-    heard_may (entire Bad) r h = told-follows (refusing t BadEvent) r h
+    heard_may (entire None) r h = told-follows (refusing t BadEvent) r h
     heard_may cut_off r h = told-follows (refusing t EventCut) r h
 
     pub may_heard : (x : Asked) (r : Result) → May t x r → Spoken r → heard n ls t x ≡ follows r
     unfolding heard
-    may_heard (entire (Good e)) r m h = go (verdict t e) refl m
+    may_heard (entire (Some e)) r m h = go (verdict t e) refl m
       where
         go : (v : Verdict) → verdict t e ≡ v → MayDecide v t e r → heard_by n ls v t e ≡ follows r
         go accept k m = choice-heard (enter t e) (entered e k) r m h
         go (refuse why) k m = told-heard (refusing t why) r m h
-    may_heard (entire Bad) r m h = told-heard (refusing t BadEvent) r m h
+    may_heard (entire None) r m h = told-heard (refusing t BadEvent) r m h
     may_heard cut_off r m h = told-heard (refusing t EventCut) r m h

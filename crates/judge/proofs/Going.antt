@@ -22,7 +22,6 @@ use Rattle.gate.specs.Replies.{four_of}
 use Rattle.lines.specs.Line.{line_of}
 use Rattle.trace.specs.Event.{event_of, events_of, whole}
 use Rattle.trace.specs.Printed.{answered}
-use Rattle.trace.specs.declared.Read.TheVariants.{Good, Bad}
 use Rattle.judge.specs.Acceptable.{MayChoose, full, reservation, weight, nothing, Asked, entire, cut_off, refusing, MayDecide, May, cut_asked, asked_from}
 use Rattle.judge.specs.Judging.{begins, Heard, follows, wrong, told, heard, wrong_at, accepted, ended, onward, judged_from}
 use Rattle.judge.specs.Hearing.{size_if, Followed, Hears}
@@ -30,9 +29,10 @@ use Rattle.judge.specs.declared.Judged.{Judged}
 use Rattle.judge.specs.declared.Said.{Said}
 use Rattle.judge.proofs.Bytes.{part, part-rest, begins_is}
 use Rattle.judge.proofs.Tied.{first_of}
-use Rattle.judge.proofs.Ties.{size_zero, size-some}
+use Rattle.judge.proofs.Ties.{size_none, size-some}
 use Rattle.judge.proofs.Sent.{sent_settings}
 use Rattle.judge.proofs.Follows.{heard_may}
+use Rattle.std.specs.Prelude.{Some, None}
 
 -- THE END
 
@@ -60,42 +60,33 @@ module _ (n : ℕ) (t : Table) (ls : List ℕ) where
   unfolding heard told
   cut-heard c e = rw e
 
-  module _ (rest : List ℕ) (some : length rest ≡ 0 → ⊥) (long : ℕ) (size : long ≡ size_if (begins cut_line ls) cut_line) (r : Judged) where
+  module _ (rest : List ℕ) (some : length rest ≡ 0 → ⊥) (r : Judged) where
     -- is wrong
-    pub rest_wrong : long ≡ 0 → r ≡ wrong_at (n + 2) (four_of (Refused EventCut)) → r ≡ judged_from n t (cut_asked rest) ls
+    pub rest_wrong : None ≡ size_if (begins cut_line ls) cut_line → r ≡ wrong_at (n + 2) (four_of (Refused EventCut)) → r ≡ judged_from n t (cut_asked rest) ls
     unfolding judged_from
-    rest_wrong z e = go rest some
+    rest_wrong size e = go rest some
       where
         go : (bs : List ℕ) → (length bs ≡ 0 → ⊥) → r ≡ judged_from n t (cut_asked bs) ls
         go [] s = absurd (s refl)
-        go (b ∷ bs) s = rw (cut-heard false (size_zero (begins cut_line ls) (n + 1) (Refused EventCut) (sym size ∙ z))) e
+        go (b ∷ bs) s = rw (cut-heard false (size_none (begins cut_line ls) cut_line size)) e
 
     -- or stands, and nothing may stand behind it
-    pub rest_right : (long ≡ 0 → ⊥) → r ≡ ended (n + 3) (part long ls) → r ≡ judged_from n t (cut_asked rest) ls
+    pub rest_right : (long : ℕ) → Some long ≡ size_if (begins cut_line ls) cut_line → r ≡ ended (n + 3) (part long ls) → r ≡ judged_from n t (cut_asked rest) ls
     unfolding judged_from
-    rest_right z e = go rest some
+    rest_right long size e = go rest some
       where
-        stands : begins cut_line ls ≡ true
-        stands = size-some (begins cut_line ls) (n + 1) (Refused EventCut) (omega (arith, z, size))
-
-        is_long : long ≡ length cut_line
-        is_long = size ∙ ap (λ (c : Bool). size_if c cut_line) stands
+        stands : (begins cut_line ls ≡ true) × (long ≡ length cut_line)
+        stands = size-some (begins cut_line ls) cut_line long size
 
         go : (bs : List ℕ) → (length bs ≡ 0 → ⊥) → r ≡ judged_from n t (cut_asked bs) ls
         go [] s = absurd (s refl)
-        go (b ∷ bs) s = rw (cut-heard true stands) (e ∙ ap (ended (n + 3)) (part-rest long ls) ∙ ap (λ (k : ℕ). ended (n + 3) (drop k ls)) is_long ∙ ap (λ (k : ℕ). ended k (drop (length cut_line) ls)) (let z : n + 3 ≡ n + 1 + 2 = omega arith in z))
+        go (b ∷ bs) s = rw (cut-heard true stands.0) (e ∙ ap (ended (n + 3)) (part-rest long ls) ∙ ap (λ (k : ℕ). ended (n + 3) (drop k ls)) stands.1 ∙ ap (λ (k : ℕ). ended k (drop (length cut_line) ls)) (let z : n + 3 ≡ n + 1 + 2 = omega arith in z))
 
-    -- what stands there is no longer than the lines
-    pub rest-fits : long ≤ length ls
-    rest-fits = go (begins cut_line ls) refl
-      where
-        go : (c : Bool) → begins cut_line ls ≡ c → long ≤ length ls
-        go true e = omega (arith, size ∙ ap (λ (c : Bool). size_if c cut_line) e, ap length (begins_is cut_line ls e), fits cut_line)
-          where
-            fits : (xs : List ℕ) → length xs ≤ length (xs ++ drop (length cut_line) ls)
-            fits [] = omega arith
-            fits (x ∷ xs) = let i = fits xs in omega arith
-        go false e = omega (arith, size ∙ ap (λ (c : Bool). size_if c cut_line) e)
+  -- what stands there is no longer than the lines
+  pub rest-fits : (long : ℕ) → Some long ≡ size_if (begins cut_line ls) cut_line → long ≤ length ls
+  rest-fits long size =
+      let stands = size-some (begins cut_line ls) cut_line long size in
+      omega (arith, stands.1, ap length (begins_is cut_line ls stands.0), length-append cut_line (drop (length cut_line) ls))
 
 -- THE SETUP of the gate
 
@@ -108,12 +99,12 @@ choose_setup t r (nothing h d o e) = ap (λ (y : Result). y.table.setup) e
 
 -- and so does whatever may stand
 may_setup : (t : Table) (x : Asked) (r : Result) → May t x r → r.table.setup ≡ t.setup
-may_setup t (entire (Good e)) r m = go (verdict t e) m
+may_setup t (entire (Some e)) r m = go (verdict t e) m
   where
     go : (v : Verdict) → MayDecide v t e r → r.table.setup ≡ t.setup
     go accept m = choose_setup (enter t e) r m ∙ (enter-settings t e).setup
     go (refuse why) m = ap (λ (y : Result). y.table.setup) m
-may_setup t (entire Bad) r m = ap (λ (y : Result). y.table.setup) m
+may_setup t (entire None) r m = ap (λ (y : Result). y.table.setup) m
 may_setup t cut_off r m = ap (λ (y : Result). y.table.setup) m
 
 -- THE EVENTS, one after the other
@@ -168,13 +159,13 @@ module _ (v : ℕ) (g₀ : Gate) (gs₀ ws₀ fs₀ bs ls : List ℕ) where
         ∙ ap (onward (λ q. judged_from (i + 1) q.table (asked_at v bs n (i + 1)) (drop (length (line_of (i + 1) q.answer)) (drop at ls))) (wrong_at (i + 2) (four_of (answered t (event_of v (drop (i * 14) bs))).answer))) e
 
     -- the line is wrong
-    pub reached_wrong : s.long ≡ 0 → (j : Judged) → j ≡ wrong_at (i + 2) (four_of s.answer) → j ≡ judged_from 0 (table_of g₀ gs₀ ws₀ fs₀) (asked_from v bs) ls
+    pub reached_wrong : s.long ≡ None → (j : Judged) → j ≡ wrong_at (i + 2) (four_of s.answer) → j ≡ judged_from 0 (table_of g₀ gs₀ ws₀ fs₀) (asked_from v bs) ls
     reached_wrong z j e = e ∙ ap (λ (a : Answer). wrong_at (i + 2) (four_of a)) k.due ∙ sym (heard_by_lem wrong (k.errs z))
 
     -- or one more stands
-    module _ (some : 0 < s.long) where
-      f : Followed (heard (i + 1) (drop at ls) t x) (i + 1) s.gate s.long hs vs es
-      f = k.goes some
+    module _ (long : ℕ) (is : s.long ≡ Some long) where
+      f : Followed (heard (i + 1) (drop at ls) t x) (i + 1) s.gate long hs vs es
+      f = k.goes long is
 
       spoken : begins (line_of (i + 1) f.result.answer) (drop at ls) ≡ true
       spoken = (heard_may (i + 1) (drop at ls) t x f.result f.says).1
@@ -183,12 +174,12 @@ module _ (v : ℕ) (g₀ : Gate) (gs₀ ws₀ fs₀ bs ls : List ℕ) where
       pub reached_setup : s.gate.setup ≡ g.setup
       reached_setup = ap Table.setup f.sends.shows ∙ may_setup t x f.result (heard_may (i + 1) (drop at ls) t x f.result f.says).0
 
-      pub reached_fits : at + s.long ≤ length ls
+      pub reached_fits : at + long ≤ length ls
       reached_fits =
           let line = line_of (i + 1) f.result.answer in
           omega (arith, r.fits, f.size, length-drop at ls, ap length (begins_is line (drop at ls) spoken) ∙ length-append line (drop (length line) (drop at ls)))
 
-      pub reached_next : Reached v g₀ gs₀ ws₀ fs₀ bs ls n (i + 1) s.gate hs vs es (at + s.long)
+      pub reached_next : Reached v g₀ gs₀ ws₀ fs₀ bs ls n (i + 1) s.gate hs vs es (at + long)
       reached_next =
           record {
             known = f.sends.known;
@@ -196,7 +187,7 @@ module _ (v : ℕ) (g₀ : Gate) (gs₀ ws₀ fs₀ bs ls : List ℕ) where
             judged = heard_by_lem (follows f.result) f.says
                 ∙ ap (λ (u : Table). judged_from (i + 1) u (asked_at v bs n (i + 1)) (drop (length (line_of (i + 1) f.result.answer)) (drop at ls))) (sym f.sends.shows)
                 ∙ ap (λ (m : ℕ). judged_from (i + 1) (table_of s.gate hs vs es) (asked_at v bs n (i + 1)) (drop m (drop at ls))) (sym f.size)
-                ∙ ap (judged_from (i + 1) (table_of s.gate hs vs es) (asked_at v bs n (i + 1))) (drop-drop s.long at ls);
+                ∙ ap (judged_from (i + 1) (table_of s.gate hs vs es) (asked_at v bs n (i + 1))) (drop-drop long at ls);
           }
 
   -- all events are judged

@@ -16,19 +16,16 @@ use Rattle.rules.proofs.Facts.{Sound}
 use Rattle.rules.proofs.EnterSound.{enter-sound}
 use Rattle.rules.proofs.Chosen.{chosen}
 use Rattle.lines.specs.Line.{refusal_line, title_line}
-use Rattle.trace.specs.Header.{version_of, header_tests, header_by, header_of}
-use Rattle.trace.specs.Event.{whole}
+use Rattle.trace.specs.Header.{version_of, header_tests, header_by, header_of, Header}
+use Rattle.trace.specs.Event.{whole, Read}
 use Rattle.trace.specs.Printed.{answered, answers_to, lines_from, printed_by, printed}
 use Rattle.trace.specs.Answers.{event_bytes, opening, reads_of, cut_answer}
-use Rattle.trace.specs.declared.Header.{Header}
-use Rattle.trace.specs.declared.Header.TheVariants.{Refused as Unopened}
-use Rattle.trace.specs.declared.Read.{Read}
-use Rattle.trace.specs.declared.Read.TheVariants.{Good, Bad}
 use Rattle.trace.proofs.Answers.{printed-lines}
 use Rattle.judge.specs.Acceptable.{MayGo, MayChoose, full as full_too, reservation as reservation_too, weight as weight_too, nothing as nothing_too, Asked, entire, cut_off, MayDecide, May, ours, cut_asked, asked_by, head_by, Stands, lines_of, Acceptable}
 use Rattle.judge.specs.Judging.{ok_in, tag_in, accepted, judged_of}
 use Rattle.judge.proofs.Tied.{foremost_first}
 use Rattle.judge.proofs.Exactly.{acceptable_judged}
+use Rattle.std.specs.Prelude.{Some, None, Err}
 
 -- OUR CHOICE MAY STAND
 
@@ -45,12 +42,12 @@ module _ (t : Table) (s : Sound t) where
 
 ours_may : (t : Table) (x : Asked) → May t x (ours t x)
 unfolding answered step decided
-ours_may t (entire (Good e)) = go (verdict t e) refl
+ours_may t (entire (Some e)) = go (verdict t e) refl
   where
     go : (v : Verdict) → verdict t e ≡ v → MayDecide v t e (decided v t e)
     go accept k = chosen_may (enter t e) (enter-sound t e (ap is_accept k)) (choice (enter t e)) (chosen (enter t e))
     go (refuse why) k = refl
-ours_may t (entire Bad) = refl
+ours_may t (entire None) = refl
 ours_may t cut_off = refl
 
 -- what our rules come to, one after the other
@@ -78,7 +75,7 @@ ours-answers (e ∷ es) t bs = ap ((answered t e).answer ∷◌) (ours-answers e
 own_acceptable : (bs : List ℕ) (v : Verdict) → judged (header_tests bs) ≡ v → Acceptable bs (printed bs)
 unfolding printed lines_from
 own_acceptable bs (refuse r) e =
-    let h : header_of bs ≡ Unopened r = ap (λ (v : Verdict). header_by v bs) e in
+    let h : header_of bs ≡ Err r = ap (λ (v : Verdict). header_by v bs) e in
     record {
       results = [];
       stand = rw h tt;

@@ -1,4 +1,5 @@
 -- The rows that tie, over the lent numbers: what the functions that look for another gate's request know. Assumes nothing.
+use Rattle.std.specs.Prelude.{Option, Some, None}
 use Prim.Native.Nat.{ℕ, zero, suc, ◌+◌, ◌*◌, ◌≤◌, ◌<◌}
 use mathlib.Core.Path.{◌≡◌, refl, sym, ap, ◌∙◌, subst}
 use mathlib.Core.Bool.{Bool, true, false, not, ◌&&◌, true≢false}
@@ -32,12 +33,12 @@ use Rattle.table.specs.View.{request_form, waiting_of, table_of, Known}
 use Rattle.table.proofs.Facts.{facts, rows_ask, row_is, guest_is}
 use Rattle.walks.specs.LeastLaws.{open_by_tag}
 use Rattle.walks.specs.Walks.{Picks}
-use Rattle.walks.specs.declared.Found.TheVariants.{At}
 use Rattle.sends.proofs.Phases.{limit_zero, passes_by_tag}
+use Rattle.std.proofs.lemmas.Option.{none-some, same_Some}
 use Rattle.lines.specs.Line.{line_of}
 use Rattle.judge.specs.Judging.{begins, ok_in, tag_in, ties, named, place_from}
 use Rattle.judge.specs.Hearing.{size_if, tag_column, latest_in, Timely, Tells}
-use Rattle.judge.proofs.Bytes.{line_long}
+use Rattle.judge.specs.declared.Told.{Told}
 use Rattle.judge.proofs.Places.{place_found, place_none}
 
 -- EVERY NAME ONCE
@@ -66,7 +67,7 @@ one_place t s i j h k e =
     (λ l. ⊎_elim (λ m. absurd (names_apart t.waiting t.flight s.names_once j i m h (sym e))) (λ m. omega arith) (lt_or_le j i)) (lt_or_le i j)
 
 -- what is picked at a place stands foremost there
-pub foremost_at : (t : Table) → Sound t → (ok : Request → Bool) (tag : Request → ℕ) (place : ℕ) → Picks ok tag t.waiting (At place) → Foremost ok tag t.waiting place
+pub foremost_at : (t : Table) → Sound t → (ok : Request → Bool) (tag : Request → ℕ) (place : ℕ) → Picks ok tag t.waiting (Some place) → Foremost ok tag t.waiting place
 foremost_at t s ok tag place p =
     let a = subst (Says ok tag t.waiting) p.pick (least-place ok tag t.waiting) in
     let e : a.place ≡ place = one_place t s a.place place a.foremost.inside p.inside (ap name (sym a.request)) in
@@ -172,10 +173,10 @@ module _ (g : Gate) (gs ws fs : List ℕ) (k : Known g gs ws fs) (place : ℕ) (
     is_named : named number ls p t m q ≡ ties p t m q && begins line ls
     is_named = ap (λ (a : Answer). ties p t m q && begins (line_of number a) ls) (sym (send_there p))
 
-    pub size_untied : (b : Bool) → b ≡ ties p t m q → b ≡ false → 0 ≡ size_if (named number ls p t m q) line
+    pub size_untied : (b : Bool) → b ≡ ties p t m q → b ≡ false → None ≡ size_if (named number ls p t m q) line
     size_untied b e h = ap (λ (c : Bool). size_if c line) (sym (is_named ∙ left_fails (begins line ls) (sym e ∙ h)))
 
-    pub size-tied : (b : Bool) → b ≡ ties p t m q → b ≡ true → (a : Answer) → a ≡ Sent p n (waiting_at ws place ID) → (r : ℕ) → r ≡ size_if (begins (line_of number a) ls) (line_of number a)
+    pub size-tied : (b : Bool) → b ≡ ties p t m q → b ≡ true → (a : Answer) → a ≡ Sent p n (waiting_at ws place ID) → (r : Option ℕ) → r ≡ size_if (begins (line_of number a) ls) (line_of number a)
         → r ≡ size_if (named number ls p t m q) line
     size-tied b e h a f r z =
         z ∙ ap (λ (c : Answer). size_if (begins (line_of number c) ls) (line_of number c)) f
@@ -184,18 +185,18 @@ module _ (g : Gate) (gs ws fs : List ℕ) (k : Known g gs ws fs) (place : ℕ) (
     pub named_any : (es : List ℕ) → named number ls p t m q ≡ named number ls p (table_of g gs ws es) m q
     named_any es = ap (λ (c : Bool). c && begins (line_of number (Sent p q.guest q.id)) ls) (ties_any p m es)
 
--- a size is 0 where the test fails, and only there
-pub size_zero : (b : Bool) (number : ℕ) (a : Answer) → size_if b (line_of number a) ≡ 0 → b ≡ false
-size_zero true number a e = absurd (omega (arith, line_long number a))
-size_zero false number a e = refl
+-- there is no size where the test fails, and only there
+pub size_none : (b : Bool) (xs : List ℕ) → None ≡ size_if b xs → b ≡ false
+size_none true xs e = absurd (none-some (length xs) e)
+size_none false xs e = refl
 
-pub size-some : (b : Bool) (number : ℕ) (a : Answer) → 0 < size_if b (line_of number a) → b ≡ true
-size-some true number a h = refl
-size-some false number a h = absurd (omega arith)
+pub size-some : (b : Bool) (xs : List ℕ) (long : ℕ) → Some long ≡ size_if b xs → (b ≡ true) × (long ≡ length xs)
+size-some true xs long e = (refl, same_Some long (length xs) e)
+size-some false xs long e = absurd (none-some long (sym e))
 
 -- THE SEARCH
 
-module _ (g : Gate) (gs ws fs : List ℕ) (k : Known g gs ws fs) (place : ℕ) (p : Phase) (picks : Picks (ok_in p (table_of g gs ws fs)) (tag_in p) (waiting_of ws g.waiting) (At place)) where
+module _ (g : Gate) (gs ws fs : List ℕ) (k : Known g gs ws fs) (place : ℕ) (p : Phase) (picks : Picks (ok_in p (table_of g gs ws fs)) (tag_in p) (waiting_of ws g.waiting) (Some place)) where
   abbrev u : Table
   u = table_of g gs ws fs
 
@@ -235,34 +236,28 @@ module _ (g : Gate) (gs ws fs : List ℕ) (k : Known g gs ws fs) (place : ℕ) (
       size_of i h = ap (line_of number) (send_there g gs ws fs k i h p)
 
       -- the first whose line is heard
-      pub tells-one : (i long : ℕ) → i < g.waiting → ((j : ℕ) → j < i → f (at u.waiting j) ≡ false) → 0 < long
-          → long ≡ size_if (f (at u.waiting i)) (line_of number (Sent p (waiting_at ws i GUEST) (waiting_at ws i ID))) → Tells number ls p u place i long
-      tells-one i long h n some e =
-          let y : f (at u.waiting i) ≡ true = size-some (f (at u.waiting i)) number (Sent p (waiting_at ws i GUEST) (waiting_at ws i ID)) (omega arith) in
-          let z = place_found f 0 u.waiting i (omega (arith, length-rows request_form ws g.waiting)) y n ∙ ap At (zero-add i) in
-          record {
-            none = λ w. absurd (omega arith);
-            one = λ w. ap (λ (m : ℕ). place_from (named number ls p u m) 0 u.waiting) tag_is ∙ z;
-            size = λ w. e ∙ ap (λ (b : Bool). size_if b (line_of number (Sent p (waiting_at ws i GUEST) (waiting_at ws i ID)))) y ∙ ap length (size_of i h);
-          }
+      pub tells-one : (i long : ℕ) → i < g.waiting → ((j : ℕ) → j < i → f (at u.waiting j) ≡ false)
+          → Some long ≡ size_if (f (at u.waiting i)) (line_of number (Sent p (waiting_at ws i GUEST) (waiting_at ws i ID))) → Tells number ls p u place (Some (record { place = i; long = long }))
+      tells-one i long h n e =
+          let y = size-some (f (at u.waiting i)) (line_of number (Sent p (waiting_at ws i GUEST) (waiting_at ws i ID))) long e in
+          let z = place_found f 0 u.waiting i (omega (arith, length-rows request_form ws g.waiting)) y.0 n ∙ ap Some (zero-add i) in
+          record { one = ap (λ (m : ℕ). place_from (named number ls p u m) 0 u.waiting) tag_is ∙ z; size = y.1 ∙ ap length (size_of i h) }
 
       -- no line is heard
-      pub tells_none : (i there : ℕ) → g.waiting ≤ i → ((j : ℕ) → j < i → f (at u.waiting j) ≡ false) → Tells number ls p u place there 0
-      tells_none i there h n =
-          record {
-            none = λ w. ap (λ (m : ℕ). place_from (named number ls p u m) 0 u.waiting) tag_is ∙ place_none f 0 u.waiting (λ j l. n j (omega (arith, length-rows request_form ws g.waiting)));
-            one = λ w. absurd (omega arith);
-            size = λ w. absurd (omega arith);
-          }
+      pub tells_none : (i : ℕ) → g.waiting ≤ i → ((j : ℕ) → j < i → f (at u.waiting j) ≡ false) → Tells number ls p u place None
+      tells_none i h n =
+          ap (λ (m : ℕ). place_from (named number ls p u m) 0 u.waiting) tag_is ∙ place_none f 0 u.waiting (λ j l. n j (omega (arith, length-rows request_form ws g.waiting)))
 
 -- a pick does not depend on what is in flight
-pub picks_any : (g : Gate) (gs ws fs es : List ℕ) (p : Phase) (place : ℕ) → Picks (ok_in p (table_of g gs ws fs)) (tag_in p) (waiting_of ws g.waiting) (At place)
-    → Picks (ok_in p (table_of g gs ws es)) (tag_in p) (waiting_of ws g.waiting) (At place)
+pub picks_any : (g : Gate) (gs ws fs es : List ℕ) (p : Phase) (place : ℕ) → Picks (ok_in p (table_of g gs ws fs)) (tag_in p) (waiting_of ws g.waiting) (Some place)
+    → Picks (ok_in p (table_of g gs ws es)) (tag_in p) (waiting_of ws g.waiting) (Some place)
 picks_any g gs ws fs es Reservation place h = h
 picks_any g gs ws fs es Weight place h = h
 
 -- nor does what is told
-pub tells_any : (number : ℕ) (ls : List ℕ) (g : Gate) (gs ws fs es : List ℕ) (p : Phase) (place there long : ℕ) → Tells number ls p (table_of g gs ws fs) place there long
-    → Tells number ls p (table_of g gs ws es) place there long
-tells_any number ls g gs ws fs es Reservation place there long h = record { none = h.none; one = h.one; size = h.size }
-tells_any number ls g gs ws fs es Weight place there long h = record { none = h.none; one = h.one; size = h.size }
+pub tells_any : (number : ℕ) (ls : List ℕ) (g : Gate) (gs ws fs es : List ℕ) (p : Phase) (place : ℕ) (r : Option Told) → Tells number ls p (table_of g gs ws fs) place r
+    → Tells number ls p (table_of g gs ws es) place r
+tells_any number ls g gs ws fs es Reservation place (Some r) h = record { one = h.one; size = h.size }
+tells_any number ls g gs ws fs es Weight place (Some r) h = record { one = h.one; size = h.size }
+tells_any number ls g gs ws fs es Reservation place None h = h
+tells_any number ls g gs ws fs es Weight place None h = h

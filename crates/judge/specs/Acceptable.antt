@@ -1,7 +1,7 @@
 -- Document 02, K10, in plain facts: "Accept its lines exactly when each send was of a smallest tag in the right phase, the first waiting of its guest, a send
 -- was made wherever one was due, and refusals agree; the tables follow its choices, not ours. Otherwise give the number of the first wrong, missing or
 -- surplus line, the header line being 1." Words in quotes are K10's. The table is that of another gate throughout: what it says that it sent, it sent.
-use Rattle.std.specs.Prelude.{ℕ, ◌+◌, ◌*◌, ◌≤◌, ◌<◌, ◌≡◌, Bool, true, List, [], ◌∷◌, ◌++◌, map, length, take, drop}
+use Rattle.std.specs.Prelude.{ℕ, ◌+◌, ◌*◌, ◌≤◌, ◌<◌, ◌≡◌, Bool, true, List, [], ◌∷◌, ◌++◌, map, length, take, drop, Some, None, Ok, Err}
 use Rattle.rules.specs.Tables.{Request, Table}
 use Rattle.rules.specs.Choice.{Result, due, open?}
 use Rattle.rules.specs.Chosen.{at, NoneIs, unsent, sent_by_reservation_at, sent_by_weight_at}
@@ -13,14 +13,10 @@ use Rattle.rules.specs.declared.Refusal.TheVariants.{BadEvent, EventCut}
 use Rattle.rules.specs.declared.Answer.TheVariants.{Refused}
 use Rattle.gate.specs.Replies.{Four, four_of}
 use Rattle.lines.specs.Line.{line_of, refusal_line, title_line}
-use Rattle.trace.specs.Header.{version_of, header_of}
-use Rattle.trace.specs.Event.{whole}
+use Rattle.trace.specs.Header.{version_of, header_of, Header}
+use Rattle.trace.specs.Event.{whole, Read}
 use Rattle.trace.specs.Printed.{answered, lines_from}
 use Rattle.trace.specs.Answers.{event_bytes, opening, reads_of}
-use Rattle.trace.specs.declared.Header.{Header}
-use Rattle.trace.specs.declared.Header.TheVariants.{Opened, Refused as Unopened}
-use Rattle.trace.specs.declared.Read.{Read}
-use Rattle.trace.specs.declared.Read.TheVariants.{Good, Bad}
 
 -- WHAT ANOTHER GATE MAY SEND
 
@@ -57,8 +53,8 @@ MayDecide (refuse why) t e r = r ≡ refusing t why
 
 -- r is what another gate may come to at the table t and what asks for a line there
 abbrev pub May : Table → Asked → Result → Type 0
-May t (entire (Good e)) r = MayDecide (verdict t e) t e r
-May t (entire Bad) r = r ≡ refusing t BadEvent
+May t (entire (Some e)) r = MayDecide (verdict t e) t e r
+May t (entire None) r = r ≡ refusing t BadEvent
 May t cut_off r = r ≡ refusing t EventCut
 
 -- what our rules come to there, by document 01 "ties to the earlier accepted"
@@ -77,8 +73,8 @@ asked_from v bs = map entire (reads_of v bs) ++ cut_asked (drop (whole bs * 14) 
 
 -- all that asks for a line in a trace with this header, behind the header line; behind a bad header nothing does
 abbrev pub asked_by : Header → List ℕ → List Asked
-asked_by (Unopened r) bs = []
-asked_by (Opened v d n c r) bs = asked_from (version_of bs) (event_bytes bs)
+asked_by (Err r) bs = []
+asked_by (Ok o) bs = asked_from (version_of bs) (event_bytes bs)
 
 -- all that asks for a line in a trace
 abbrev pub asked : List ℕ → List Asked
@@ -86,8 +82,8 @@ asked bs = asked_by (header_of bs) bs
 
 -- the first line of a trace with this header: the header line, or the one line of a bad header
 abbrev pub head_by : Header → List ℕ
-head_by (Unopened r) = refusal_line r
-head_by (Opened v d n c r) = title_line
+head_by (Err r) = refusal_line r
+head_by (Ok o) = title_line
 
 -- the first line of a trace
 abbrev pub head_line : List ℕ → List ℕ
@@ -128,8 +124,8 @@ none_due = (4, 0, 0, 0)
 
 -- the four numbers of what was due where the header line is wrong: a bad header's refusal; a header line itself is no answer
 abbrev pub head_due : Header → Four
-head_due (Unopened r) = four_of (Refused r)
-head_due (Opened v d n c r) = (0, 0, 0, 0)
+head_due (Err r) = four_of (Refused r)
+head_due (Ok o) = (0, 0, 0, 0)
 
 -- what is amiss with the bytes from the line of event n on, where those of xs ask, at the table u: the line of none that may stand is there, "wrong" or
 -- "missing", or bytes are, though nothing asks, "surplus". The four numbers are those of what was due: what our rules come to at u

@@ -1,5 +1,5 @@
 -- What the functions of crates/ties and crates/hears tell each other.
-use Rattle.std.specs.Prelude.{ℕ, ◌≤◌, ◌<◌, ◌≡◌, Bool, true, List, eqb, length, if◌then◌else◌}
+use Rattle.std.specs.Prelude.{ℕ, ◌≤◌, ◌≡◌, Bool, true, List, eqb, length, if◌then◌else◌, Option, Some, None}
 use Rattle.rules.specs.Numbers.{ceiling}
 use Rattle.rules.specs.Tables.{Table}
 use Rattle.rules.specs.Choice.{Result}
@@ -11,19 +11,19 @@ use Rattle.rules.specs.declared.Answer.{Answer}
 use Rattle.rules.specs.declared.Answer.TheVariants.{Sent}
 use Rattle.table.specs.Columns.{RTAG, STAG}
 use Rattle.table.specs.View.{table_of, Known}
-use Rattle.walks.specs.declared.Found.TheVariants.{At, Nothing as NoPlace}
 use Rattle.lines.specs.Line.{line_of}
 use Rattle.judge.specs.Judging.{Heard, follows, wrong, tag_in, named, place_from, leads, heard_in}
 use Rattle.judge.specs.declared.Said.{Said}
+use Rattle.judge.specs.declared.Told.{Told}
 
 -- A LINE
 
--- how many bytes a line has where a test of it holds; else 0
-abbrev pub size_if : Bool → List ℕ → ℕ
-size_if b xs = if b then length xs else 0
+-- how many bytes a line has, where a test of it holds
+abbrev pub size_if : Bool → List ℕ → Option ℕ
+size_if b xs = if b then Some (length xs) else None
 
 -- what was heard, of its parts
-abbrev pub said_of : Gate → Answer → (long : ℕ) → Said
+abbrev pub said_of : Gate → Answer → (long : Option ℕ) → Said
 said_of g a long = record { gate = g; answer = a; long = long }
 
 -- A PHASE
@@ -47,18 +47,20 @@ Timely Weight tag g = Unit {0}
 abbrev pub Lending : Gate → (gs ws : List ℕ) → Type 0
 Lending g gs ws = (fs : List ℕ) × Known g gs ws fs
 
--- of the requests that tie with the one at `place`, the lines begin with the line of the one at `there`, which is so long; or with none
-pub record Tells (n : ℕ) (ls : List ℕ) (p : Phase) (t : Table) (place there long : ℕ) : Type 0 where
-  pub none : long ≡ 0 → place_from (named n ls p t (tag_in p (at t.waiting place))) 0 t.waiting ≡ NoPlace
-  pub one : 0 < long → place_from (named n ls p t (tag_in p (at t.waiting place))) 0 t.waiting ≡ At there
-  pub size : 0 < long → long ≡ length (line_of n (Sent p (at t.waiting there).guest (at t.waiting there).id))
+-- of the requests that tie with the one at `place`, this one is the first whose line the lines begin with, and its line is so long
+pub record Names (n : ℕ) (ls : List ℕ) (p : Phase) (t : Table) (place : ℕ) (r : Told) : Type 0 where
+  pub one : place_from (named n ls p t (tag_in p (at t.waiting place))) 0 t.waiting ≡ Some r.place
+  pub size : r.long ≡ length (line_of n (Sent p (at t.waiting r.place).guest (at t.waiting r.place).id))
 
--- the lines say that the one at `there` goes, which is the first waiting of its guest and whose line is so long; or they are wrong
-pub record Finds (n : ℕ) (ls : List ℕ) (p : Phase) (t : Table) (place there long : ℕ) : Type 0 where
-  pub none : long ≡ 0 → heard_in n ls p t (tag_in p (at t.waiting place)) ≡ wrong
-  pub one : 0 < long → place_from (named n ls p t (tag_in p (at t.waiting place))) 0 t.waiting ≡ At there
-  pub first : 0 < long → leads t.waiting there ≡ true
-  pub size : 0 < long → long ≡ length (line_of n (Sent p (at t.waiting there).guest (at t.waiting there).id))
+-- what is told: that one, or that the lines begin with the line of none
+abbrev pub Tells : (n : ℕ) (ls : List ℕ) → Phase → Table → (place : ℕ) → Option Told → Type 0
+Tells n ls p t place (Some r) = Names n ls p t place r
+Tells n ls p t place None = place_from (named n ls p t (tag_in p (at t.waiting place))) 0 t.waiting ≡ None
+
+-- the lines say that this one goes, which is the first waiting of its guest; or they are wrong
+abbrev pub Finds : (n : ℕ) (ls : List ℕ) → Phase → Table → (place : ℕ) → Option Told → Type 0
+Finds n ls p t place (Some r) = Names n ls p t place r × (leads t.waiting r.place ≡ true)
+Finds n ls p t place None = heard_in n ls p t (tag_in p (at t.waiting place)) ≡ wrong
 
 -- WHAT IS LEFT
 
@@ -77,5 +79,5 @@ pub record Followed (h : Heard) (n : ℕ) (g : Gate) (long : ℕ) (gs ws fs : Li
 -- what was heard, where a was due, and the lent numbers became gs, ws and fs
 pub record Hears (h : Heard) (a : Answer) (n : ℕ) (r : Said) (gs ws fs : List ℕ) : Type 0 where
   pub due : r.answer ≡ a
-  pub errs : r.long ≡ 0 → h ≡ wrong
-  pub goes : 0 < r.long → Followed h n r.gate r.long gs ws fs
+  pub errs : r.long ≡ None → h ≡ wrong
+  pub goes : (long : ℕ) → r.long ≡ Some long → Followed h n r.gate long gs ws fs

@@ -1,7 +1,7 @@
 -- Document 02, K10, as a definition that computes: what the judge answers to a trace and to another gate's lines. No line is taken apart: the lines either begin
 -- with the printed line of something that may stand, or they are wrong. A printed line ends with byte 10 and has no other, so no other line begins with it.
 -- That this is what Acceptable.antt says in plain facts, proofs/Exactly.antt shows.
-use Rattle.std.specs.Prelude.{ℕ, ◌+◌, Bool, not, ◌&&◌, List, [], ◌∷◌, eqb, length, take, drop, if◌then◌else◌}
+use Rattle.std.specs.Prelude.{ℕ, ◌+◌, Bool, not, ◌&&◌, List, [], ◌∷◌, eqb, length, take, drop, if◌then◌else◌, Some, None, Option}
 use Rattle.lists.specs.Words.{below}
 use Rattle.rules.specs.Tables.{Request, Table, of}
 use Rattle.rules.specs.Choice.{Result, Pick, nobody, picked, least, due, open?, room}
@@ -13,13 +13,10 @@ use Rattle.rules.specs.declared.Phase.{Phase}
 use Rattle.rules.specs.declared.Phase.TheVariants.{Reservation, Weight}
 use Rattle.rules.specs.declared.Refusal.TheVariants.{BadEvent, EventCut}
 use Rattle.rules.specs.declared.Answer.TheVariants.{Sent}
-use Rattle.walks.specs.declared.Found.{Found}
-use Rattle.walks.specs.declared.Found.TheVariants.{At, Nothing as NoPlace}
 use Rattle.gate.specs.Replies.{Four, four_of}
 use Rattle.lines.specs.Line.{line_of}
 use Rattle.trace.specs.Header.{same, header_of}
 use Rattle.trace.specs.Answers.{opening}
-use Rattle.trace.specs.declared.Read.TheVariants.{Good, Bad}
 use Rattle.judge.specs.Acceptable.{Asked, entire, cut_off, refusing, ours, asked, head_line, none_due, head_due}
 use Rattle.judge.specs.declared.Judged.{Judged}
 
@@ -64,18 +61,18 @@ abbrev pub named : (n : ℕ) (ls : List ℕ) → Phase → Table → (m : ℕ) �
 named n ls p t m q = ties p t m q && begins (line_of n (Sent p q.guest q.id)) ls
 
 -- the first place from i on of which f tells
-abbrev pub place_from : (Request → Bool) → (i : ℕ) → List Request → Found
-place_from f i [] = NoPlace
-place_from f i (q ∷ w) = if f q then At i else place_from f (i + 1) w
+abbrev pub place_from : (Request → Bool) → (i : ℕ) → List Request → Option ℕ
+place_from f i [] = None
+place_from f i (q ∷ w) = if f q then Some i else place_from f (i + 1) w
 
 -- no request before place i is of the guest of the one there: it is, by K10, "the first waiting of its guest"
 unfoldable pub leads : List Request → (i : ℕ) → Bool
 leads w i = below i (λ j. not (of (at w i).guest (at w j)))
 
 -- the request at the place that was found is sent, where it is the first waiting of its guest: since K14 reservation tags of one guest may tie
-abbrev pub sent_in : Phase → Table → Found → Heard
-sent_in p t (At i) = if leads t.waiting i then follows (sent_at p t i) else wrong
-sent_in p t NoPlace = wrong
+abbrev pub sent_in : Phase → Table → Option ℕ → Heard
+sent_in p t (Some i) = if leads t.waiting i then follows (sent_at p t i) else wrong
+sent_in p t None = wrong
 
 -- a phase that picks a request with tag m: any other that ties with it may go as well
 unfoldable pub heard_in : (n : ℕ) (ls : List ℕ) → Phase → Table → (m : ℕ) → Heard
@@ -106,8 +103,8 @@ heard_by n ls (refuse why) t e = told n ls (refusing t why)
 
 -- what the lines say to what asks for the line of event n at the table t
 unfoldable pub heard : (n : ℕ) (ls : List ℕ) → Table → Asked → Heard
-heard n ls t (entire (Good e)) = heard_by n ls (verdict t e) t e
-heard n ls t (entire Bad) = told n ls (refusing t BadEvent)
+heard n ls t (entire (Some e)) = heard_by n ls (verdict t e) t e
+heard n ls t (entire None) = told n ls (refusing t BadEvent)
 heard n ls t cut_off = told n ls (refusing t EventCut)
 
 -- THE LINES

@@ -16,10 +16,17 @@ pub struct Judged {
     pub refusal: u64,
 }
 
-// What was heard: the gate as the other one left it, the answer that our rules have there, and how many bytes the line has; 0 where it is wrong.
+// What was heard: the gate as the other one left it, the answer that our rules have there, and how many bytes the line has, where it is right.
 #[derive(Clone, Copy)]
 pub struct Said {
     pub gate: Gate,
     pub answer: Answer,
+    pub long: Option<usize>,
+}
+
+// The place of the request whose line was heard, and how many bytes its line has.
+#[derive(Clone, Copy)]
+pub struct Told {
+    pub place: usize,
     pub long: usize,
 }

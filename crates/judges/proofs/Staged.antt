@@ -1,6 +1,7 @@
 -- The lines of a trace, judged on a table that stands in a window: what the loop of `judge_beside` keeps, turn by turn. Assumes nothing.
 use Prim.Native.Nat.{ℕ, ◌+◌, ◌*◌, ◌≤◌, ◌<◌}
-use mathlib.Core.Path.{◌≡◌, sym, ap, ◌∙◌, subst}
+use Rattle.std.specs.Prelude.{Option, Some, None, IsSome}
+use mathlib.Core.Path.{◌≡◌, refl, sym, ap, ◌∙◌, subst}
 use mathlib.Core.List.{List}
 use lib.ListN.{length, drop}
 use Rattle.rules.specs.declared.Setup.{Setup}
@@ -37,26 +38,29 @@ module _ (v : ℕ) (g₀ : Gate) (gs₀ ws₀ fs₀ bs ls : List ℕ) (size : �
       (s : Stage v g₀ gs₀ ws₀ fs₀ bs ls size start window i g gs fs at ix) (start' : ℕ) (window' hs es ix' : List ℕ) (r : Said)
       (o : (vs : List ℕ) × Window size start' window' vs
       × Hears (heard (i + 1) (part at ls) (table_of g gs s.table fs) (entire (event_of v (drop (i * 14) bs)))) (answered (table_of g gs s.table fs) (event_of v (drop (i * 14) bs))).answer (i + 1) r hs (stands ix r.answer vs) es
-      × (0 < r.long → Beside (stands ix r.answer vs) ix' r.gate.waiting)) where
+      × (IsSome r.long → Beside (stands ix r.answer vs) ix' r.gate.waiting)) where
     abbrev vs : List ℕ
     vs = stands ix r.answer o.0
 
     -- its line is wrong
-    pub stage_wrong : r.long ≡ 0 → (j : Judged) → j ≡ wrong_at (i + 2) (four_of r.answer) → j ≡ judged_from 0 (table_of g₀ gs₀ ws₀ fs₀) (asked_from v bs) ls
+    pub stage_wrong : r.long ≡ None → (j : Judged) → j ≡ wrong_at (i + 2) (four_of r.answer) → j ≡ judged_from 0 (table_of g₀ gs₀ ws₀ fs₀) (asked_from v bs) ls
     stage_wrong = reached_wrong v g₀ gs₀ ws₀ fs₀ bs ls i h g gs s.table fs at s.holds r hs vs es o.2
 
     -- or one more stands
-    module _ (some : 0 < r.long) where
-      pub stage_fits : at + r.long ≤ length ls
-      stage_fits = reached_fits v g₀ gs₀ ws₀ fs₀ bs ls i h g gs s.table fs at s.holds r hs vs es o.2 some
+    module _ (long : ℕ) (is : r.long ≡ Some long) where
+      some : IsSome r.long
+      some = subst (λ (x : Option ℕ). IsSome x) (sym is) refl
+
+      pub stage_fits : at + long ≤ length ls
+      stage_fits = reached_fits v g₀ gs₀ ws₀ fs₀ bs ls i h g gs s.table fs at s.holds r hs vs es o.2 long is
 
       pub stage_next : (gone : ℕ) → gone ≤ 1 → ((us : List ℕ) → stands ix' r.answer us ≡ shifted gone us) → length ix' ≡ length ix → (start' + 1) * waiting_wide + size ≤ length window'
-          → Stage v g₀ gs₀ ws₀ fs₀ bs ls size (start' + gone) window' (i + 1) r.gate hs es (at + r.long) ix'
+          → Stage v g₀ gs₀ ws₀ fs₀ bs ls size (start' + gone) window' (i + 1) r.gate hs es (at + long) ix'
       stage_next gone few moved same room =
           let e : vs ≡ shifted gone o.0 = sym (stands-kept ix ix' o.0 r.answer same) ∙ moved o.0 in
           let h' = subst (λ (us : List ℕ). Hears (heard (i + 1) (part at ls) (table_of g gs s.table fs) (entire (event_of v (drop (i * 14) bs)))) (answered (table_of g gs s.table fs) (event_of v (drop (i * 14) bs))).answer (i + 1) r hs us es) e o.2 in
-          staged_next s start' gone window' ix' o.0 r.gate (λ ws. Reached v g₀ gs₀ ws₀ fs₀ bs ls (whole bs) (i + 1) r.gate hs ws es (at + r.long)) o.1
+          staged_next s start' gone window' ix' o.0 r.gate (λ ws. Reached v g₀ gs₀ ws₀ fs₀ bs ls (whole bs) (i + 1) r.gate hs ws es (at + long)) o.1
           (subst (λ (us : List ℕ). Beside us ix' r.gate.waiting) e (o.3 some))
-          (reached_next v g₀ gs₀ ws₀ fs₀ bs ls i h g gs s.table fs at s.holds r hs (shifted gone o.0) es h' some)
-          (ap Setup.capacity (reached_setup v g₀ gs₀ ws₀ fs₀ bs ls i h g gs s.table fs at s.holds r hs vs es o.2 some))
+          (reached_next v g₀ gs₀ ws₀ fs₀ bs ls i h g gs s.table fs at s.holds r hs (shifted gone o.0) es h' long is)
+          (ap Setup.capacity (reached_setup v g₀ gs₀ ws₀ fs₀ bs ls i h g gs s.table fs at s.holds r hs vs es o.2 long is))
           few (λ _. room) same

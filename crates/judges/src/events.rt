@@ -3,9 +3,9 @@ ghost use Rattle.std.specs.Prelude.{◌≡◌, List, ℕ, ◌+◌, ◌*◌, ◌�
 ghost use Rattle.rules.specs.Tables.{Table};
 ghost use Rattle.table.specs.Columns.{waiting_wide};
 ghost use Rattle.table.specs.View.{table_of, Known};
+ghost use Rattle.tables.specs.Tables.{table_in, AreKnown};
 ghost use Rattle.index.specs.Index.{Beside, Snug};
 ghost use Rattle.windows.specs.Window.{spare, Window};
-ghost use Rattle.lines.specs.Line.{LINE};
 ghost use Rattle.judge.specs.Acceptable.{cut_asked, asked_from};
 ghost use Rattle.judge.specs.Judging.{judged_from};
 
@@ -13,24 +13,25 @@ use crate::{ended, wrong_at};
 use hears::hear_in;
 use index::INDEX_WIDE;
 use judge::Judged;
+use lines::LINE_LONG;
 use rules::{Answer, Gate, Refusal};
 use table::columns::WAITING_WIDE;
+use tables::Tables;
 use ties::saying::says;
 use windows::WINDOW_LONG;
 
 // What is left behind the whole events, of which there are so many: the line of one that is cut short, and nothing more.
-fn judge_rest(rest: &[u8], number: u64, said: &[u8], text: &mut [u8]) -> Judged
-    requires { (number + 3 < 2 ^ 64) × (LINE ≤ length text.old) }
+fn judge_rest(rest: &[u8], number: u64, said: &[u8], text: &mut [u8; LINE_LONG]) -> Judged
+    requires { number + 3 < 2 ^ 64 }
     ensures { (t : Table) → result ≡ judged_from number t (cut_asked rest.now) said.now }
 {
-    if rest.len() == 0 {
+    if rest.is_empty() {
         return ended(number + 2, said);
     }
     let answer = Answer::Refused(Refusal::EventCut);
-    let long = says(text, number + 1, answer, said);
-    if long == 0 {
+    let Some(long) = says(text, number + 1, answer, said) else {
         return wrong_at(number + 2, answer);
-    }
+    };
     ended(number + 3, &said[long..])
 }
 
@@ -44,10 +45,9 @@ fn judge_beside(
     size: usize,
     flight: &mut [u64],
     said: &[u8],
-    text: &mut [u8],
+    text: &mut [u8; LINE_LONG],
     index: &mut [u16],
 ) -> Judged
-    requires in_bounds { LINE ≤ length text.old }
     requires size_in_bounds { spare * waiting_wide + size ≤ length window.old }
     requires by_index { (ws : List ℕ) × Window size 0 window.old ws × Known first guests.old ws flight.old × Beside ws index.old first.waiting × Snug first ws index.old }
     ensures { (ws : List ℕ) → Window size 0 window.old ws → result ≡ judged_from 0 (table_of first guests.old ws flight.old) (asked_from version bytes.now) said.now }
@@ -56,8 +56,7 @@ fn judge_beside(
     let mut gate = first;
     let mut start: usize = 0;
     let mut at: usize = 0;
-    let mut i: usize = 0;
-    while i < n {
+    for i in 0..n {
         start = windows::settle(window, start, size);
         let heard = hear_in(
             version,
@@ -74,15 +73,12 @@ fn judge_beside(
             text,
             index,
         );
-        let answer = heard.answer;
-        let long = heard.long;
-        if long == 0 {
-            return wrong_at(i as u64 + 2, answer);
-        }
+        let Some(long) = heard.long else {
+            return wrong_at(i as u64 + 2, heard.answer);
+        };
         gate = heard.gate;
         at += long;
-        start += index::gone_on(answer, &index[..]);
-        i += 1;
+        start += index::gone_on(heard.answer, &index[..]);
     }
     judge_rest(&bytes[n * 14..], n as u64, &said[at..], text)
 }
@@ -92,30 +88,26 @@ fn judge_beside(
 pub fn judge_events(
     version: u64,
     bytes: &[u8],
-    first: Gate,
-    guests: &mut [u64],
-    waiting: &mut [u64],
-    flight: &mut [u64],
+    tables: &mut Tables,
     said: &[u8],
-    text: &mut [u8],
+    text: &mut [u8; LINE_LONG],
 ) -> Judged
-    requires known { Known first guests.old waiting.old flight.old }
-    requires in_bounds { LINE ≤ length text.old }
-    ensures { result ≡ judged_from 0 (table_of first guests.old waiting.old flight.old) (asked_from version bytes.now) said.now }
+    requires { AreKnown tables.old }
+    ensures { result ≡ judged_from 0 (table_in tables.old) (asked_from version bytes.now) said.now }
 {
-    let size = first.setup.capacity as usize * WAITING_WIDE;
-    let rows = first.waiting as usize;
+    let size = tables.gate.setup.capacity as usize * WAITING_WIDE;
+    let rows = tables.gate.waiting as usize;
     let mut window = [0u64; WINDOW_LONG];
     let mut index = [0u16; INDEX_WIDE];
-    windows::open(&waiting[..], size, rows, &mut window, &mut index);
+    windows::open(&tables.waiting, size, rows, &mut window, &mut index);
     judge_beside(
         version,
         bytes,
-        first,
-        guests,
+        tables.gate,
+        &mut tables.guests,
         &mut window,
         size,
-        flight,
+        &mut tables.flight,
         said,
         text,
         &mut index,

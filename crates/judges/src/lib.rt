@@ -2,23 +2,20 @@
 // Nothing is kept of either; the tables are of the gate's own size, and follow the other gate's choices.
 #![tactic(auto)]
 
-ghost use Rattle.std.specs.Prelude.{◌≡◌, ◌≤◌, length};
+ghost use Rattle.std.specs.Prelude.{◌≡◌, Ok, Err};
 ghost use Rattle.gate.specs.Replies.{four_of};
-ghost use Rattle.lines.specs.Line.{LINE};
 ghost use Rattle.trace.specs.Header.{header_of};
-ghost use Rattle.trace.specs.declared.Header.TheVariants.{Opened, Refused as Unopened};
-ghost use Rattle.begin.specs.Begin.{Largest};
 ghost use Rattle.judge.specs.Judging.{wrong_at, ended as ended_at, judged_of};
 
 use begin::open_tables;
 use fields::body;
 use headers::read_header;
 use judge::Judged;
+use lines::LINE_LONG;
 use replies::five_of;
-use rules::{Answer, Refusal, Wake};
-use table::columns::{FLIGHT_LONG, GUESTS_LONG, SETTINGS_LONG, WAITING_LONG};
-use ties::saying::begins;
-use trace::Header;
+use rules::{Answer, Refusal};
+use tables::Tables;
+use trace::Opened;
 
 mod events; // all events of a trace
 
@@ -26,7 +23,7 @@ mod events; // all events of a trace
 fn wrong_at(line: u64, answer: Answer) -> Judged
     ensures { result ≡ wrong_at line (four_of answer) }
 {
-    let due = five_of(answer, Wake::Never);
+    let due = five_of(answer, None);
     Judged {
         line,
         kind: due.kind,
@@ -40,7 +37,7 @@ fn wrong_at(line: u64, answer: Answer) -> Judged
 fn ended(line: u64, said: &[u8]) -> Judged
     ensures { result ≡ ended_at line said.now }
 {
-    if said.len() == 0 {
+    if said.is_empty() {
         return Judged {
             line: 0,
             kind: 0,
@@ -59,39 +56,29 @@ fn ended(line: u64, said: &[u8]) -> Judged
 }
 
 // A bad header has its one line, and nothing more.
-fn judge_refused(trace: &[u8], why: Refusal, said: &[u8], text: &mut [u8]) -> Judged
-    requires in_bounds { LINE ≤ length text.old }
-    requires trace_value { header_of trace.now ≡ Unopened why }
+fn judge_refused(trace: &[u8], why: Refusal, said: &[u8], text: &mut [u8; LINE_LONG]) -> Judged
+    requires { header_of trace.now ≡ Err why }
     ensures { result ≡ judged_of trace.now said.now }
 {
     let end = lines::put_refusal(text, 0, why);
-    if !begins(&text[..end], said) {
+    let Some(rest) = said.strip_prefix(&text[..end]) else {
         return wrong_at(1, Answer::Refused(why));
-    }
-    ended(2, &said[end..])
+    };
+    ended(2, rest)
 }
 
 // A good header has the header line; the tables are opened, and the events follow.
 fn judge_opened(
     trace: &[u8],
-    version: u64,
-    depth: u64,
-    known: u64,
-    capacity: u64,
-    rule: u64,
+    opened: Opened,
     said: &[u8],
-    settings: &mut [u64],
-    guests: &mut [u64],
-    waiting: &mut [u64],
-    flight: &mut [u64],
-    text: &mut [u8],
+    tables: &mut Tables,
+    text: &mut [u8; LINE_LONG],
 ) -> Judged
-    requires in_bounds { LINE ≤ length text.old }
-    requires trace_value { header_of trace.now ≡ Opened version depth known capacity rule }
-    requires largest { Largest settings.old guests.old waiting.old flight.old }
+    requires { header_of trace.now ≡ Ok opened }
     ensures { result ≡ judged_of trace.now said.now }
 {
-    if !begins(b"event answer\n", said) {
+    let Some(rest) = said.strip_prefix(b"event answer\n") else {
         return Judged {
             line: 1,
             kind: 0,
@@ -99,50 +86,19 @@ fn judge_opened(
             id: 0,
             refusal: 0,
         };
-    }
-    let gate = open_tables(
-        trace, version, depth, known, capacity, rule, settings, guests, waiting, flight,
-    );
-    let at = body(version, known as usize);
-    events::judge_events(
-        version,
-        &trace[at..],
-        gate,
-        guests,
-        waiting,
-        flight,
-        &said[13..],
-        text,
-    )
+    };
+    open_tables(trace, opened, tables);
+    let at = body(opened.version, opened.guests as usize);
+    events::judge_events(opened.version, &trace[at..], tables, rest, text)
 }
 
-// Judges the lines on lent tables.
-fn judge_on(
-    trace: &[u8],
-    said: &[u8],
-    settings: &mut [u64],
-    guests: &mut [u64],
-    waiting: &mut [u64],
-    flight: &mut [u64],
-    text: &mut [u8],
-) -> Judged
-    requires in_bounds { LINE ≤ length text.old }
-    requires largest { Largest settings.old guests.old waiting.old flight.old }
+// Judges the lines by what the header is; the tables are opened anew.
+fn judge_on(trace: &[u8], said: &[u8], tables: &mut Tables, text: &mut [u8; LINE_LONG]) -> Judged
     ensures { result ≡ judged_of trace.now said.now }
 {
-    let header = read_header(trace);
-    match header {
-        Header::Refused(why) => judge_refused(trace, why, said, text),
-        Header::Opened {
-            version,
-            depth,
-            guests: known,
-            capacity,
-            rule,
-        } => judge_opened(
-            trace, version, depth, known, capacity, rule, said, settings, guests, waiting, flight,
-            text,
-        ),
+    match read_header(trace) {
+        Err(why) => judge_refused(trace, why, said, text),
+        Ok(opened) => judge_opened(trace, opened, said, tables, text),
     }
 }
 
@@ -150,18 +106,7 @@ fn judge_on(
 pub fn judge(trace: &[u8], lines: &[u8]) -> Judged
     ensures { result ≡ judged_of trace.now lines.now }
 {
-    let mut settings = [0u64; SETTINGS_LONG];
-    let mut guests = [0u64; GUESTS_LONG];
-    let mut waiting = [0u64; WAITING_LONG];
-    let mut flight = [0u64; FLIGHT_LONG];
-    let mut text = [0u8; 65];
-    judge_on(
-        trace,
-        lines,
-        &mut settings,
-        &mut guests,
-        &mut waiting,
-        &mut flight,
-        &mut text,
-    )
+    let mut tables = Tables::new();
+    let mut text = [0u8; LINE_LONG];
+    judge_on(trace, lines, &mut tables, &mut text)
 }

@@ -1,5 +1,6 @@
 // Answers to lines: the printed lines, written into a lent buffer. Each function that puts something writes it from place `at` on and
-// answers the place after it.
+// answers the place after it. Not Display and `write!`: their clauses say what was written where it is Ok, and none says that a buffer
+// with room makes it so, but put_line and put_refusal promise the whole line.
 #![tactic(auto)]
 
 ghost use Rattle.std.specs.Prelude.{◌≡◌, [], ◌∷◌, ◌+◌, ◌≤◌, ◌<◌, length};
@@ -7,10 +8,12 @@ ghost use Rattle.rules.specs.Answers.{number_of, letter_of};
 ghost use Rattle.lines.specs.Put.{Put};
 ghost use Rattle.lines.specs.Line.{decimal_of, spaced, answer_of, line_of, refusal_line, title_line, LINE};
 
-use refusals::number;
 use rules::{Answer, Phase, Refusal};
 
-// The letter that is printed for a phase.
+// The most bytes of a line, the length of a text that one is put into.
+pub const LINE_LONG: usize = 65;
+
+// The letter that is printed for a phase. No conversion of the type: into a number a phase goes by its order.
 fn letter(phase: Phase) -> u8
     ensures { result ≡ letter_of phase }
 {
@@ -25,12 +28,9 @@ pub fn put_all(out: &mut [u8], at: usize, src: &[u8]) -> usize
     requires { at + length src.now ≤ length out.old }
     ensures { Put at src.now out.old result out.new }
 {
-    let mut i: usize = 0;
-    while i < src.len() {
-        out[at + i] = src[i];
-        i += 1;
-    }
-    at + i
+    let end = at + src.len();
+    out[at..end].copy_from_slice(src);
+    end
 }
 
 // Puts one byte.
@@ -81,7 +81,7 @@ fn put_refused(out: &mut [u8], at: usize, refusal: Refusal) -> usize
     ensures upper_bound { result ≤ at + 22 }
 {
     let a = put(out, at, b'X');
-    put_value(out, a, number(refusal))
+    put_value(out, a, u64::from(refusal))
 }
 
 // Puts an answer.
@@ -116,7 +116,7 @@ pub fn put_refusal(out: &mut [u8], at: usize, refusal: Refusal) -> usize
     ensures upper_bound { result ≤ at + LINE }
 {
     let a = put_all(out, at, b"trace refused");
-    let b = put_value(out, a, number(refusal));
+    let b = put_value(out, a, u64::from(refusal));
     put(out, b, b'\n')
 }
 

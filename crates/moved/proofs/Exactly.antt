@@ -19,10 +19,9 @@ use Rattle.rules.proofs.Conditions.{less, negated, means}
 use Rattle.rules.proofs.Refused.{exactly, Numbers, number_tells}
 use Rattle.trace.specs.Little.{byte_at, four_at, eight_at}
 use Rattle.trace.specs.Header.{version_of, rule_of, settings_in}
-use Rattle.trace.specs.Event.{kind_in, upper_in, event_from, event_of, events_of, whole}
+use Rattle.trace.specs.Event.{kind_in, upper_in, event_from, event_of, events_of, whole, Read}
 use Rattle.trace.specs.Answers.{event_bytes, bytes_at}
 use Rattle.trace.specs.Cases.{Faulty}
-use Rattle.trace.specs.declared.Read.{Read}
 use Rattle.trace.proofs.HeaderExactly.{header_tested}
 use Rattle.trace.proofs.LineExactly.{faulty_is}
 use Rattle.moved.specs.Result.{moved_to}

@@ -1,7 +1,7 @@
 -- The first event of which a test tells: runs of events join, and where there is none, it tells of none of them. Assumes nothing.
 use Prim.Native.Nat.{ℕ, zero, suc, ◌+◌, ◌*◌, ◌-◌, ◌<◌}
 use mathlib.Core.Path.{◌≡◌, refl, sym, ap, ◌∙◌}
-use mathlib.Core.Bool.{Bool, true, false}
+use mathlib.Core.Bool.{Bool, true, false, false≢true, true≢false}
 use mathlib.Core.List.{List, [], ◌∷◌, ◌++◌}
 use native.Mathlib.Omega.{arith}
 use native.Mathlib.Nat.{add-zero}
@@ -10,10 +10,12 @@ use lib.ListN.{length, drop}
 use lib.Seq.{drop-drop}
 use borrow.Author.Tests.{lt-ltb}
 use Rattle.lists.specs.Words.{if◌then◌else◌}
-use Rattle.trace.specs.Event.{event_of, events_of}
-use Rattle.trace.specs.declared.Read.{Read}
+use Rattle.trace.specs.Event.{event_of, events_of, Read}
 use Rattle.trace.proofs.EventLaws.{events_add, events_snoc, length-events}
-use Rattle.moved.specs.Moves.{first_that, sooner}
+use Rattle.std.specs.Prelude.{Option, Some, None, MatchOption, is_some}
+use Rattle.std.specs.Option.{option_or}
+use Rattle.std.specs.declared.num.NonZeroU64.{NonZeroU64}
+use Rattle.moved.specs.Moves.{first_that, sooner, event_number}
 
 module _ (f : Read → Bool) where
   -- two runs
@@ -95,3 +97,29 @@ module _ (f : Read → Bool) where
 
   pub none_told : (v n : ℕ) (bs : List ℕ) → ((k : ℕ) → k < n → f (event_of v (drop (k * 14) bs)) ≡ false) → first_that f 0 (events_of v n bs) ≡ 0
   none_told = none-again 0
+
+-- THE NUMBER of an event
+
+-- of one that is made of a number
+pub made-number : (o : Option NonZeroU64) (n : ℕ) → MatchOption o (n ≡ 0) (λ k. k.value ≡ n) → event_number o ≡ n
+made-number None n h = sym h
+made-number (Some k) n h = h
+
+-- of the sooner of two
+pub sooner_or : (a b : Option NonZeroU64) → event_number (option_or a b) ≡ sooner (event_number a) true (event_number b)
+sooner_or None b = refl
+sooner_or (Some k) b = rw (lt-ltb 0 k.value k.ok) refl
+
+-- of the one that was found, where there is no other
+pub sooner_not : (n k : ℕ) → sooner n false k ≡ n
+sooner_not zero k = refl
+sooner_not (suc n) k = rw (lt-ltb 0 (suc n) (omega arith)) refl
+
+-- of one that there is, and of none
+pub some-number : (o : Option NonZeroU64) → is_some o ≡ true → 0 < event_number o
+some-number None e = absurd (false≢true e)
+some-number (Some k) e = k.ok
+
+pub none-number : (o : Option NonZeroU64) → is_some o ≡ false → event_number o ≡ 0
+none-number None e = refl
+none-number (Some k) e = absurd (true≢false e)

@@ -10,8 +10,7 @@ use lib.Seq.{get_or-drop}
 use native.Mathlib.Nat.{add-zero}
 use borrow.Author.Tests.{eq-eqb, ne_eqb, eqb-true, not-false}
 use Rattle.trace.specs.Little.{byte_at, four_at, eight_at}
-use Rattle.trace.specs.Event.{kind_in, upper_in, event_from, event_of, events_of, whole}
-use Rattle.trace.specs.declared.Read.{Read}
+use Rattle.trace.specs.Event.{kind_in, upper_in, event_from, event_of, events_of, whole, Read}
 use Rattle.trace.proofs.HeaderLaws.{by_version}
 use Rattle.moved.specs.Moves.{is_bad, is_dear, first_that}
 use Rattle.moved.specs.Judging.{Bare, AllBare}

@@ -1,7 +1,7 @@
 -- THE MOVES: there and back gives the same bytes; a well-formed trace of version 1 goes up; the printed decisions stay; each answer and room is one only, and
 -- room past the result is unchanged. Assumes nothing.
 use Prim.Native.Nat.{ℕ, ◌+◌, ◌*◌, ◌≤◌, ◌<◌}
-use mathlib.Core.Path.{◌≡◌, refl, sym, ap, ◌∙◌}
+use mathlib.Core.Path.{◌≡◌, refl, sym, ap, ◌∙◌, subst}
 use mathlib.Core.List.{List, [], ◌∷◌, ◌++◌}
 use native.Mathlib.Omega.{arith}
 use lib.ListN.{length, get_or, drop}
@@ -17,9 +17,10 @@ use Rattle.trace.specs.Printed.{answers_to, lines_from, printed}
 use Rattle.trace.specs.Answers.{opening, cut_answer, answers_of}
 use Rattle.trace.proofs.Answers.{printed-lines}
 use Rattle.moved.specs.Result.{moved_to}
-use Rattle.moved.specs.Moves.{move_tests, moved_shown, answer_by, room_by, moves}
-use Rattle.moved.specs.declared.Moved.{Moved}
-use Rattle.moved.specs.declared.Moved.TheVariants.{Written, Refused}
+use Rattle.moved.specs.Moves.{move_tests, Moved, event_number, moved_shown, answer_by, room_by, moves}
+use Rattle.std.specs.Prelude.{Option, Some, None, Ok, Err}
+use Rattle.std.specs.declared.num.NonZeroU64.{NonZeroU64}
+use Rattle.std.proofs.Math.Bridge.{le_prop}
 use Rattle.moved.proofs.Bytes.{rule_there, same-events}
 use Rattle.moved.proofs.Movable.{Movable, movable, roomy, header_good, accepts, settings-there, reads_there, moved_movable, moved_back}
 
@@ -77,12 +78,24 @@ back-printed bs room e = printed-there 2 1 bs (movable 2 1 bs room e) (omega ari
 at : ℕ → List ℕ → ℕ
 at n l = get_or l n 0
 
+-- an event is known by its number
+same_event : (j k : NonZeroU64) → j.value ≡ k.value → j ≡ k
+same_event j k e =
+    let P : ℕ → Type 0 = λ n. (p : 0 < n) → ◌≡◌ {A = NonZeroU64} j (record { value = n; ok = p }) in
+    subst P e (λ p. ap (λ (q : 0 < j.value). record { value = j.value; ok = q }) (le_prop j.ok p)) k.ok
+
+event_once : (a b : Option NonZeroU64) → event_number a ≡ event_number b → a ≡ b
+event_once None None e = refl
+event_once None (Some k) e = absurd (omega (arith, k.ok))
+event_once (Some j) None e = absurd (omega (arith, j.ok))
+event_once (Some j) (Some k) e = ap Some (same_event j k e)
+
 pub moved-shown_once : (a b : Moved) → moved_shown a ≡ moved_shown b → a ≡ b
 unfolding at
-moved-shown_once (Written n) (Written m) h = ap Written (ap (at 1) h)
-moved-shown_once (Written n) (Refused s k) h = absurd (number_of_some s (sym (ap (at 0) h)))
-moved-shown_once (Refused r j) (Written m) h = absurd (number_of_some r (ap (at 0) h))
-moved-shown_once (Refused r j) (Refused s k) h = λ i. Refused (number_of_once r s (ap (at 0) h) i) (ap (at 2) h i)
+moved-shown_once (Ok n) (Ok m) h = ap Ok (ap (at 1) h)
+moved-shown_once (Ok n) (Err s) h = absurd (number_of_some s.why (sym (ap (at 0) h)))
+moved-shown_once (Err r) (Ok m) h = absurd (number_of_some r.why (ap (at 0) h))
+moved-shown_once (Err r) (Err s) h = λ i. Err (record { why = number_of_once r.why s.why (ap (at 0) h) i; event = event_once r.event s.event (ap (at 2) h) i })
 
 pub once : (from to : ℕ) (bs room : List ℕ) (a b : Moved) (xs ys : List ℕ) → (moved_shown a, xs) ≡ moves from to bs room → (moved_shown b, ys) ≡ moves from to bs room
     → (a ≡ b) × (xs ≡ ys)

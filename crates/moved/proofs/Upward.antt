@@ -14,7 +14,7 @@ use Rattle.rules.specs.Refusals.{Verdict, accept, judged}
 use Rattle.rules.specs.Refused.{Case, NoneHolds}
 use Rattle.rules.proofs.Judged.{judged-none}
 use Rattle.trace.specs.Little.{byte_at}
-use Rattle.trace.specs.Header.{version_of, depth_of, guests_of, capacity_of, rule_in, rule_of, credit_at, settings_at, settings_in, header_tests_for, header_by}
+use Rattle.trace.specs.Header.{version_of, guests_of, rule_in, credit_at, settings_at, settings_in, header_tests_for, opened_of, header_by}
 use Rattle.trace.specs.Event.{upper_in}
 use Rattle.trace.specs.Answers.{bytes_at}
 use Rattle.trace.specs.Cases.{header_cases_for}
@@ -54,7 +54,7 @@ pub well_formed_goes-up : (bs : List ℕ) (room : ℕ) → WellFormed 1 bs → l
 unfolding body_cases
 well_formed_goes-up bs room w enough =
     let e : judged (header_tests_for 1 1 bs) ≡ accept = (judged-none (header_tested 1 1 bs)).1 w.header in
-    let o = opened_for 1 1 bs (version_of bs) (depth_of bs) (guests_of bs) (capacity_of bs) (rule_of bs) (ap (λ (v : Verdict). header_by v bs) e) in
+    let o = opened_for 1 1 bs (opened_of bs) (ap (λ (v : Verdict). header_by v bs) e) in
     let t = both _ _ o.taken in
     let one : version_of bs ≡ 1 = omega (arith, leb-true 1 (version_of bs) t.0, leb-true (version_of bs) 1 t.1) in
     (judged-none (move_tested bs 1 2 room)).1

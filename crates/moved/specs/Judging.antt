@@ -1,16 +1,18 @@
 -- What the functions within the crate tell each other.
-use Rattle.std.specs.Prelude.{ℕ, ◌+◌, ◌*◌, ◌≤◌, ◌<◌, ◌≡◌, List, length}
+use Rattle.std.specs.Prelude.{ℕ, ◌+◌, ◌*◌, ◌≤◌, ◌<◌, ◌≡◌, List, length, Option, Result, Ok, Err}
+use Rattle.std.specs.declared.num.NonZeroU64.{NonZeroU64}
+use Rattle.rules.specs.declared.Refusal.TheVariants.{BadEvent}
 use Rattle.trace.specs.Little.{byte_at}
 use Rattle.trace.specs.Header.{body, version_of, guests_of, rule_of}
-use Rattle.trace.specs.Event.{kind_in, whole}
+use Rattle.trace.specs.Event.{kind_in, whole, Read}
 use Rattle.trace.specs.Answers.{event_bytes}
-use Rattle.trace.specs.declared.Read.{Read}
-use Rattle.moved.specs.Moves.{is_bad, is_dear, first_that}
+use Rattle.moved.specs.Moves.{is_bad, is_dear, first_that, event_number}
+use Rattle.moved.specs.declared.Stopped.{Stopped}
 
--- the events were looked at: the first bad one, and where there is none, the first arrival of another cost
-pub record Surveyed (rs : List Read) (bad dear : ℕ) : Type 0 where
-  pub bad_is : bad ≡ first_that is_bad 0 rs
-  pub dear_is : bad ≡ 0 → dear ≡ first_that is_dear 0 rs
+-- the events were looked at: none is bad, and this is the first arrival of another cost; or the first bad one is refused
+abbrev pub Surveyed : List Read → Result (Option NonZeroU64) Stopped → Type 0
+Surveyed rs (Ok dear) = (first_that is_bad 0 rs ≡ 0) × (event_number dear ≡ first_that is_dear 0 rs)
+Surveyed rs (Err s) = (s.why ≡ BadEvent) × (0 < event_number s.event) × (event_number s.event ≡ first_that is_bad 0 rs)
 
 -- what a good header says
 pub record Headed (version guests rule : ℕ) (bs : List ℕ) : Type 0 where

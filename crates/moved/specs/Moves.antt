@@ -1,8 +1,10 @@
 -- Document 02, K9, the moves: "Both moves take a lent trace and lent room for the result, work on well-formed traces only, and write nothing when refused;
 -- room past the result is unchanged. Refusals: header faults, a trace of the wrong version being 12, then the first event with 14 or 15; 19, a version 2
 -- trace that has another rule, credit or cost cannot go back; 21, room too short, last". Words in quotes are K9's.
-use Rattle.std.specs.Prelude.{ℕ, ◌+◌, ◌%◌, Bool, true, false, not, ◌&&◌, List, [], ◌∷◌, ◌++◌, eqb, ltb, length, if◌then◌else◌}
+use Rattle.std.specs.Prelude.{ℕ, zero, suc, ◌+◌, ◌%◌, Bool, true, false, not, ◌&&◌, List, [], ◌∷◌, ◌++◌, eqb, ltb, length, if◌then◌else◌, Option, Some, None, Result, Ok, Err}
+use Rattle.std.specs.declared.num.NonZeroU64.{NonZeroU64}
 use Rattle.std.proofs.lemmas.List.Edits.{sets}
+use Rattle.std.proofs.Math.Nat.{zero-lt-suc}
 use Rattle.lists.specs.Words.{all}
 use Rattle.rules.specs.Answers.{number_of}
 use Rattle.rules.specs.declared.Settings.{Settings}
@@ -11,13 +13,10 @@ use Rattle.rules.specs.declared.Refusal.{Refusal}
 use Rattle.rules.specs.declared.Refusal.TheVariants.{BadEvent, EventCut, NoWayBack, RoomShort}
 use Rattle.rules.specs.Refusals.{Test, Verdict, accept, refuse, judged}
 use Rattle.trace.specs.Header.{version_of, rule_of, settings_in, header_tests_for}
-use Rattle.trace.specs.Event.{whole}
+use Rattle.trace.specs.Event.{whole, Read}
 use Rattle.trace.specs.Answers.{by_event, event_bytes, reads_of}
-use Rattle.trace.specs.declared.Read.{Read}
-use Rattle.trace.specs.declared.Read.TheVariants.{Good, Bad}
 use Rattle.moved.specs.Result.{moved_to}
-use Rattle.moved.specs.declared.Moved.{Moved}
-use Rattle.moved.specs.declared.Moved.TheVariants.{Written, Refused}
+use Rattle.moved.specs.declared.Stopped.{Stopped}
 
 -- THE EVENTS
 
@@ -27,10 +26,10 @@ is_bad = by_event true (λ e. false)
 
 -- an arrival of another cost than 1, which version 1 cannot say
 abbrev pub is_dear : Read → Bool
-is_dear (Good (Arrival a t)) = not (eqb a.cost 1)
-is_dear (Good (Completion f t)) = false
-is_dear (Good (Tick t)) = false
-is_dear Bad = false
+is_dear (Some (Arrival a t)) = not (eqb a.cost 1)
+is_dear (Some (Completion f t)) = false
+is_dear (Some (Tick t)) = false
+is_dear None = false
 
 -- the number of the first event of which f tells, where n events stand before; 0 where there is none
 unfoldable pub first_that : (Read → Bool) → (n : ℕ) → List Read → ℕ
@@ -96,23 +95,37 @@ event_in bs r =
 
 -- THE MOVE
 
+-- the answer of a move: how many bytes are written, or why it is refused
+abbrev pub Moved : Type 0
+Moved = Result ℕ Stopped
+
+-- the number of an event, 0 of none
+abbrev pub event_number : Option NonZeroU64 → ℕ
+event_number None = 0
+event_number (Some k) = k.value
+
+-- and the event of a number, none of 0
+abbrev pub event_at : ℕ → Option NonZeroU64
+event_at zero = None
+event_at (suc n) = Some (record { value = suc n; ok = zero-lt-suc n })
+
 -- the paper's number and values of an answer: its refusal or 0, the bytes written, 0 when refused, and the number of the event that refused it
 abbrev pub moved_shown : Moved → List ℕ
-moved_shown (Written n) = 0 ∷ n ∷ 0 ∷ []
-moved_shown (Refused r k) = number_of r ∷ 0 ∷ k ∷ []
+moved_shown (Ok n) = 0 ∷ n ∷ 0 ∷ []
+moved_shown (Err s) = number_of s.why ∷ 0 ∷ event_number s.event ∷ []
 
--- a refusal, and the number of the event that gave it
-abbrev pub refused_by : Refusal → ℕ → Moved
-refused_by r k = Refused r k
+-- a refusal that no event gave
+abbrev pub refused_by : Refusal → Stopped
+refused_by r = record { why = r; event = None }
 
 -- the last test, by the bytes that the header and the events of the result need
 abbrev pub room_for : (head events room : ℕ) → Moved
-room_for head events room = if ltb room (head + events) then Refused RoomShort 0 else Written (head + events)
+room_for head events room = if ltb room (head + events) then Err (refused_by RoomShort) else Ok (head + events)
 
 -- the answer by a verdict
 abbrev pub answer_by : Verdict → (to : ℕ) → List ℕ → Moved
-answer_by accept to bs = Written (length (moved_to to bs))
-answer_by (refuse r) to bs = Refused r (event_in bs r)
+answer_by accept to bs = Ok (length (moved_to to bs))
+answer_by (refuse r) to bs = Err (record { why = r; event = event_at (event_in bs r) })
 
 -- the room by a verdict: "write nothing when refused; room past the result is unchanged"
 abbrev pub room_by : Verdict → (to : ℕ) → (bs room : List ℕ) → List ℕ

@@ -52,10 +52,8 @@ fn put_records(
     ensures { Put first (records_to to version trace.now 0 guests) room.old result room.new }
 {
     let mut at = first;
-    let mut k: usize = 0;
-    while k < guests {
+    for k in 0..guests {
         at = put_record(trace, body(version, k), to, room, at);
-        k += 1;
     }
     at
 }
@@ -86,12 +84,9 @@ fn put_events(bytes: &[u8], version: u64, to: u64, room: &mut [u8], first: usize
     requires { (first + length bytes.now ≤ length room.old) × AllBare version bytes.now }
     ensures { room.new ≡ sets room.old first bytes.now }
 {
-    let n = bytes.len() / 14;
     let mut at = first;
-    let mut i: usize = 0;
-    while i < n {
+    for i in 0..bytes.len() / 14 {
         at = put_event(bytes, i * 14, version, to, room, at);
-        i += 1;
     }
 }
 

@@ -1,52 +1,25 @@
-// The thin functions over a lent slice of guest records. Only `read` and `write` touch the slice, one record each; a record's numbers
+// The thin functions over a lent slice of guest records, which only `unpack` reads and only `pack` writes; a record's numbers
 // stand in a lent list of numbers, a row for each record. Functions for this repository's own crates.
 #![tactic(auto)]
 
-ghost use Rattle.std.specs.Prelude.{◌≡◌, ◌++◌, ◌+◌, ◌*◌, ◌≤◌, ◌<◌, min, length, get_or, set, take, drop};
+ghost use Rattle.std.specs.Prelude.{◌≡◌, ◌++◌, ◌+◌, ◌*◌, ◌≤◌, ◌<◌, min, length, get_or, take, drop};
 ghost use Rattle.lists.specs.Stores.{stores};
 ghost use Rattle.lists.specs.Lines.{line_at};
 ghost use Rattle.lists.specs.Rows.{rows_of, over_rows};
 ghost use Rattle.table.specs.Columns.{guest_wide};
 ghost use Rattle.table.specs.View.{guest_form};
-ghost use Rattle.packs.specs.Records.{blank, in_use};
+ghost use Rattle.packs.specs.Records.{in_use};
 
 use rules::{Guest, Settings};
 use table::columns::{
     CREDIT, GUEST_WIDE, LIMIT, LNEXT, MOST_GUESTS, RESERVATION, RNEXT, SHARES, SNEXT,
 };
 
-// The smaller of two numbers.
-pub fn least(a: usize, b: usize) -> usize
-    ensures { result ≡ min a b }
-{
-    if a < b {
-        return a;
-    }
-    b
-}
-
 // How many of the lent records a call looks at: no more than the settings ask for, than are lent, and than there may be guests.
 pub fn used(wanted: u64, lent: usize) -> usize
     ensures { result ≡ in_use wanted lent }
 {
-    let whole = wanted as usize;
-    least(whole, least(lent, MOST_GUESTS))
-}
-
-// The record at place `at` of the lent slice.
-pub fn read(guests: &[Guest], at: usize) -> Guest
-    requires { at < length guests.now }
-    ensures { result ≡ get_or guests.now at blank }
-{
-    guests[at]
-}
-
-// The record at place `at` of the lent slice becomes `guest`.
-pub fn write(guests: &mut [Guest], at: usize, guest: Guest)
-    requires { at < length guests.old }
-    ensures { guests.new ≡ set guests.old at guest }
-{
-    guests[at] = guest;
+    (wanted as usize).min(lent.min(MOST_GUESTS))
 }
 
 // Writes a record into its row of numbers.
@@ -86,11 +59,8 @@ pub fn unpack(guests: &[Guest], count: usize, rows: &mut [u64])
     requires { (count ≤ length guests.now) × (count * guest_wide ≤ length rows.old) }
     ensures { rows.new ≡ over_rows guest_form count (take count guests.now) rows.old }
 {
-    let mut i: usize = 0;
-    while i < count {
-        let guest = read(guests, i);
-        put_row(rows, i, guest);
-        i = i + 1;
+    for (i, guest) in guests[..count].iter().enumerate() {
+        put_row(rows, i, *guest);
     }
 }
 
@@ -99,10 +69,7 @@ pub fn pack(rows: &[u64], count: usize, guests: &mut [Guest])
     requires { (count ≤ length guests.old) × (count * guest_wide ≤ length rows.now) }
     ensures { guests.new ≡ rows_of guest_form rows.now count ++ drop count guests.old }
 {
-    let mut i: usize = 0;
-    while i < count {
-        let guest = row_at(rows, i);
-        write(guests, i, guest);
-        i = i + 1;
+    for (i, guest) in guests[..count].iter_mut().enumerate() {
+        *guest = row_at(rows, i);
     }
 }

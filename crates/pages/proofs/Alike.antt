@@ -4,7 +4,7 @@ use mathlib.Core.Path.{◌≡◌, sym, ap, ◌∙◌}
 use mathlib.Core.List.{List}
 use native.Mathlib.Omega.{arith}
 use Rattle.rules.specs.Refusals.{Verdict, accept, judged}
-use Rattle.trace.specs.Header.{first_version, last_version, version_of, depth_of, guests_of, capacity_of, rule_of, settings_in, header_by}
+use Rattle.trace.specs.Header.{first_version, last_version, depth_of, capacity_of, rule_of, settings_in, opened_of, header_by}
 use Rattle.trace.proofs.Runs.{run}
 use Rattle.book.proofs.Balance.{page_for}
 use Rattle.moved.specs.Result.{moved_to}
@@ -18,7 +18,7 @@ use Rattle.pages.proofs.AfterRun.{sheet-run}
 sheet-of : (v : ℕ) (bs : List ℕ) → first_version ≤ v → v ≤ last_version → Movable v bs
     → sheet_of bs ≡ figures_lines 0 (page_for (depth_of bs) (capacity_of bs) (rule_of bs) (settings_in bs) (run (reads_in bs))).figures
 sheet-of v bs low high m =
-    sheet-run bs (version_of bs) (depth_of bs) (guests_of bs) (capacity_of bs) (rule_of bs)
+    sheet-run bs (opened_of bs)
     (ap (λ (w : Verdict). header_by w bs) (header_good first_version last_version v bs low high m))
 
 -- that of its move is the same

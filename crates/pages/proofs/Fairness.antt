@@ -12,9 +12,7 @@ use Rattle.rules.specs.Run.{fresh}
 use Rattle.rules.specs.declared.Settings.{Settings}
 use Rattle.rules.specs.declared.Flight.{Flight}
 use Rattle.rules.specs.declared.Gate.{Gate}
-use Rattle.trace.specs.Event.{events_of, whole}
-use Rattle.trace.specs.declared.Read.{Read}
-use Rattle.trace.specs.declared.Read.TheVariants.{Good, Bad}
+use Rattle.trace.specs.Event.{events_of, whole, Read}
 use Rattle.book.specs.Figures.{unseen, figures_at}
 use Rattle.book.specs.Page.{Page, first_page}
 use Rattle.book.specs.Balance.{waits_of, flies_of}
@@ -22,6 +20,7 @@ use Rattle.book.proofs.Balance.{balanced_first, balanced_turned, covered}
 use Rattle.tally.specs.Kept.{figures_in, figures_of, page_of}
 use Rattle.pages.specs.Sheet.{read, page_after, Stand, onward}
 use Rattle.pages.specs.Standing.{Fair, Owing}
+use Rattle.std.specs.Prelude.{Some, None}
 
 -- the first page
 pub fair-first : (d c rule : ℕ) (ss : List Settings) → Fair (first_page (fresh d c rule ss))
@@ -30,8 +29,8 @@ fair-first d c rule ss = record { first = fresh d c rule ss; unwaited = refl; un
 
 -- after an event as it was read
 fair-read : (p : Page) (e : Read) → Fair p → Fair (read p e)
-fair-read p (Good e) f = record { first = f.first; unwaited = f.unwaited; unflown = f.unflown; balanced = balanced_turned f.first p e f.balanced }
-fair-read p Bad f = f
+fair-read p (Some e) f = record { first = f.first; unwaited = f.unwaited; unflown = f.unflown; balanced = balanced_turned f.first p e f.balanced }
+fair-read p None f = f
 
 -- after a run of them
 fair-after : (p : Page) (es : List Read) → Fair p → Fair (page_after p es)

@@ -4,8 +4,7 @@ use mathlib.Core.Path.{◌≡◌, refl, ap, ◌∙◌}
 use mathlib.Core.List.{List, [], ◌∷◌, ◌++◌}
 use native.Mathlib.Omega.{arith}
 use lib.ListN.{length, drop}
-use Rattle.trace.specs.Event.{event_of, events_of, whole}
-use Rattle.trace.specs.declared.Read.{Read}
+use Rattle.trace.specs.Event.{event_of, events_of, whole, Read}
 use Rattle.trace.proofs.EventLaws.{events_snoc}
 use Rattle.trace.proofs.Split.{rest, events_split}
 use Rattle.book.specs.Page.{Page}

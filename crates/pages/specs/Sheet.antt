@@ -1,17 +1,14 @@
 -- Document 02, K1: "From a trace, print one line for each guest in order, with its number and then, parted by one space:" its figures. "The sum is
 -- two 64-bit numbers, upper first. A bad header prints as in 01."
-use Rattle.std.specs.Prelude.{ℕ, ◌+◌, ◌-◌, ◌*◌, ◌/◌, ◌%◌, ◌^◌, List, [], ◌∷◌, ◌++◌, drop}
+use Rattle.std.specs.Prelude.{ℕ, ◌+◌, ◌-◌, ◌*◌, ◌/◌, ◌%◌, ◌^◌, List, [], ◌∷◌, ◌++◌, drop, Some, None, Ok, Err}
 use Rattle.rules.specs.Run.{fresh}
 use Rattle.lines.specs.Line.{decimal_of, spaced, refusal_line}
-use Rattle.trace.specs.Header.{body, settings_in, header_of}
-use Rattle.trace.specs.Event.{events_of, whole}
-use Rattle.trace.specs.declared.Header.{Header}
-use Rattle.trace.specs.declared.Header.TheVariants.{Opened, Refused as Unopened}
-use Rattle.trace.specs.declared.Read.{Read}
-use Rattle.trace.specs.declared.Read.TheVariants.{Good, Bad}
+use Rattle.trace.specs.Header.{body, settings_in, header_of, Header}
+use Rattle.trace.specs.Event.{events_of, whole, Read}
 use Rattle.book.specs.Figures.{Figures}
 use Rattle.book.specs.Page.{Page, turned, first_page}
 use Rattle.book.specs.Balance.{sends}
+use Rattle.trace.specs.declared.Opened.{Opened}
 
 -- WHAT A LINE SAYS
 
@@ -41,8 +38,8 @@ figures_lines k (f ∷ l) = figures_line k f ++ figures_lines (k + 1) l
 
 -- an event as it was read turns the page; a bad one is passed over
 abbrev pub read : Page → Read → Page
-read p (Good e) = turned p e
-read p Bad = p
+read p (Some e) = turned p e
+read p None = p
 
 -- the page after a run of events as they were read
 unfoldable pub page_after : Page → List Read → Page
@@ -69,13 +66,13 @@ unfoldable pub closing : Stand → List ℕ
 closing s = figures_lines 0 (onward s).page.figures
 
 -- where the reading of events begins: at the fresh table that the header opens
-abbrev pub begun_sheet : (version depth guests capacity rule : ℕ) → List ℕ → Stand
-begun_sheet v d n c r bs = record { version = v; bytes = drop (body v n) bs; page = first_page (fresh d c r (settings_in bs)) }
+abbrev pub begun_sheet : Opened → List ℕ → Stand
+begun_sheet o bs = record { version = o.version; bytes = drop (body o.version o.guests) bs; page = first_page (fresh o.depth o.capacity o.rule (settings_in bs)) }
 
 -- Document 02, K1: "A bad header prints as in 01." Otherwise the lines of all guests
 abbrev pub sheet_by : Header → List ℕ → List ℕ
-sheet_by (Unopened r) bs = refusal_line r
-sheet_by (Opened v d n c r) bs = closing (begun_sheet v d n c r bs)
+sheet_by (Err r) bs = refusal_line r
+sheet_by (Ok o) bs = closing (begun_sheet o bs)
 
 -- THE SHEET: from the bytes of a whole trace to the bytes that the program prints
 unfoldable pub sheet_of : List ℕ → List ℕ

@@ -6,8 +6,8 @@ use Rattle.table.specs.Columns.{most_guests}
 use Rattle.table.specs.View.{Known}
 use Rattle.book.specs.Page.{Page}
 use Rattle.book.specs.Balance.{Balanced}
-use Rattle.tally.specs.Columns.{ARRIVALS, COMPLETIONS, RESERVED, WEIGHED, figures_wide, book_long, figures_long, figure_at}
-use Rattle.tally.specs.Kept.{figures_of, page_of, Kept}
+use Rattle.tally.specs.Columns.{ARRIVALS, COMPLETIONS, RESERVED, WEIGHED, figures_wide, figure_at}
+use Rattle.tally.specs.Kept.{figures_of, Kept}
 use Rattle.port.specs.Tape.{Tape, Holds}
 use Rattle.stream.specs.Outcome.{MOST, May, Ran, Last}
 use Rattle.stream.specs.declared.End.{End}
@@ -20,15 +20,6 @@ Listed end n = Ran sheet_of MOST end n
 -- the most bytes of a guest's line: eleven numbers of twenty digits, ten spaces, byte 10
 abbrev pub SHEETLINE : ℕ
 SHEETLINE = 231
-
--- room for the book and the figures of the largest settings
-pub record Roomy (bk fg : List ℕ) : Type 0 where
-  pub book : book_long ≤ length bk
-  pub figures : figures_long ≤ length fg
-
--- where the reading stands: the trace's version, the bytes that are left, and the page that the lent numbers show
-abbrev pub stand_of : (version : ℕ) → List ℕ → Gate → (gs ws fs bk fg : List ℕ) → Stand
-stand_of v bs g gs ws fs bk fg = record { version = v; bytes = bs; page = page_of g gs ws fs bk fg }
 
 -- the lent numbers are known, after at most n events
 pub record Firm (n : ℕ) (g : Gate) (gs ws fs bk fg : List ℕ) : Type 0 where

@@ -68,11 +68,9 @@ pub fn put_guests(out: &mut [u8], known: usize, figures: &[u64]) -> usize
     ensures put { Put 0 (figures_lines 0 (figures_of figures.now known)) out.old result out.new }
     ensures upper_bound { result ≤ known * SHEETLINE }
 {
-    let mut at: usize = 0;
-    let mut k: usize = 0;
-    while k < known {
+    let mut at = 0;
+    for k in 0..known {
         at = put_guest(out, at, k, figures);
-        k += 1;
     }
     at
 }

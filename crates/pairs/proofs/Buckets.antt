@@ -2,6 +2,7 @@
 -- Assumes nothing.
 use Prim.Native.Nat.{ℕ, zero, suc, ◌+◌, ◌≤◌, ◌<◌}
 use mathlib.Core.Path.{◌≡◌, sym, ap, ◌∙◌}
+use mathlib.Core.Bool.{Bool, true, false, false≢true}
 use mathlib.Core.List.{List}
 use mathlib.Core.Logic.{⊎_elim, ◌⊎◌, inl, inr}
 use native.Mathlib.Nat.{not-suc-le-zero, le_of_suc-le-suc, eq-or-lt_of_le}
@@ -9,17 +10,10 @@ use native.Mathlib.Numerals.{add-one}
 use native.Mathlib.Omega.{arith}
 use lib.ListN.{length, get_or, set, length-set, replicate, length-replicate, get_or-replicate}
 use lib.Seq.{get_or-set_same, get_or-set_other}
-use lib.Dec.{eqb}
 use borrow.Author.Tests.{eq-eqb, ne_eqb}
 use Rattle.lists.specs.Tab.{lt_or_le, eq_or_not}
-use Rattle.lists.specs.Lines.{whether}
 use Rattle.table.specs.Columns.{most_depth, most_capacity}
-use Rattle.pairs.specs.Names.{bucket_of}
-
--- 1 + the largest place before i whose bucket is b, or 0
-unfoldable pub last_before : (ℕ → ℕ) → ℕ → ℕ → ℕ
-last_before at b zero = zero
-last_before at b (suc i) = whether (eqb (at i) b) (suc i) (last_before at b i)
+use Rattle.pairs.specs.Chains.{last_before, bucket_at}
 
 -- of two different numbers one is below the other
 other : (k j : ℕ) → (k ≡ j → ⊥) → (k < j) ⊎ (j < k)
@@ -108,9 +102,8 @@ linked-next at heads links i b v u s l m e f g =
 
 -- A WALK along the chain of place i: `next` is 1 + the place to look at, or 0
 module _ (guest id : ℕ → ℕ) where
-  -- the bucket of place k
-  abbrev pub bucket_at : ℕ → ℕ
-  bucket_at k = bucket_of (guest k) (id k)
+  abbrev at : ℕ → ℕ
+  at = bucket_at guest id
 
   -- no two different places before n have one name
   abbrev pub Apart : ℕ → Type 0
@@ -119,36 +112,36 @@ module _ (guest id : ℕ → ℕ) where
   -- where a walk from place i to the places of its bucket stands: every place of the name of i from `next` on was passed
   pub record Passed (i next : ℕ) : Type 0 where
     pub low : next ≤ i
-    pub here : (k : ℕ) → next ≡ suc k → bucket_at k ≡ bucket_at i
+    pub here : (k : ℕ) → next ≡ suc k → at k ≡ at i
     pub differ : (k : ℕ) → next ≤ k → k < i → guest k ≡ guest i → id k ≡ id i → ⊥
 
   -- one name has one bucket
-  pub same_bucket : (k i : ℕ) → guest k ≡ guest i → id k ≡ id i → bucket_at k ≡ bucket_at i
+  pub same_bucket : (k i : ℕ) → guest k ≡ guest i → id k ≡ id i → at k ≡ at i
   same_bucket k i e f = rw (e, f)
 
   -- it starts at the latest place of the bucket
-  pub passed_start : (i next : ℕ) → next ≡ last_before bucket_at (bucket_at i) i → Passed i next
+  pub passed_start : (i next : ℕ) → next ≡ last_before at (at i) i → Passed i next
   passed_start i next e =
       record {
-        low = omega (arith, last_le bucket_at (bucket_at i) i);
-        here = λ k q. last_is bucket_at (bucket_at i) i k (sym e ∙ q);
-        differ = λ k h l g d. last_none bucket_at (bucket_at i) i k (omega arith) l (same_bucket k i g d);
+        low = omega (arith, last_le at (at i) i);
+        here = λ k q. last_is at (at i) i k (sym e ∙ q);
+        differ = λ k h l g d. last_none at (at i) i k (omega arith) l (same_bucket k i g d);
       }
 
   -- a place of another name is passed
-  pub passed-next : (i next j more : ℕ) → Passed i next → next ≡ suc j → (guest j ≡ guest i → id j ≡ id i → ⊥) → more ≡ last_before bucket_at (bucket_at j) j → Passed i more
+  pub passed-next : (i next j more : ℕ) → Passed i next → next ≡ suc j → (guest j ≡ guest i → id j ≡ id i → ⊥) → more ≡ last_before at (at j) j → Passed i more
   passed-next i next j more s q apart e =
-      let le = last_le bucket_at (bucket_at j) j in
+      let le = last_le at (at j) j in
       let low : next ≤ i = s.low in
       record {
         low = omega arith;
-        here = λ k r. last_is bucket_at (bucket_at j) j k (sym e ∙ r) ∙ s.here j q;
+        here = λ k r. last_is at (at j) j k (sym e ∙ r) ∙ s.here j q;
         differ = λ k h l g d.
             ⊎_elim
             (λ z. apart (ap guest (sym z) ∙ g) (ap id (sym z) ∙ d))
             (λ z.
             ⊎_elim
-            (λ m. last_none bucket_at (bucket_at j) j k (omega arith) m (same_bucket k i g d ∙ sym (s.here j q)))
+            (λ m. last_none at (at j) j k (omega arith) m (same_bucket k i g d ∙ sym (s.here j q)))
             (λ m. s.differ k (omega arith) l g d)
             (other k j z))
             (eq_or_not k j);
@@ -162,35 +155,31 @@ module _ (guest id : ℕ → ℕ) where
       (λ z. d a k (omega arith) m g q)
       (eq_or_not a i)
 
-  -- so it is at the walk's end
-  pub passed-end : (i next : ℕ) → Passed i next → next ≤ 0 → Apart i → Apart (i + 1)
-  passed-end i next s e d = apart_next i d (λ k l. s.differ k (omega arith) l)
-
 -- FEW requests: marks of the buckets that earlier places are of
 
 -- a bucket without a mark has no place before i
-pub record Seen (at : ℕ → ℕ) (seen : List ℕ) (i : ℕ) : Type 0 where
+pub record Seen (at : ℕ → ℕ) (seen : List Bool) (i : ℕ) : Type 0 where
   pub long : length seen ≡ 1024
-  pub none : (b : ℕ) → b < 1024 → get_or seen b 0 ≡ 0 → (k : ℕ) → k < i → at k ≡ b → ⊥
+  pub none : (b : ℕ) → b < 1024 → get_or seen b false ≡ false → (k : ℕ) → k < i → at k ≡ b → ⊥
 
 -- before the first place there is no mark
-pub seen_start : (at : ℕ → ℕ) → Seen at (replicate 1024 0) 0
-seen_start at = record { long = length-replicate {A = ℕ} 1024 0; none = λ b l e k m. absurd (not-suc-le-zero m) }
+pub seen_start : (at : ℕ → ℕ) → Seen at (replicate 1024 false) 0
+seen_start at = record { long = length-replicate {A = Bool} 1024 false; none = λ b l e k m. absurd (not-suc-le-zero m) }
 
 -- place i marks its bucket
-pub seen_next : (at : ℕ → ℕ) (seen : List ℕ) (i b : ℕ) → Seen at seen i → b < 1024 → b ≡ at i → Seen at (set seen b 1) (i + 1)
+pub seen_next : (at : ℕ → ℕ) (seen : List Bool) (i b : ℕ) → Seen at seen i → b < 1024 → b ≡ at i → Seen at (set seen b true) (i + 1)
 seen_next at seen i b s m e =
     record {
-      long = length-set seen b 1 ∙ s.long;
+      long = length-set seen b true ∙ s.long;
       none = λ c l z k h f.
           ⊎_elim
           (λ q.
-          let one : get_or (set seen b 1) b 0 ≡ 1 = get_or-set_same seen b 1 0 (omega (arith, s.long)) in
-          zero_not 0 (sym (rw q at z) ∙ one))
+          let one : get_or (set seen b true) b false ≡ true = get_or-set_same seen b true false (omega (arith, s.long)) in
+          false≢true (sym (rw q at z) ∙ one))
           (λ q.
           ⊎_elim
           (λ y. q (sym f ∙ ap at y ∙ sym e))
-          (λ y. s.none c l (sym (get_or-set_other seen b c 1 0 q) ∙ z) k (omega arith) f)
+          (λ y. s.none c l (sym (get_or-set_other seen b c true false q) ∙ z) k (omega arith) f)
           (eq_or_not k i))
           (eq_or_not c b);
     }

@@ -34,6 +34,10 @@ not_both a b c d h = go (eqb a b) refl (eqb c d) refl
     go true e false f = refl
     go true e true f = absurd (h (eqb-true a b e) (eqb-true c d f))
 
+-- two names that a test finds different
+pub both_differ : (a b c d : ℕ) → (eqb a b && eqb c d) ≡ false → a ≡ b → c ≡ d → ⊥
+both_differ a b c d h e f = false≢true (sym h ∙ join (eq-eqb a b e) (eq-eqb c d f))
+
 -- not one guest and one id
 same_not : (a b : Flight) → (a.guest ≡ b.guest → a.id ≡ b.id → ⊥) → not (same a b) ≡ true
 same_not a b h = not_both a.guest b.guest a.id b.id h

@@ -1,41 +1,54 @@
 // Whether no guest has one id twice, among waiting requests and requests in flight. Functions for this repository's own crates.
 #![tactic(auto)]
 
-ghost use Rattle.std.specs.Prelude.{◌≡◌, ◌+◌, ◌≤◌, ◌<◌};
+ghost use Rattle.std.specs.Prelude.{◌≡◌, ◌+◌, ◌<◌};
 ghost use Rattle.lists.specs.Words.{below};
 ghost use Rattle.rules.specs.Sound.{distinct};
-ghost use Rattle.table.specs.Columns.{ID};
 ghost use Rattle.pairs.specs.Names.{Rooms, names_of, part_at, other_at, bucket_of};
+ghost use Rattle.pairs.specs.Chains.{bucket_at, Led};
 
 use table::columns::{FLIGHT_WIDE, GUEST, ID, MOST_CAPACITY, MOST_DEPTH, WAITING_WIDE};
 
 // So many requests, waiting and in flight, are few.
 const FEW: usize = 64;
 
-// The guest or the id of request k, counted through the waiting ones and then those in flight.
-fn part_of(waiting: &[u64], count: usize, flight: &[u64], sent: usize, k: usize, part: usize) -> u64
-    requires { Rooms waiting.now count flight.now sent × (k < count + sent) × (part ≤ ID) }
-    ensures { result ≡ part_at waiting.now count flight.now part k }
+// So many requests there can be, waiting and in flight.
+const PLACES: usize = MOST_CAPACITY + MOST_DEPTH;
+
+// A request's name: its guest and its id.
+#[derive(Clone, Copy, PartialEq, Eq)]
+struct Name {
+    guest: u64,
+    id: u64,
+}
+
+// The name of request k, counted through the waiting ones and then those in flight.
+#[tactic(auto, unfolding(crate::specs::Names::part_at))]
+fn name_at(waiting: &[u64], count: usize, flight: &[u64], sent: usize, k: usize) -> Name
+    requires { Rooms waiting.now count flight.now sent × (k < count + sent) }
+    ensures { (result.guest ≡ part_at waiting.now count flight.now 0 k) × (result.id ≡ part_at waiting.now count flight.now 1 k) }
 {
     if k < count {
-        waiting[k * WAITING_WIDE + part]
+        let from = k * WAITING_WIDE;
+        Name {
+            guest: waiting[from + GUEST],
+            id: waiting[from + ID],
+        }
     } else {
-        flight[(k - count) * FLIGHT_WIDE + part]
+        let from = (k - count) * FLIGHT_WIDE;
+        Name {
+            guest: flight[from + GUEST],
+            id: flight[from + ID],
+        }
     }
 }
 
-// The bucket of a guest and an id: requests of one name fall into one bucket.
-fn bucket(guest: u64, id: u64) -> usize
-    ensures { (result ≡ bucket_of guest id) × (result < 4096) }
+// The bucket of a name: requests of one name fall into one bucket.
+#[tactic(auto, unfolding(crate::specs::Names::bucket_of))]
+fn bucket(name: Name) -> usize
+    ensures { (result ≡ bucket_of name.guest name.id) × (result < 4096) }
 {
-    ((guest % 64 * 64 + id % 4096) % 4096) as usize
-}
-
-// The same number in more bits.
-fn wide(x: u16) -> usize
-    ensures { result ≡ x }
-{
-    x as usize
+    ((name.guest % 64 * 64 + name.id % 4096) % 4096) as usize
 }
 
 // No earlier request has the name of request k.
@@ -43,73 +56,77 @@ fn is_new(waiting: &[u64], count: usize, flight: &[u64], sent: usize, k: usize) 
     requires { Rooms waiting.now count flight.now sent × (k < count + sent) }
     ensures { result ≡ below k (other_at waiting.now count flight.now k) }
 {
-    let guest = part_of(waiting, count, flight, sent, k, GUEST);
-    let id = part_of(waiting, count, flight, sent, k, ID);
-    let mut j: usize = 0;
-    while j < k {
-        if part_of(waiting, count, flight, sent, j, GUEST) == guest {
-            if part_of(waiting, count, flight, sent, j, ID) == id {
-                return false;
-            }
+    let name = name_at(waiting, count, flight, sent, k);
+    for j in 0..k {
+        if name_at(waiting, count, flight, sent, j) == name {
+            return false;
         }
-        j += 1;
     }
     true
 }
 
-// No request has the name of an earlier one, where few are: an array that is cleared soon. seen[b] is 0 where no earlier place is of bucket b, and only where it is not are the earlier ones gone through.
+// No request has the name of an earlier one, where few are: an array that is cleared soon. seen[b] says that an earlier place is of bucket b, and only
+// there are the earlier ones gone through.
 fn few_once(waiting: &[u64], count: usize, flight: &[u64], sent: usize) -> bool
     requires { Rooms waiting.now count flight.now sent }
     ensures { result ≡ distinct (names_of waiting.now count flight.now sent) }
 {
-    let mut seen: [u8; 1024] = [0; 1024];
-    let mut i: usize = 0;
-    while i < count + sent {
-        let guest = part_of(waiting, count, flight, sent, i, GUEST);
-        let id = part_of(waiting, count, flight, sent, i, ID);
-        let b = bucket(guest, id) % 1024;
-        if seen[b] != 0 {
-            if !is_new(waiting, count, flight, sent, i) {
-                return false;
-            }
+    let mut seen = [false; 1024];
+    for i in 0..count + sent {
+        let b = bucket(name_at(waiting, count, flight, sent, i)) % 1024;
+        if seen[b] && !is_new(waiting, count, flight, sent, i) {
+            return false;
         }
-        seen[b] = 1;
-        i += 1;
+        seen[b] = true;
     }
     true
 }
 
-// No request has the name of an earlier one, where many are. Each is held beside the earlier ones of its bucket only: heads[b] is 1 + the latest place of bucket b, links[k] 1 + the one before place k in its bucket.
+// No earlier request has the name of request k: a walk along the earlier ones of its bucket only, from `first` on, as the links lead.
+fn is_new_along(
+    waiting: &[u64],
+    count: usize,
+    flight: &[u64],
+    sent: usize,
+    links: &[u16; PLACES],
+    first: u16,
+    k: usize,
+) -> bool
+    requires rooms { Rooms waiting.now count flight.now sent × (k < count + sent) }
+    requires led { Led (bucket_at (part_at waiting.now count flight.now 0) (part_at waiting.now count flight.now 1)) links.now k first }
+    ensures { result ≡ below k (other_at waiting.now count flight.now k) }
+{
+    let name = name_at(waiting, count, flight, sent, k);
+    let mut next = usize::from(first);
+    while 0 < next {
+        let j = next - 1;
+        if name_at(waiting, count, flight, sent, j) == name {
+            return false;
+        }
+        next = usize::from(links[j]);
+    }
+    true
+}
+
+// No request has the name of an earlier one, where many are. Each is held beside the earlier ones of its bucket only: heads[b] is 1 + the latest place
+// of bucket b, links[k] 1 + the one before place k in its bucket.
 fn many_once(waiting: &[u64], count: usize, flight: &[u64], sent: usize) -> bool
     requires { Rooms waiting.now count flight.now sent }
     ensures { result ≡ distinct (names_of waiting.now count flight.now sent) }
 {
-    let mut heads: [u16; 4096] = [0; 4096];
-    let mut links: [u16; MOST_CAPACITY + MOST_DEPTH] = [0; MOST_CAPACITY + MOST_DEPTH];
-    let total = count + sent;
-    let mut once = true;
-    let mut i: usize = 0;
-    'pairs: while i < total {
-        let guest = part_of(waiting, count, flight, sent, i, GUEST);
-        let id = part_of(waiting, count, flight, sent, i, ID);
-        let b = bucket(guest, id);
+    // 0 stands for no place: an Option<u16> would take twice the memory, and this test half as long again.
+    let mut heads = [0u16; 4096];
+    let mut links = [0u16; PLACES];
+    for i in 0..count + sent {
+        let b = bucket(name_at(waiting, count, flight, sent, i));
         let first = heads[b];
-        let mut next = wide(first);
-        while 0 < next {
-            let j = next - 1;
-            if part_of(waiting, count, flight, sent, j, GUEST) == guest {
-                if part_of(waiting, count, flight, sent, j, ID) == id {
-                    once = false;
-                    break 'pairs;
-                }
-            }
-            next = wide(links[j]);
+        if !is_new_along(waiting, count, flight, sent, &links, first, i) {
+            return false;
         }
         links[i] = first;
         heads[b] = (i + 1) as u16;
-        i += 1;
     }
-    once
+    true
 }
 
 // No request has the name of an earlier one.

@@ -1,14 +1,14 @@
 -- The first rows of the guests, collected: where they begin, in their order. Every other row stands behind an earlier one of its guest.
 -- Assumes nothing.
-use Rattle.std.specs.Prelude.{ℕ, zero, suc, ◌+◌, ◌-◌, ◌*◌, ◌/◌, ◌≤◌, ◌<◌, ◌≡◌, refl, Bool, true, false, List, eqb, ltb, length, get_or, set}
+use Rattle.std.specs.Prelude.{ℕ, zero, suc, ◌+◌, ◌-◌, ◌*◌, ◌/◌, ◌≤◌, ◌<◌, ◌≡◌, refl, Bool, true, false, List, eqb, ltb, length, get_or, set, take}
 use Rattle.std.proofs.Common.{sym, ap, ◌∙◌, subst, arith, add-one, get_or-set_other, get_or-set_same, eqb-true, ltb-true, ltb-false}
 use Rattle.std.proofs.lemmas.Bool.{eqb-false}
+use Rattle.std.proofs.lemmas.List.{length-take-le, get_or-take}
 use Rattle.table.specs.Columns.{GUEST, waiting_wide, waiting_at}
 use Rattle.walks.specs.Walks.{Owned}
 use Rattle.walks.specs.Marks.{Stood, stood-later}
 use Rattle.looks.specs.InLine.{Behind}
 use Rattle.walks.specs.Unseen.{bit_of, Marked, none-set, unseen, unseen_most, unseen-some, unseen-mark, unseen-again}
-use Rattle.walks.specs.WalksRows.{row_from}
 
 -- the row behind the last of the first k that are collected
 abbrev pub next : List ℕ → ℕ → ℕ
@@ -45,7 +45,7 @@ module _ (ws : List ℕ) where
       go j h l false q = b.each j h (omega (arith, l, eqb-false j e q))
 
   -- what is collected of the first e rows is so of more
-  collects_more : {rows : List ℕ} {e k : ℕ} (e' : ℕ) → e ≤ e' → Collects ws rows e k → Collects ws rows e' k
+  pub collects_more : {rows : List ℕ} {e k : ℕ} (e' : ℕ) → e ≤ e' → Collects ws rows e k → Collects ws rows e' k
   collects_more e' h c = record { row = c.row; begins = c.begins; inside = omega (arith, h, c.inside); between = c.between }
 
   -- nothing at first
@@ -73,6 +73,20 @@ module _ (ws : List ℕ) where
       same zero h = refl
       same (suc k) h = ap (λ (i : ℕ). i / waiting_wide + 1) (kept k (omega (arith, h)))
 
+  -- the front of the list has what is collected
+  pub collected_taken : {rows : List ℕ} {n e : ℕ} → n ≤ length rows → Collected ws rows n e → Collected ws (take n rows) (length (take n rows)) e
+  collected_taken {rows} {n} {e} long c =
+      subst (λ (m : ℕ). Collected ws (take n rows) m e) (sym (length-take-le n rows long))
+      (record {
+        each = λ k h. let o = c.each k h in
+            record { row = o.row; begins = get_or-take n rows k 0 h ∙ o.begins; inside = o.inside; between = subst (λ (i : ℕ). Behind ws i o.row) (sym (same k (omega (arith, h)))) o.between };
+        rest = subst (λ (i : ℕ). Behind ws i e) (sym (same n (omega arith))) c.rest;
+      })
+    where
+      same : (k : ℕ) → k ≤ n → next (take n rows) k ≡ next rows k
+      same zero h = refl
+      same (suc k) h = ap (λ (x : ℕ). x / waiting_wide + 1) (get_or-take n rows k 0 (omega (arith, h)))
+
   -- the row behind is collected
   pub collected_take : {rows : List ℕ} {n e : ℕ} → Collected ws rows n e → get_or rows n 0 ≡ e * waiting_wide → Collected ws rows (n + 1) (e + 1)
   collected_take {rows} {n} {e} c q = record { each = λ k h. go k h (eqb k n) refl; rest = behind-none (next rows (n + 1)) (e + 1) (omega (arith, q, next_on rows n)) }
@@ -85,61 +99,47 @@ module _ (ws : List ℕ) where
   pub collected_pass : {rows : List ℕ} {n e : ℕ} → Collected ws rows n e → Stood ws e (waiting_at ws e GUEST) → Collected ws rows n (e + 1)
   collected_pass {rows} {n} {e} c s = record { each = λ k h. collects_more (e + 1) (omega arith) (c.each k h); rest = behind_more c.rest s }
 
--- the walk that collects, at the row whose numbers begin at `from`: each guest whose bit is set has one of the rows passed, and n are collected of them
-pub record Collecting (ws : List ℕ) (known count : ℕ) (rows : List ℕ) (seen n from : ℕ) : Type 0 where
-  pub row : ℕ
-  pub begins : from ≡ row * waiting_wide
-  pub inside : row ≤ count
+-- the walk that collects, with `row` rows passed: each guest whose bit is set has one of these, and n are collected of them
+pub record Collecting (ws : List ℕ) (known : ℕ) (rows : List ℕ) (seen n row : ℕ) : Type 0 where
   pub stood : (g : ℕ) → bit_of seen g ≡ 1 → Stood ws row g
   pub sofar : Collected ws rows n row
   pub left : unseen (bit_of seen) known + n ≤ known
 
 module _ (ws : List ℕ) (known count : ℕ) where
-  module _ {rows : List ℕ} {seen n from : ℕ} (l : Collecting ws known count rows seen n from) (more : from < count * waiting_wide) where
-    -- the row is one of those that are used
-    here : l.row < count
-    here = omega (arith, l.begins, more)
-
-    -- its guest, as the code reads it
+  module _ {rows : List ℕ} {seen n row : ℕ} (l : Collecting ws known rows seen n row) (here : row < count) where
+    -- the guest of the next row
     abbrev guest : ℕ
-    guest = get_or ws (from + GUEST) 0
-
-    -- which exists
-    pub known-here : Owned ws count known → guest < known
-    known-here owned = omega (arith, row_from ws l.row GUEST l.begins, owned l.row here)
+    guest = waiting_at ws row GUEST
 
     -- the row is written down, and kept where its guest has no bit; the guest gets its bit
     pub collecting_next : Owned ws count known → n < length rows → {seen' : ℕ} → Marked (bit_of seen) guest (bit_of seen')
-        → Collecting ws known count (set rows n from) seen' (n + (1 - bit_of seen guest)) (from + waiting_wide)
+        → Collecting ws known (set rows n (row * waiting_wide)) seen' (n + (1 - bit_of seen guest)) (row + 1)
     collecting_next owned room {seen'} m = go (eqb (bit_of seen guest) 0) refl
       where
-        same : guest ≡ waiting_at ws l.row GUEST
-        same = row_from ws l.row GUEST l.begins
+        written : Collected ws (set rows n (row * waiting_wide)) n row
+        written = collected_write ws (row * waiting_wide) l.sofar
 
-        written : Collected ws (set rows n from) n l.row
-        written = collected_write ws from l.sofar
-
-        stands : (g : ℕ) → bit_of seen' g ≡ 1 → (b : Bool) → eqb g guest ≡ b → Stood ws (l.row + 1) g
-        stands g h true e = record { place = l.row; before = omega arith; own = sym same ∙ sym (eqb-true g guest e) }
+        stands : (g : ℕ) → bit_of seen' g ≡ 1 → (b : Bool) → eqb g guest ≡ b → Stood ws (row + 1) g
+        stands g h true e = record { place = row; before = omega arith; own = sym (eqb-true g guest e) }
         stands g h false e = stood-later (l.stood g (sym (m.others g (eqb-false g guest e)) ∙ h)) (omega arith)
 
-        step : {n' : ℕ} → Collected ws (set rows n from) n' (l.row + 1) → unseen (bit_of seen') known + n' ≤ known → Collecting ws known count (set rows n from) seen' n' (from + waiting_wide)
-        step c h = record { row = l.row + 1; begins = omega (arith, l.begins); inside = omega (arith, here); stood = λ g e. stands g e (eqb g guest) refl; sofar = c; left = h }
+        step : {n' : ℕ} → Collected ws (set rows n (row * waiting_wide)) n' (row + 1) → unseen (bit_of seen') known + n' ≤ known → Collecting ws known (set rows n (row * waiting_wide)) seen' n' (row + 1)
+        step c h = record { stood = λ g e. stands g e (eqb g guest) refl; sofar = c; left = h }
 
-        go : (b : Bool) → eqb (bit_of seen guest) 0 ≡ b → Collecting ws known count (set rows n from) seen' (n + (1 - bit_of seen guest)) (from + waiting_wide)
+        go : (b : Bool) → eqb (bit_of seen guest) 0 ≡ b → Collecting ws known (set rows n (row * waiting_wide)) seen' (n + (1 - bit_of seen guest)) (row + 1)
         go true e =
             let none = eqb-true (bit_of seen guest) 0 e in
             let one : n + (1 - bit_of seen guest) ≡ n + 1 = omega (arith, none) in
-            rw one (step (collected_take ws written (get_or-set_same rows n from 0 room ∙ l.begins)) (omega (arith, l.left, unseen-mark (bit_of seen) (bit_of seen') known guest m (known-here owned) none)))
+            rw one (step (collected_take ws written (get_or-set_same rows n (row * waiting_wide) 0 room)) (omega (arith, l.left, unseen-mark (bit_of seen) (bit_of seen') known guest m (owned row here) none)))
         go false e =
             let set1 : bit_of seen guest ≡ 1 = omega (arith, eqb-false (bit_of seen guest) 0 e) in
             let zero1 : n + (1 - bit_of seen guest) ≡ n = omega (arith, set1) in
-            rw zero1 (step (collected_pass ws written (rw same at (l.stood guest set1))) (omega (arith, l.left, unseen-again (bit_of seen) (bit_of seen') known guest m set1)))
+            rw zero1 (step (collected_pass ws written (l.stood guest set1)) (omega (arith, l.left, unseen-again (bit_of seen) (bit_of seen') known guest m set1)))
 
-  module _ {rows : List ℕ} {seen n from : ℕ} (l : Collecting ws known count rows seen n from) where
+  module _ {rows : List ℕ} {seen n row : ℕ} (l : Collecting ws known rows seen n row) (inside : row ≤ count) where
     -- where every guest was seen, the rows that are left stand behind others: the walk may end
     pub collecting_all : Owned ws count known → known ≤ n → Collected ws rows n count
-    collecting_all owned all = record { each = λ k h. collects_more ws count l.inside (l.sofar.each k h); rest = record { ahead = omega (arith, l.sofar.rest.ahead, l.inside); each = behind } }
+    collecting_all owned all = record { each = λ k h. collects_more ws count inside (l.sofar.each k h); rest = record { ahead = omega (arith, l.sofar.rest.ahead, inside); each = behind } }
       where
         bits : (g : ℕ) → g < known → bit_of seen g ≡ 1
         bits g h = go (eqb (bit_of seen g) 0) refl
@@ -149,23 +149,16 @@ module _ (ws : List ℕ) (known count : ℕ) where
             go false e = omega (arith, eqb-false (bit_of seen g) 0 e)
 
         behind : (j : ℕ) → next rows n ≤ j → j < count → Stood ws j (waiting_at ws j GUEST)
-        behind j h i = go (ltb j l.row) refl
+        behind j h i = go (ltb j row) refl
           where
-            go : (b : Bool) → ltb j l.row ≡ b → Stood ws j (waiting_at ws j GUEST)
-            go true e = l.sofar.rest.each j h (ltb-true j l.row e)
-            go false e = stood-later (l.stood (waiting_at ws j GUEST) (bits (waiting_at ws j GUEST) (owned j i))) (ltb-false j l.row e)
-
-    -- behind the last row
-    pub collecting_end : count * waiting_wide ≤ from → Collected ws rows n count
-    collecting_end done = subst (Collected ws rows n) (omega (arith, done, l.begins, l.inside)) l.sofar
+            go : (b : Bool) → ltb j row ≡ b → Stood ws j (waiting_at ws j GUEST)
+            go true e = l.sofar.rest.each j h (ltb-true j row e)
+            go false e = stood-later (l.stood (waiting_at ws j GUEST) (bits (waiting_at ws j GUEST) (owned j i))) (ltb-false j row e)
 
 -- before the first row
-pub collecting_start : (ws : List ℕ) (known count : ℕ) (rows : List ℕ) → Collecting ws known count rows 0 0 0
-collecting_start ws known count rows =
+pub collecting_start : (ws : List ℕ) (known : ℕ) (rows : List ℕ) → Collecting ws known rows 0 0 0
+collecting_start ws known rows =
     record {
-      row = 0;
-      begins = refl;
-      inside = omega arith;
       stood = λ g e. absurd (omega (arith, e, none-set g));
       sofar = collected_none ws rows;
       left = omega (arith, unseen_most (bit_of 0) known);

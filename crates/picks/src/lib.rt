@@ -1,20 +1,20 @@
 // The walk of the choice: the request that each phase would send. It reads and changes nothing. Functions for this repository's own crates.
 #![tactic(auto)]
 
-ghost use Rattle.std.specs.Prelude.{◌≡◌, ◌&&◌, ◌*◌, ◌≤◌, ◌<◌, leb, length};
+ghost use Rattle.std.specs.Prelude.{◌≡◌, ◌&&◌, ◌≤◌, ◌<◌, leb, length};
 ghost use Rattle.rules.specs.Numbers.{ceiling};
 ghost use Rattle.rules.specs.Tables.{Request, settings_of};
 ghost use Rattle.rules.specs.Choice.{due_at};
-ghost use Rattle.table.specs.Columns.{guest_wide, waiting_wide, most_guests, most_capacity};
+ghost use Rattle.table.specs.Columns.{most_guests};
 ghost use Rattle.table.specs.View.{guests_of, waiting_of};
-ghost use Rattle.walks.specs.Walks.{Picks, Owned, Rising, SharesFit, place_in};
+ghost use Rattle.walks.specs.Walks.{Picks, place_in};
 ghost use Rattle.walks.specs.Unseen.{bit_of, Marked};
 ghost use Rattle.looks.specs.InLine.{Passed};
 ghost use Rattle.picks.specs.Collected.{Collected};
 
 use looks::{Best, look, nothing_yet};
 use table::columns::{GUEST, MOST_GUESTS, WAITING_WIDE};
-use walks::Found;
+use walks::queue::Queue;
 
 // Where at most so many wait, it takes less time to look at every row than to tell the first ones of the guests apart.
 const FEW: usize = 32;
@@ -22,30 +22,18 @@ const FEW: usize = 32;
 // What the walk of the choice finds: the request that each phase would send.
 #[derive(Drop)]
 pub struct Firsts {
-    pub due: Found,
-    pub open: Found,
+    pub due: Option<usize>,
+    pub open: Option<usize>,
 }
 
 // Looks at every row.
-fn every(
-    waiting: &[u64],
-    count: usize,
-    guests: &[u64],
-    known: usize,
-    time: u64,
-    latest: u64,
-) -> Best
-    requires count_le_most_capacity { (count ≤ most_capacity) × (count * waiting_wide ≤ length waiting.now) × (known ≤ most_guests) × (known * guest_wide ≤ length guests.now) }
-    requires owned { Owned waiting.now count known }
-    requires time_le_ceiling { (time ≤ ceiling) × (latest ≤ ceiling) }
-    ensures { Passed guests.now waiting.now known count time latest count result }
+fn every(queue: Queue, latest: u64) -> Best
+    requires { latest ≤ ceiling }
+    ensures { let q = queue.entry in Passed q.guests.now q.waiting.now q.known q.count q.time latest q.count result }
 {
-    let used = count * WAITING_WIDE;
-    let mut best = nothing_yet(used, time);
-    let mut at: usize = 0;
-    while at < used {
-        best = look(waiting, at, guests, time, latest, best);
-        at += WAITING_WIDE;
+    let mut best = nothing_yet(queue);
+    for place in 0..queue.count {
+        best = look(queue, place * WAITING_WIDE, latest, best);
     }
     best
 }
@@ -68,63 +56,47 @@ fn with_bit(seen: u64, guest: u64) -> u64
 
 // Collects where the first row of each guest begins, and how many these are. It writes down every row and keeps what stood first, so that nothing branches
 // on whether a guest was seen; and it ends, and reads no further, once every guest was.
-fn collect(waiting: &[u64], count: usize, known: usize, rows: &mut [u16]) -> usize
-    requires count_le_most_capacity { (count ≤ most_capacity) × (count * waiting_wide ≤ length waiting.now) × (known ≤ most_guests) × (known ≤ length rows.old) }
-    requires owned { Owned waiting.now count known }
-    ensures { (result ≤ known) × Collected waiting.now rows.new result count }
+fn collect(queue: Queue, rows: &mut [u16]) -> usize
+    requires { queue.known ≤ length rows.old }
+    ensures { (result ≤ queue.entry.known) × Collected queue.entry.waiting.now rows.new result queue.entry.count }
 {
-    let used = count * WAITING_WIDE;
     let mut seen: u64 = 0;
     let mut n: usize = 0;
-    let mut row: usize = 0;
-    while row < used {
-        let guest = waiting[row + GUEST];
-        rows[n] = row as u16;
+    for row in 0..queue.count {
+        let at = row * WAITING_WIDE;
+        let guest = queue.waiting[at + GUEST];
+        rows[n] = at as u16;
         let bit = bit_of(seen, guest);
         n += 1 - (bit as usize);
         seen = with_bit(seen, guest);
-        if n == known {
+        if n == queue.known {
             return n;
         }
-        row += WAITING_WIDE;
     }
     n
 }
 
 // Looks at the rows that are collected: within a guest no later tag is smaller.
-fn among(
-    waiting: &[u64],
-    count: usize,
-    guests: &[u64],
-    known: usize,
-    rows: &[u16],
-    n: usize,
-    time: u64,
-    latest: u64,
-) -> Best
-    requires count_le_most_capacity { (count ≤ most_capacity) × (count * waiting_wide ≤ length waiting.now) × (known ≤ most_guests) × (known * guest_wide ≤ length guests.now) × (n ≤ length rows.now) }
-    requires owned { Owned waiting.now count known × Rising waiting.now count × Collected waiting.now rows.now n count }
-    requires time_le_ceiling { (time ≤ ceiling) × (latest ≤ ceiling) }
-    ensures { Passed guests.now waiting.now known count time latest count result }
+fn among(queue: Queue, rows: &[u16], latest: u64) -> Best
+    requires collected { Collected queue.waiting.now rows.now (length rows.now) queue.count }
+    requires latest_le_ceiling { latest ≤ ceiling }
+    ensures { let q = queue.entry in Passed q.guests.now q.waiting.now q.known q.count q.time latest q.count result }
 {
-    let mut best = nothing_yet(count * WAITING_WIDE, time);
-    let mut i: usize = 0;
-    while i < n {
-        let at = rows[i] as usize;
-        best = look(waiting, at, guests, time, latest, best);
-        i += 1;
+    let mut best = nothing_yet(queue);
+    for at in rows {
+        best = look(queue, *at as usize, latest, best);
     }
     best
 }
 
 // The place of the row at `at`, or none where all rows are passed.
-fn place_in(at: usize, used: usize) -> Found
+fn place_in(at: usize, used: usize) -> Option<usize>
     ensures { result ≡ place_in at used }
 {
     if at < used {
-        Found::At(at / WAITING_WIDE)
+        Some(at / WAITING_WIDE)
     } else {
-        Found::Nothing
+        None
     }
 }
 
@@ -140,27 +112,18 @@ fn firsts_at(best: Best, used: usize) -> Firsts
 
 // What each phase would send, in one walk for both. Where few wait it looks at every row, else at the first row of each guest. Rows are told by where their
 // numbers begin.
-pub fn first_in_line(
-    waiting: &[u64],
-    count: usize,
-    guests: &[u64],
-    known: usize,
-    time: u64,
-    latest: u64,
-) -> Firsts
-    requires count_le_most_capacity { (count ≤ most_capacity) × (count * waiting_wide ≤ length waiting.now) × (known ≤ most_guests) × (known * guest_wide ≤ length guests.now) }
-    requires owned { Owned waiting.now count known × Rising waiting.now count × SharesFit waiting.now count }
-    requires time_le_ceiling { (time ≤ ceiling) × (latest ≤ ceiling) }
-    ensures picks { Picks (λ q. due_at (settings_of (guests_of guests.now known) q) time q && leb q.ltag latest) Request.rtag (waiting_of waiting.now count) result.due }
-    ensures picks_2 { Picks (λ q. leb q.ltag time) Request.stag (waiting_of waiting.now count) result.open }
+pub fn first_in_line(queue: Queue, latest: u64) -> Firsts
+    requires { latest ≤ ceiling }
+    ensures picks { let q = queue.entry in Picks (λ r. due_at (settings_of (guests_of q.guests.now q.known) r) q.time r && leb r.ltag latest) Request.rtag (waiting_of q.waiting.now q.count) result.due }
+    ensures picks_2 { let q = queue.entry in Picks (λ r. leb r.ltag q.time) Request.stag (waiting_of q.waiting.now q.count) result.open }
 {
-    let used = count * WAITING_WIDE;
-    if count <= FEW {
-        let best = every(waiting, count, guests, known, time, latest);
+    let used = queue.count * WAITING_WIDE;
+    if queue.count <= FEW {
+        let best = every(queue, latest);
         return firsts_at(best, used);
     }
     let mut rows = [0u16; MOST_GUESTS];
-    let n = collect(waiting, count, known, &mut rows[..]);
-    let best = among(waiting, count, guests, known, &rows[..], n, time, latest);
+    let n = collect(queue, &mut rows[..]);
+    let best = among(queue, &rows[..n], latest);
     firsts_at(best, used)
 }

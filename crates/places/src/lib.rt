@@ -11,48 +11,48 @@ use table::columns::{
     COST, CREDIT, GUEST, GUEST_WIDE, ID, LIMIT, LISTCREDIT, LNEXT, LTAG, RESERVATION, RNEXT, RTAG,
     SETTINGS_WIDE, SHARES, SNEXT, STAG, WAITING_WIDE,
 };
-use tags::{gap_down, gap_up};
+use tags::{Down, Stamp, Up, gap};
 
-// A request is placed last among the waiting.
-pub fn append(
-    waiting: &mut [u64],
-    count: usize,
-    guest: u64,
-    id: u64,
-    rtag: u64,
-    ltag: u64,
-    stag: u64,
-    cost: u64,
-)
-    requires { count * waiting_wide + waiting_wide ≤ length waiting.old }
-    ensures { waiting.new ≡ appended count (record { guest = guest; id = id; rtag = rtag; ltag = ltag; stag = stag; cost = cost }) waiting.old }
-{
-    let from = count * WAITING_WIDE;
-    waiting[from + GUEST] = guest;
-    waiting[from + ID] = id;
-    waiting[from + RTAG] = rtag;
-    waiting[from + LTAG] = ltag;
-    waiting[from + STAG] = stag;
-    waiting[from + COST] = cost;
+// A request that is placed: whose, its id, its tags and its cost.
+#[derive(Clone, Copy)]
+pub struct Placing {
+    pub guest: u64,
+    pub id: u64,
+    pub stamp: Stamp,
+    pub cost: u64,
 }
 
-// After an arrival: the next numbers of `guest` become the request's tags plus its cost times the spacings.
-pub fn follow(guests: &mut [u64], guest: u64, rtag: u64, ltag: u64, stag: u64, cost: u64)
-    requires guest_wide_in_bounds { (guest * guest_wide + guest_wide ≤ length guests.old) × (guest_at guests.old guest LIMIT ≤ 1000000) }
-    requires cost_le_most_cost { cost ≤ most_cost }
-    requires rtag_bound { (rtag ≤ 4611686018427387904) × (ltag ≤ 4611686018427387904) × (stag ≤ 4611686018427387904) }
-    ensures { guests.new ≡ followed guest rtag ltag stag cost guests.old }
+// The request is placed last among the waiting.
+pub fn append(waiting: &mut [u64], count: usize, what: Placing)
+    requires { count * waiting_wide + waiting_wide ≤ length waiting.old }
+    ensures { waiting.new ≡ appended count (record { guest = what.guest; id = what.id; rtag = what.stamp.rtag; ltag = what.stamp.ltag; stag = what.stamp.stag; cost = what.cost }) waiting.old }
 {
-    let from = (guest as usize) * GUEST_WIDE;
+    let from = count * WAITING_WIDE;
+    waiting[from + GUEST] = what.guest;
+    waiting[from + ID] = what.id;
+    waiting[from + RTAG] = what.stamp.rtag;
+    waiting[from + LTAG] = what.stamp.ltag;
+    waiting[from + STAG] = what.stamp.stag;
+    waiting[from + COST] = what.cost;
+}
+
+// After an arrival: the next numbers of the request's guest become its tags plus its cost times the spacings.
+pub fn follow(guests: &mut [u64], what: Placing)
+    requires guest_wide_in_bounds { (what.guest * guest_wide + guest_wide ≤ length guests.old) × (guest_at guests.old what.guest LIMIT ≤ 1000000) }
+    requires cost_le_most_cost { what.cost ≤ most_cost }
+    requires rtag_bound { (what.stamp.rtag ≤ 4611686018427387904) × (what.stamp.ltag ≤ 4611686018427387904) × (what.stamp.stag ≤ 4611686018427387904) }
+    ensures { guests.new ≡ followed what.guest what.stamp.rtag what.stamp.ltag what.stamp.stag what.cost guests.old }
+{
+    let from = (what.guest as usize) * GUEST_WIDE;
     let reservation = guests[from + RESERVATION];
     let limit = guests[from + LIMIT];
     let shares = guests[from + SHARES];
-    let r = gap_down(cost, reservation);
-    let l = gap_up(cost, limit);
-    let s = gap_down(cost, shares);
-    guests[from + RNEXT] = rtag + r;
-    guests[from + LNEXT] = ltag + l;
-    guests[from + SNEXT] = stag + s;
+    let r = gap::<Down>(what.cost, reservation);
+    let l = gap::<Up>(what.cost, limit);
+    let s = gap::<Down>(what.cost, shares);
+    guests[from + RNEXT] = what.stamp.rtag + r;
+    guests[from + LNEXT] = what.stamp.ltag + l;
+    guests[from + SNEXT] = what.stamp.stag + s;
 }
 
 // At opening: each guest has its four settings, and its next numbers are 0.
@@ -60,21 +60,15 @@ pub fn start(guests: &mut [u64], settings: &[u64], known: usize)
     requires { (known * guest_wide ≤ length guests.old) × (known * settings_wide ≤ length settings.now) }
     ensures { guests.new ≡ started settings.now known guests.old }
 {
-    let mut i: usize = 0;
-    while i < known {
+    for i in 0..known {
         let list = i * SETTINGS_WIDE;
         let from = i * GUEST_WIDE;
-        let reservation = settings[list + RESERVATION];
-        let limit = settings[list + LIMIT];
-        let shares = settings[list + SHARES];
-        let credit = settings[list + LISTCREDIT];
-        guests[from + RESERVATION] = reservation;
-        guests[from + LIMIT] = limit;
-        guests[from + SHARES] = shares;
+        guests[from + RESERVATION] = settings[list + RESERVATION];
+        guests[from + LIMIT] = settings[list + LIMIT];
+        guests[from + SHARES] = settings[list + SHARES];
         guests[from + RNEXT] = 0;
         guests[from + LNEXT] = 0;
         guests[from + SNEXT] = 0;
-        guests[from + CREDIT] = credit;
-        i += 1;
+        guests[from + CREDIT] = settings[list + LISTCREDIT];
     }
 }

@@ -1,5 +1,5 @@
 -- What a call does to the tape; of one call of C's read or write, by what it answered.
-use Rattle.std.specs.Prelude.{ℕ, ◌<◌, ◌≤◌, true, false, List, ◌++◌, take}
+use Rattle.std.specs.Prelude.{◌≡◌, ℕ, ◌+◌, ◌%◌, ◌^◌, ◌<◌, ◌≤◌, Result, Ok, true, false, List, ◌++◌, take}
 use Rattle.tape.specs.Tape.{Tape, Holds}
 use Rattle.port.specs.declared.Moved.{Moved}
 use Rattle.port.specs.declared.Moved.TheVariants.{Bytes, Nothing, Failed}
@@ -25,3 +25,15 @@ abbrev pub Within : Moved → ℕ → Type 0
 Within (Bytes k) n = (0 < k) × (k ≤ n)
 Within Nothing n = Unit {0}
 Within Failed n = Unit {0}
+
+-- what one call did, by what std answered: so many bytes, or none
+abbrev pub Answers : {E : Type 0} → Moved → Result ℕ E → Type 0
+Answers (Bytes k) a = (a ≡ Ok k) × (0 < k)
+Answers Nothing a = a ≡ Ok 0
+Answers Failed a = Unit {0}
+
+-- the count moved on by the bytes, and stayed where there were none
+abbrev pub Counts : Moved → (n n' : ℕ) → Type 0
+Counts (Bytes k) n n' = n' ≡ (n + k) % 2 ^ 64
+Counts Nothing n n' = n' ≡ n
+Counts Failed n n' = n' ≡ n

@@ -14,45 +14,29 @@ pub struct Line {
 impl Line {
     // Puts these bytes behind the line, as far as they fit. A place is left for its end.
     pub fn put(&mut self, text: &[u8]) {
-        for byte in text {
-            let at = self.len;
-            if at < LONGEST - 1 {
-                self.bytes[at] = *byte;
-                self.len = at + 1;
-            }
-        }
+        let at = self.len.min(LONGEST - 1);
+        let fits = text.len().min(LONGEST - 1 - at);
+        self.bytes[at..at + fits].copy_from_slice(&text[..fits]);
+        self.len = at + fits;
     }
 
     // Takes away the number that std puts behind an error's text in brackets.
     pub fn cut_number(&mut self) {
-        let len = self.len;
-        let mut last = len;
-        for at in 0..LONGEST {
-            if at < len && self.bytes[at] == b'(' {
-                last = at;
-            }
-        }
-        if 0 < last && last < len {
-            self.len = last - 1;
+        if let Some(bracket) = self.shown().iter().rposition(|byte| *byte == b'(') {
+            self.len = bracket.saturating_sub(1);
         }
     }
 
     // Ends the line.
     pub fn end(&mut self) {
-        let at = self.len;
-        if at < LONGEST {
-            self.bytes[at] = b'\n';
-            self.len = at + 1;
-        }
+        let at = self.len.min(LONGEST - 1);
+        self.bytes[at] = b'\n';
+        self.len = at + 1;
     }
 
     // The line.
     pub fn shown(&self) -> &[u8] {
-        if self.len <= LONGEST {
-            &self.bytes[..self.len]
-        } else {
-            &self.bytes[..0]
-        }
+        &self.bytes[..self.len.min(LONGEST)]
     }
 }
 

@@ -1,5 +1,5 @@
 -- Where the program stands after a turn and after a read, and how it ends there. Assumes nothing.
-use Prim.Native.Nat.{ℕ, ◌+◌, ◌-◌, ◌≤◌, ◌<◌}
+use Prim.Native.Nat.{ℕ, ◌+◌, ◌≤◌, ◌<◌}
 use mathlib.Core.Path.{◌≡◌, refl, sym, ap, subst}
 use mathlib.Core.Bool.{Bool, true, false}
 use mathlib.Core.List.{List}
@@ -18,8 +18,8 @@ use Rattle.trace.specs.Event.{whole}
 use Rattle.trace.specs.Printed.{Place, lines, left, cut, printed}
 use Rattle.trace.specs.Reads.{more}
 use Rattle.prints.specs.Standing.{Decided, Stands, Standing, Went, Follows}
-use Rattle.prints.specs.declared.After.{After}
-use Rattle.prints.specs.declared.After.TheVariants.{More, Over}
+use Rattle.std.specs.declared.ops.ControlFlow.{ControlFlow}
+use Rattle.std.specs.declared.ops.ControlFlow.TheVariants.{Continue, Break}
 use Rattle.prints.proofs.Stands.{stands_right, stands-lines, stands-more, stands-none, stands_last}
 
 -- the lines of the place may be handed on
@@ -79,22 +79,22 @@ module _ (n m : ℕ) (p : Place) (w : Moved) (bs : List ℕ) (g : Goes (brought 
       }
 
 -- what followed, where it was bytes, and where it was the end
-pub follows : (a : After) (k n m : ℕ) (bs : List ℕ) → a ≡ More k → Follows a bs n m → (0 < k) × (k ≤ length bs) × Goes (brought (Bytes k) bs) n m
-follows a k n m bs e f = subst (λ (x : After). Follows x bs n m) e f
+pub follows : (a : ControlFlow End ℕ) (k n m : ℕ) (bs : List ℕ) → a ≡ Continue k → Follows a bs n m → (0 < k) × (k ≤ length bs) × Goes (brought (Bytes k) bs) n m
+follows a k n m bs e f = subst (λ (x : ControlFlow End ℕ). Follows x bs n m) e f
 
-pub ends : (a : After) (end : End) (n m : ℕ) (bs : List ℕ) → a ≡ Over end → Follows a bs n m → Decided end m
-ends a end n m bs e f = subst (λ (x : After). Follows x bs n m) e f
+pub ends : (a : ControlFlow End ℕ) (end : End) (n m : ℕ) (bs : List ℕ) → a ≡ Break end → Follows a bs n m → Decided end m
+ends a end n m bs e f = subst (λ (x : ControlFlow End ℕ). Follows x bs n m) e f
 
--- THE LOOP: each turn that is made was followed by a read that brought a byte
+-- THE LOOP: each turn that was made was followed by a read that brought a byte
 pub record Pumping (n : ℕ) (p : Place) (turns : ℕ) : Type 0 where
   pub standing : Standing false n p
-  pub count : MOST ≤ length standing.tape.read + turns
+  pub count : turns ≤ length standing.tape.read
 
 -- one turn and one read more
 pub pumps : (n m r : ℕ) (p q : Place) (turns : ℕ) (b : Bool) (w : Went b p q n m) → b ≡ true → (bs : List ℕ) (k : ℕ) → Goes (brought (Bytes k) bs) m r
-    → 0 < k → k ≤ length bs → 0 < turns → Pumping n p turns → Pumping r (more q (take k bs)) (turns - 1)
+    → 0 < k → k ≤ length bs → Pumping n p turns → Pumping r (more q (take k bs)) (turns + 1)
 unfolding read_more turned
-pumps n m r p q turns b w good bs k g some room last s =
+pumps n m r p q turns b w good bs k g some room s =
     let a = turned n m p q b w good false s.standing in
     record {
       standing = read_more m r q (Bytes k) bs g a k refl;
@@ -102,7 +102,7 @@ pumps n m r p q turns b w good bs k g some room last s =
     }
 
 -- no turn is left
-pub pumped_out : (n : ℕ) (p : Place) (turns : ℕ) → turns ≤ 0 → Pumping n p turns → Decided Unended n
+pub pumped_out : (n : ℕ) (p : Place) (turns : ℕ) → MOST ≤ turns → Pumping n p turns → Decided Unended n
 pumped_out n p turns out s =
     let a = s.standing in
-    record { tape = a.tape; held = a.held; right = stands_right a.tape p a.stands; ends = omega (arith, s.count) }
+    record { tape = a.tape; held = a.held; right = stands_right a.tape p a.stands; ends = omega (arith, s.count, out) }

@@ -16,16 +16,16 @@ use Rattle.port.specs.declared.Moved.TheVariants.{Bytes, Nothing}
 use Rattle.stream.specs.Runs.{written}
 use Rattle.stream.specs.Outcome.{May, Right, Lacks, First}
 use Rattle.stream.proofs.Firsts.{full_or_all}
-use Rattle.trace.specs.Header.{body, header_of}
+use Rattle.trace.specs.Header.{body, header_of, Header}
 use Rattle.trace.specs.Event.{events_of, whole}
 use Rattle.trace.specs.Printed.{Place, answers_to, lines_from, lines, left, cut, finished, begun, printed}
 use Rattle.trace.specs.Reads.{joined, more, as_read, printed_first, printed_reads}
-use Rattle.trace.specs.declared.Header.{Header}
-use Rattle.trace.specs.declared.Header.TheVariants.{Opened, Refused as Unopened}
 use Rattle.trace.proofs.FirstRead.{longest, longest-fits}
 use Rattle.trace.proofs.Split.{reads_joined}
 use Rattle.trace.proofs.AnySplit.{any_split}
 use Rattle.prints.specs.Standing.{Stands}
+use Rattle.std.specs.Prelude.{Ok, Err}
+use Rattle.trace.specs.declared.Opened.{Opened}
 
 -- THE HEADER
 
@@ -47,7 +47,7 @@ whole_or_all : (n : ℕ) (bs later : List ℕ) (f : First n bs) → May f.tape l
 whole_or_all n bs later f may = ⊎_elim (λ full. inl (longest-fits (length bs) (omega arith))) inr (full_or_all n bs later f may)
 
 -- a bad header: its line is all that is printed
-pub refused-lacks : (n : ℕ) (bs : List ℕ) (f : First n bs) (why : Refusal) → header_of bs ≡ Unopened why → Lacks printed (refusal_line why) f.tape
+pub refused-lacks : (n : ℕ) (bs : List ℕ) (f : First n bs) (why : Refusal) → header_of bs ≡ Err why → Lacks printed (refusal_line why) f.tape
 refused-lacks n bs f why e later may =
     let x = first_more bs later (whole_or_all n bs later f may) in
     ap (λ (l : List ℕ). printed (l ++ later)) f.read
@@ -56,14 +56,14 @@ refused-lacks n bs f why e later may =
     ∙ ap (λ (l : List ℕ). l ++ refusal_line why) (sym f.wrote)
 
 -- a good one: the header line, and then the lines from where the events begin
-pub opened-stands : (n : ℕ) (bs : List ℕ) (f : First n bs) (v d g c r : ℕ) → header_of bs ≡ Opened v d g c r → Stands (written title_line f.tape) (begun v d g c r bs)
-opened-stands n bs f v d g c r e later may =
+pub opened-stands : (n : ℕ) (bs : List ℕ) (f : First n bs) (o : Opened) → header_of bs ≡ Ok o → Stands (written title_line f.tape) (begun o bs)
+opened-stands n bs f o e later may =
     let x = first_more bs later (whole_or_all n bs later f may) in
     ap (λ (l : List ℕ). printed (l ++ later)) f.read
     ∙ sym x.1
     ∙ ap (λ (h : Header). printed_first h bs x.0) e
-    ∙ ap (λ (l : List ℕ). title_line ++ l) (reads_joined x.0 (begun v d g c r bs) ∙ ap (λ (l : List ℕ). finished (more (begun v d g c r bs) l)) x.2)
-    ∙ ap (λ (l : List ℕ). (l ++ title_line) ++ finished (more (begun v d g c r bs) later)) (sym f.wrote)
+    ∙ ap (λ (l : List ℕ). title_line ++ l) (reads_joined x.0 (begun o bs) ∙ ap (λ (l : List ℕ). finished (more (begun o bs) l)) x.2)
+    ∙ ap (λ (l : List ℕ). (l ++ title_line) ++ finished (more (begun o bs) later)) (sym f.wrote)
 
 -- A PLACE
 

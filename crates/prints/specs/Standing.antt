@@ -9,8 +9,8 @@ use Rattle.stream.specs.Outcome.{MOST, May, Ran}
 use Rattle.stream.specs.declared.End.{End}
 use Rattle.trace.specs.Printed.{Place, lines, left, finished, printed}
 use Rattle.trace.specs.Reads.{more}
-use Rattle.prints.specs.declared.After.{After}
-use Rattle.prints.specs.declared.After.TheVariants.{More, Over}
+use Rattle.std.specs.declared.ops.ControlFlow.{ControlFlow}
+use Rattle.std.specs.declared.ops.ControlFlow.TheVariants.{Continue, Break}
 
 -- THE PROGRAM: what was written is right, and all of it where the program ends well
 abbrev pub Decided : End → ℕ → Type 0
@@ -37,6 +37,6 @@ abbrev pub Rests : (n number : ℕ) → List ℕ → Type 0
 Rests n number bs = (v : ℕ) × (u : Table) × Standing false n (record { version = v; bytes = bs; table = u; number = number })
 
 -- what follows a turn: the first bytes of bs were read, or the program ends
-abbrev pub Follows : After → List ℕ → (n n' : ℕ) → Type 0
-Follows (More k) bs n n' = (0 < k) × (k ≤ length bs) × Goes (brought (Bytes k) bs) n n'
-Follows (Over end) bs n n' = Decided end n'
+abbrev pub Follows : ControlFlow End ℕ → List ℕ → (n n' : ℕ) → Type 0
+Follows (Continue k) bs n n' = (0 < k) × (k ≤ length bs) × Goes (brought (Bytes k) bs) n n'
+Follows (Break end) bs n n' = Decided end n'

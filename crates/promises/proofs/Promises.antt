@@ -1,5 +1,6 @@
 -- WHAT THE PRODUCT PROMISES, on one page: the demands over every public face, in one record. The functions themselves promise the equations
 -- `called` and `opened` (crates/gate/specs/Promise.antt); what these say is here. Kept.antt has its one inhabitant.
+use Rattle.std.specs.Prelude.{None, Option, Err}
 use Prim.Native.Nat.{ℕ, ◌+◌, ◌*◌, ◌^◌, ◌≤◌, ◌<◌}
 use mathlib.Core.Path.{◌≡◌}
 use mathlib.Core.Bool.{Bool, true, false, not}
@@ -35,8 +36,6 @@ use Rattle.rules.specs.declared.Outcome.{Outcome}
 use Rattle.rules.specs.declared.Refusal.{Refusal}
 use Rattle.rules.specs.declared.Answer.{Answer}
 use Rattle.rules.specs.declared.Answer.TheVariants.{Nothing, Sent, Refused}
-use Rattle.rules.specs.declared.Wake.{Wake}
-use Rattle.rules.specs.declared.Wake.TheVariants.{Never}
 use Rattle.rules.proofs.Readings.{Readings}
 use Rattle.rules.proofs.Bursts.{Bursts}
 use Rattle.rules.proofs.Several.{Several}
@@ -75,15 +74,13 @@ use Rattle.trace.specs.Answers.{event_bytes, bytes_at, table_at, reads_of, answe
 use Rattle.trace.specs.Cases.{header_cases, Faulty, line_cases}
 use Rattle.trace.proofs.Runs.{run}
 use Rattle.moved.specs.Result.{moved_to as moved_bytes}
-use Rattle.moved.specs.Moves.{bad_in, dear_in, move_tests, moved_shown, answer_to, moves}
+use Rattle.moved.specs.Moves.{bad_in, dear_in, move_tests, Moved, moved_shown, answer_to, moves}
 use Rattle.moved.specs.Cases.{Dear, move_cases, FirstEvent, WellFormed}
-use Rattle.moved.specs.declared.Moved.{Moved}
 use Rattle.moved.proofs.Exactly.{refusal_in}
 use Rattle.moved.proofs.Theorems.{written_in}
 use Rattle.salvage.specs.Result.{kept_in, rows_in, salvaged, list_of}
-use Rattle.salvage.specs.Salvages.{salvaged_shown, salvages}
+use Rattle.salvage.specs.Salvages.{Salvaged, salvaged_shown, salvages}
 use Rattle.salvage.specs.Cases.{events_in, reason_at, pieces, row_at, Rightly, Clean, salvage_cases, Untouched, InOrder}
-use Rattle.salvage.specs.declared.Salvaged.{Salvaged}
 use Rattle.judge.specs.Acceptable.{head_line, lines_of, Acceptable, FirstWrong}
 use Rattle.judge.specs.Judging.{wrong_at, accepted as accepted_lines, judged_of}
 use Rattle.judge.specs.declared.Judged.{Judged as JudgedLines}
@@ -93,7 +90,6 @@ use Rattle.batch.specs.Rows.{count_of, answer_wide}
 use Rattle.batch.specs.Promise.{BatchIn, outcomes, batch_tests, batched_in, seen_batch_in}
 use Rattle.batch.specs.Batches.{Batch, batch_cases, Refuses as RefusesAll, Takes as TakesAll, goods, good, all_done, held_batches, free_answers}
 use Rattle.batch.proofs.OneByOne.{AsCalls}
-use Rattle.gate.specs.declared.Judged.TheVariants.{Bad as Barred}
 use Rattle.arrays.specs.declared.Site.{Site}
 use Rattle.arrays.specs.declared.Ask.{Ask}
 use Rattle.arrays.specs.Promise.{HandedAt, seen_at, kept_at, asked, begun}
@@ -127,8 +123,8 @@ pub record OnTheRules : Type 0 where
   pub no_place_no_send : (t : Table) (e : Event) → accepted t e ≡ true → finds_room t e ≡ false → (step t e).answer ≡ Nothing
   pub wakes : (t : Table) (e : Event) → accepted t e ≡ true → Wakes (step t e).table (told (step t e))
   pub wakes-none : (t : Table) (e : Event) → accepted t e ≡ true
-      → (told (step t e) ≡ Never) ↔ (((step t e).table.setup.depth ≤ length (step t e).table.flight) ⊎ ((step t e).table.waiting ≡ []))
-  pub wakes_once : (t : Table) → sound t ≡ true → (w x : Wake) → Wakes t w → Wakes t x → w ≡ x
+      → (told (step t e) ≡ None) ↔ (((step t e).table.setup.depth ≤ length (step t e).table.flight) ⊎ ((step t e).table.waiting ≡ []))
+  pub wakes_once : (t : Table) → sound t ≡ true → (w x : Option ℕ) → Wakes t w → Wakes t x → w ≡ x
   pub worth : (t : Table) (es : List Event) → sound t ≡ true → Worth t es (answers t es)
   pub none_missed : (g : ℕ) (t : Table) (es : List Event) → sound t ≡ true → idle t g ≡ true → length (filter (own g) (passages es (answers t es))) ≡ length (left g (answers t es))
   pub credit_0 : (now : ℕ) (h : Guest) → h.settings.credit ≡ 0 → (idle : Bool) → share_tag idle now h ≡ (if idle then now else tag_at now h.snext)
@@ -175,15 +171,15 @@ pub record OverLent (v : Lending) (lawful : Lawful v) : Type 0 where
   pub worth : (h : Host v) (es : List Event) → firm v h ≡ true → all narrow es ≡ true → Worth (shows v h) es (replies v h es)
   -- document 02, K2: an accepted call carries when to wake the gate that it leaves; an accepted opening, in which nothing waits, none
   pub wakes : (h : Host v) (e : Event) → firm v h ≡ true → taken (call v e h).0.answer ≡ true → Wakes (shows v (holds v (call v e h))) (call v e h).0.wake
-  pub opening-wakes : (d n c rule : ℕ) (ss : List ℕ) (gs : List v.Cell) (ws fs : List ℕ) → taken (opened_in v d n c rule ss gs ws fs).0.answer ≡ true → (opened_in v d n c rule ss gs ws fs).0.wake ≡ Never
+  pub opening-wakes : (d n c rule : ℕ) (ss : List ℕ) (gs : List v.Cell) (ws fs : List ℕ) → taken (opened_in v d n c rule ss gs ws fs).0.answer ≡ true → (opened_in v d n c rule ss gs ws fs).0.wake ≡ None
 
 -- OF A BATCH, in a way of lending guests
 
 pub record OfABatch (v : Lending) : Type 0 where
   -- the whole call is refused 16 or 17 exactly where document 02 says, and then nothing is done; places past the last answer stay; any two outcomes that the promise admits are equal
   pub exactly : (es : List ℕ) (g : Gate) (gs : List v.Cell) (ws fs bs : List ℕ) → RefusedExactly (batch_cases es bs) (RefusesAll (batched_in v es g gs ws fs bs).0) (TakesAll (batched_in v es g gs ws fs bs).0)
-  pub refusal_keeps : (es : List ℕ) (g : Gate) (gs : List v.Cell) (ws fs bs : List ℕ) (r : Refusal) → (batched_in v es g gs ws fs bs).0.found ≡ Barred r
-      → batched_in v es g gs ws fs bs ≡ (record { gate = g; found = Barred r }, gs, ws, fs, bs)
+  pub refusal_keeps : (es : List ℕ) (g : Gate) (gs : List v.Cell) (ws fs bs : List ℕ) (r : Refusal) → (batched_in v es g gs ws fs bs).0.found ≡ Err r
+      → batched_in v es g gs ws fs bs ≡ (record { gate = g; found = Err r }, gs, ws, fs, bs)
   pub spare_places : (es : List ℕ) (g : Gate) (gs : List v.Cell) (ws fs bs : List ℕ) → drop (count_of es * answer_wide) (batched_in v es g gs ws fs bs).4 ≡ drop (count_of es * answer_wide) bs
   pub once : (h k : BatchIn v) (es : List ℕ) (g : Gate) (gs : List v.Cell) (ws fs bs : List ℕ)
       → seen_batch_in v h ≡ seen_batch_in v (batched_in v es g gs ws fs bs) → seen_batch_in v k ≡ seen_batch_in v (batched_in v es g gs ws fs bs) → h ≡ k
@@ -216,7 +212,7 @@ pub record ThroughC : Type 0 where
   pub called_once : (b c : Back) (h : Lent) (e : Event) → b ≡ through e h → c ≡ through e h → b ≡ c
   pub opened_once : (b c : Back) (seven : List ℕ) (d n m rule : ℕ) (ss gs ws fs : List ℕ) → b ≡ hosted seven (opened d n m rule ss gs ws fs) → c ≡ hosted seven (opened d n m rule ss gs ws fs) → b ≡ c
   pub four_once : (a b : Answer) → four_of a ≡ four_of b → a ≡ b
-  pub fifth_once : (w x : Wake) → Timely w → Timely x → fifth_of w ≡ fifth_of x → w ≡ x
+  pub fifth_once : (w x : Option ℕ) → Timely w → Timely x → fifth_of w ≡ fifth_of x → w ≡ x
   pub in_order : (n : ℕ) (es : List Event) (h : Lent) → length h.seven ≡ 7
       → (got : List Answer) × (fours h es ≡ map four_of got) × (waits n (shown_by h) ++ took n es got ≡ left n got ++ waits n (shown_by (held_by h es)))
   pub demand_3 : (h : Lent) (es : List Event) → length h.seven ≡ 7 → firm numbers (inside h) ≡ true → all narrow es ≡ true → (i : ℕ)
@@ -226,7 +222,7 @@ pub record ThroughC : Type 0 where
       → (got : List Answer) × (fours h es ≡ map four_of got) × Worth (shown_by h) es got
   -- document 02, K2: the fifth number, in a refusal 0
   pub wakes : (h : Lent) (e : Event) → length h.seven ≡ 7 → firm numbers (inside h) ≡ true → Takes (through e h).0
-      → (w : Wake) × Wakes (shown_by (kept (through e h))) w × Timely w × ((through e h).0.wake ≡ fifth_of w)
+      → (w : Option ℕ) × Wakes (shown_by (kept (through e h))) w × Timely w × ((through e h).0.wake ≡ fifth_of w)
   pub refused-wakes : (h : Lent) (e : Event) (n : ℕ) → Refuses (through e h).0 n → (through e h).0.wake ≡ 0
   pub opening-wakes : (seven : List ℕ) (d n c rule : ℕ) (ss gs ws fs : List ℕ) → Takes (hosted seven (opened d n c rule ss gs ws fs)).0 → (hosted seven (opened d n c rule ss gs ws fs)).0.wake ≡ never
   pub refused-opening-wakes : (seven : List ℕ) (d n c rule : ℕ) (ss gs ws fs : List ℕ) (m : ℕ) → Refuses (hosted seven (opened d n c rule ss gs ws fs)).0 m → (hosted seven (opened d n c rule ss gs ws fs)).0.wake ≡ 0

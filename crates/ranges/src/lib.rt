@@ -24,36 +24,29 @@ const MOST_DELTA: u64 = 65535;
 pub fn within(low: u64, high: u64, n: u64) -> bool
     ensures { result ≡ within_of low high n }
 {
-    if n < low {
-        return false;
-    }
-    n <= high
+    (low..=high).contains(&n)
 }
 
 // Depth, guests and capacity lie in their ranges.
+#[tactic(auto, unfolding(rules::specs::Sound::counted))]
 pub fn is_counted(depth: u64, guests: u64, capacity: u64) -> bool
     ensures { result ≡ counted depth guests capacity }
 {
-    if !within(1, MOST_DEPTH as u64, depth) {
-        return false;
-    }
-    if !within(1, MOST_GUESTS as u64, guests) {
-        return false;
-    }
-    within(1, MOST_CAPACITY as u64, capacity)
+    within(1, MOST_DEPTH as u64, depth)
+        && within(1, MOST_GUESTS as u64, guests)
+        && within(1, MOST_CAPACITY as u64, capacity)
 }
 
 // There is such a rule for limits.
+#[tactic(auto, unfolding(rules::specs::Sound::ruled))]
 pub fn is_ruled(rule: u64) -> bool
     ensures { result ≡ ruled rule }
 {
-    if rule == 1 {
-        return true;
-    }
-    rule == 2
+    rule == 1 || rule == 2
 }
 
 // A request may cost this much.
+#[tactic(auto, unfolding(rules::specs::Sound::fair))]
 pub fn is_fair(cost: u64) -> bool
     ensures { result ≡ fair cost }
 {
@@ -61,34 +54,21 @@ pub fn is_fair(cost: u64) -> bool
 }
 
 // A delta and a rho may be this much.
+#[tactic(auto, unfolding(rules::specs::Sound::spread))]
 pub fn is_spread(delta: u64, rho: u64) -> bool
     ensures { result ≡ spread delta rho }
 {
-    if !within(1, MOST_DELTA, delta) {
-        return false;
-    }
-    rho <= delta
+    within(1, MOST_DELTA, delta) && rho <= delta
 }
 
 // One guest's settings lie in their ranges. A reservation above a non-zero limit is bad; equal is good.
+#[tactic(auto, unfolding(rules::specs::Sound::settled))]
 pub fn is_settled(reservation: u64, limit: u64, shares: u64, credit: u64) -> bool
     ensures { result ≡ settled (record { reservation = reservation; limit = limit; shares = shares; credit = credit }) }
 {
-    if MOST < reservation {
-        return false;
-    }
-    if MOST < limit {
-        return false;
-    }
-    if !within(1, MOST, shares) {
-        return false;
-    }
-    if MOST_CREDIT < credit {
-        return false;
-    }
-    if 0 < limit {
-        reservation <= limit
-    } else {
-        true
-    }
+    reservation <= MOST
+        && limit <= MOST
+        && within(1, MOST, shares)
+        && credit <= MOST_CREDIT
+        && (limit == 0 || reservation <= limit)
 }

@@ -1,4 +1,5 @@
 -- A batch over numbers on the records in use, brought home, is what a batch over records promises: event by event, however many there are. Assumes nothing.
+use Rattle.std.specs.Prelude.{Ok, Some, None, Option}
 use Prim.Native.Nat.{ℕ, ◌+◌, ◌-◌, ◌*◌, ◌≤◌, ◌<◌}
 use mathlib.Core.Path.{◌≡◌, refl, sym, ap, ◌∙◌, subst}
 use mathlib.Core.List.{List, [], ◌∷◌, ◌++◌}
@@ -18,10 +19,7 @@ use Rattle.table.specs.View.{guest_form}
 use Rattle.table.specs.ViewLaws.{guest_exact}
 use Rattle.gate.specs.Promise.{numbers, HandedIn, called_in}
 use Rattle.gate.specs.Calls.{Host, holds}
-use Rattle.gate.specs.declared.Judged.TheVariants.{Good as Accepted}
 use Rattle.gate.proofs.Lending.{numbers-lawful}
-use Rattle.batch.specs.declared.Read.{Read}
-use Rattle.batch.specs.declared.Read.TheVariants.{Good, Bad}
 use Rattle.batch.specs.declared.Batched.{Batched}
 use Rattle.batch.specs.Rows.{events_in, answers_over}
 use Rattle.batch.specs.Promise.{BatchIn, SeenBatchIn, seen_batch_in, host_of, one, held_after, outcomes, batch_tests, batched_by, batched_in}
@@ -31,6 +29,7 @@ use Rattle.records.specs.Promise.{records}
 use Rattle.records.specs.Batch.{batch_in_part}
 use Rattle.records.proofs.Copies.{count, rows, part, left, brought, homed, count_room, length_part, length-brought, kept}
 use Rattle.records.proofs.Home.{called-home}
+use Rattle.rules.specs.declared.Event.{Event}
 
 -- ROWS
 
@@ -104,21 +103,21 @@ module _ (n : ℕ) (rs : List Guest) where
   home h = host_of records h.gate (back h.guests) h.waiting h.flight
 
   module _ (c d : ℕ) where
-    one-fits : (r : Read) (h : Host numbers) → SetTo n c d h.gate → Fits h.guests → Fits (one numbers r h).1
+    one-fits : (r : Option Event) (h : Host numbers) → SetTo n c d h.gate → Fits h.guests → Fits (one numbers r h).1
     one-fits r h s fits = (one_beyond numbers numbers-lawful n c d r h s).guest-length ∙ fits
 
     -- an event over numbers, brought home
-    one-home : (r : Read) (h : Host numbers) → SetTo n c d h.gate → Fits h.guests → homed n rs (one numbers r h) ≡ one records r (home h)
-    one-home (Good e) h s fits =
+    one-home : (r : Option Event) (h : Host numbers) → SetTo n c d h.gate → Fits h.guests → homed n rs (one numbers r h) ≡ one records r (home h)
+    one-home (Some e) h s fits =
         let x = called_in numbers e h.gate h.guests h.waiting h.flight in
-        (λ i. (x.0, sym (back-again h.guests x.1 (one-fits (Good e) h s fits)) i, x.2, x.3))
+        (λ i. (x.0, sym (back-again h.guests x.1 (one-fits (Some e) h s fits)) i, x.2, x.3))
         ∙ ap (λ (ys : List ℕ). homed n (back h.guests) (called_in numbers e h.gate ys h.waiting h.flight)) (sym (part-again h.guests fits))
         ∙ subst (λ (m : ℕ). homed m (back h.guests) (called_in numbers e h.gate (part m (back h.guests)) h.waiting h.flight) ≡ called_in records e h.gate (back h.guests) h.waiting h.flight)
         s.guests (called-home h.gate (back h.guests) h.waiting h.flight e)
-    one-home Bad h s fits = refl
+    one-home None h s fits = refl
 
     -- any number of them: what they leave, and what they come to
-    held-home : (es : List Read) (h : Host numbers) → SetTo n c d h.gate → Fits h.guests
+    held-home : (es : List (Option Event)) (h : Host numbers) → SetTo n c d h.gate → Fits h.guests
         → (home (held_after numbers h es) ≡ held_after records (home h) es) × (outcomes numbers h es ≡ outcomes records (home h) es)
     unfolding held_after outcomes
     held-home [] h s fits = (refl, refl)
@@ -150,7 +149,7 @@ module _ (g : Gate) (rs : List Guest) (ws fs bs : List ℕ) (es : List ℕ) wher
       go : (w : Verdict) → homed_batch n rs (batched_by numbers w es h bs) ≡ batched_by records w es (host_of records g rs ws fs) bs
       go accept =
           let p = held-home n rs g.setup.capacity g.setup.depth (events_in es) h (set_to g) (length_part n rs) in
-          (λ i. (record { gate = (p.0 i).gate; found = Accepted }, (p.0 i).guests, (p.0 i).waiting, (p.0 i).flight, answers_over (p.1 i) bs))
+          (λ i. (record { gate = (p.0 i).gate; found = Ok tt }, (p.0 i).guests, (p.0 i).waiting, (p.0 i).flight, answers_over (p.1 i) bs))
           ∙ ap (λ (l : List Guest). batched_by records accept es (host_of records g l ws fs) bs) (kept n rs)
       go (refuse r) = ap (λ (l : List Guest). batched_by records (refuse r) es (host_of records g l ws fs) bs) (kept n rs)
 
@@ -171,3 +170,8 @@ batch_comes_home n rs does p home r k xs zs ws fs bs hs used unpacked packed e =
     ∙ batch-at-home n rs does p home r zs ws fs bs
     (e ∙ ap (λ (m : ℕ). seen_batch_in numbers (batch_in_part m xs does)) used
     ∙ ap (λ (l : List ℕ). seen_batch_in numbers (batch_in_part (count n rs) l does)) (unpacked ∙ ap (λ (m : ℕ). over_rows guest_form m (take m rs) (replicate guests_long 0)) used))
+
+-- a batch on the rows in use, seen with the rest of the rows behind them
+pub batch_with_rest : (a b : BatchIn numbers) (rest : List ℕ) → seen_batch_in numbers a ≡ seen_batch_in numbers b
+    → seen_batch_in numbers (a.0, a.1 ++ rest, a.2, a.3, a.4) ≡ seen_batch_in numbers (b.0, b.1 ++ rest, b.2, b.3, b.4)
+batch_with_rest a b rest e = ap (λ (s : SeenBatchIn numbers). (s.0, s.1, s.2 ++ rest, s.3, s.4, s.5)) e

@@ -177,3 +177,7 @@ comes_home n rs does p home r k xs zs ws fs hs used unpacked packed e =
     ∙ at_home n rs does p home r zs ws fs
     (e ∙ ap (λ (m : ℕ). seen_in numbers (in_part m xs does)) used
     ∙ ap (λ (l : List ℕ). seen_in numbers (in_part (count n rs) l does)) (unpacked ∙ ap (λ (m : ℕ). over_rows guest_form m (take m rs) (replicate guests_long 0)) used))
+
+-- a call on the rows in use, seen with the rest of the rows behind them
+pub with_rest : (a b : HandedIn numbers) (rest : List ℕ) → seen_in numbers a ≡ seen_in numbers b → seen_in numbers (a.0, a.1 ++ rest, a.2, a.3) ≡ seen_in numbers (b.0, b.1 ++ rest, b.2, b.3)
+with_rest a b rest e = ap (λ (s : SeenIn numbers). (s.0, s.1, s.2, s.3 ++ rest, s.4, s.5)) e

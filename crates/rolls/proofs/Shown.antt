@@ -9,7 +9,6 @@ use Rattle.rules.specs.declared.Gate.{Gate}
 use Rattle.table.specs.Columns.{waiting_wide}
 use Rattle.table.specs.View.{table_of, Known}
 use Rattle.windows.proofs.Longer.{front-known, front-shown, longer_known, longer_shown}
-use Rattle.trace.specs.declared.Read.{Read}
 use Rattle.book.specs.Page.{Page}
 use Rattle.book.specs.Stubs.{Stub, stub}
 use Rattle.tally.specs.Kept.{book_of, figures_of, page_of}
@@ -17,6 +16,7 @@ use Rattle.tally.proofs.Stubs.{stub_at, no_stub, stubs_tab, moved_match}
 use Rattle.pages.specs.Sheet.{page_after}
 use Rattle.pages.specs.Standing.{Firm}
 use Rattle.rolls.proofs.Staged.{same_places}
+use Rattle.trace.specs.Event.{Read}
 
 -- two waiting tables that show the same requests
 module _ (g : Gate) (gs ws vs fs bk fg : List ℕ) (e : table_of g gs vs fs ≡ table_of g gs ws fs) where

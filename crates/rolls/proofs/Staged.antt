@@ -11,8 +11,7 @@ use Rattle.table.specs.Columns.{waiting_wide}
 use Rattle.index.specs.Index.{Beside, shifted, Snug}
 use Rattle.windows.specs.Window.{Window}
 use Rattle.windows.proofs.Staged.{Staged, staged_next}
-use Rattle.trace.specs.Event.{event_of, events_of}
-use Rattle.trace.specs.declared.Read.{Read}
+use Rattle.trace.specs.Event.{event_of, events_of, Read}
 use Rattle.trace.proofs.Runs.{run}
 use Rattle.book.specs.Page.{Page}
 use Rattle.book.proofs.Turning.{turned-after}

@@ -8,22 +8,21 @@ ghost use Rattle.windows.specs.Window.{spare, Window};
 ghost use Rattle.trace.specs.Event.{event_of, events_of, whole};
 ghost use Rattle.tally.specs.Kept.{page_of};
 ghost use Rattle.pages.specs.Sheet.{read, page_after, onward};
-ghost use Rattle.pages.specs.Standing.{Listed, stand_of, Firm, Standing, Closes};
+ghost use Rattle.pages.specs.Standing.{Listed, Firm, Standing, Closes};
+ghost use Rattle.rolls.specs.Ledger.{page_in, IsFirm, stand_of};
 
-use booked::After;
-use buffers::shift;
+use crate::ledger::Ledger;
+use buffers::{BUFFER_LONG, TURNS};
 use index::{INDEX_WIDE, MOST_WALKED};
 use pages::output::last;
 use pages::put_guests;
 use port::{Moved, Streams};
 use rules::Gate;
 use stream::End;
-use table::columns::WAITING_WIDE;
-use trace::Read;
-use windows::WINDOW_LONG;
+use table::columns::{WAITING_LONG, WAITING_WIDE};
+use windows::{After, Ended, WINDOW_LONG};
 
-// More turns than any run uses up: nothing says that an input ends.
-const TURNS: u64 = 281474976710656;
+pub mod ledger; // what a sheet is made from
 
 // The event whose bytes begin at `from` turns the page; a bad one is passed over.
 fn one(
@@ -49,10 +48,10 @@ fn one(
 {
     let event = items::read_event(version, &bytes[from..from + 14]);
     match event {
-        Read::Good(good) => booked::turn(
+        Some(good) => booked::turn(
             number, gate, guests, waiting, flight, book, figures, good, index,
         ),
-        Read::Bad => After { gate, gone: 0 },
+        None => After { gate, gone: 0 },
     }
 }
 
@@ -93,13 +92,6 @@ fn one_in(
     )
 }
 
-// The gate after a run of events, and the row of the window from which on the waiting table stands.
-#[derive(Drop)]
-pub struct TurnedIn {
-    pub gate: Gate,
-    pub start: usize,
-}
-
 // All whole events of the bytes turn the page, on the waiting table that stands at the front of a window; with no index it stays there.
 fn turn_in(
     version: u64,
@@ -113,7 +105,7 @@ fn turn_in(
     book: &mut [u64],
     figures: &mut [u64],
     index: &mut [u16],
-) -> TurnedIn
+) -> Ended
     requires bytes_bound { number + length bytes.now < 2 ^ 64 }
     requires size_in_bounds { 0 < length index.old → spare * waiting_wide + size ≤ length window.old }
     requires by_index { (ws : List ℕ) × Window size 0 window.old ws × Firm number first guests.old ws flight.old book.old figures.old × Beside ws index.old first.waiting × Snug first ws index.old }
@@ -122,8 +114,7 @@ fn turn_in(
     let n = bytes.len() / 14;
     let mut gate = first;
     let mut start: usize = 0;
-    let mut i: usize = 0;
-    while i < n {
+    for i in 0..n {
         start = windows::settle(window, start, size);
         let after = one_in(
             version,
@@ -142,116 +133,81 @@ fn turn_in(
         );
         gate = after.gate;
         start += after.gone;
-        i += 1;
     }
-    TurnedIn { gate, start }
+    Ended { gate, start }
 }
 
-// All whole events of the bytes turn the page, on the waiting table as it is lent: so few wait that each event walks them.
-fn turn_walked(
-    version: u64,
-    bytes: &[u8],
-    number: u64,
-    first: Gate,
-    guests: &mut [u64],
-    waiting: &mut [u64],
-    flight: &mut [u64],
-    book: &mut [u64],
-    figures: &mut [u64],
-) -> Gate
+// All whole events of the bytes turn the page, on the waiting table as it stands: so few wait that each event walks them.
+fn turn_walked(version: u64, bytes: &[u8], number: u64, ledger: &mut Ledger)
     requires bytes_bound { number + length bytes.now < 2 ^ 64 }
-    requires firm { Firm number first guests.old waiting.old flight.old book.old figures.old }
-    ensures figures_after { page_of result guests.new waiting.new flight.new book.new figures.new ≡ page_after (page_of first guests.old waiting.old flight.old book.old figures.old) (events_of version (whole bytes.now) bytes.now) }
-    ensures firm_2 { Firm (number + whole bytes.now) result guests.new waiting.new flight.new book.new figures.new }
+    requires firm { IsFirm number ledger.old }
+    ensures page_after { page_in ledger.new ≡ page_after (page_in ledger.old) (events_of version (whole bytes.now) bytes.now) }
+    ensures firm_2 { IsFirm (number + whole bytes.now) ledger.new }
 {
-    let mut none = [0u16; 1];
-    let size = waiting.len();
+    let tables = &mut ledger.tables;
     let turned = turn_in(
         version,
         bytes,
         number,
-        first,
-        guests,
-        waiting,
-        size,
-        flight,
-        book,
-        figures,
-        &mut none[..0],
+        tables.gate,
+        &mut tables.guests,
+        &mut tables.waiting,
+        WAITING_LONG,
+        &mut tables.flight,
+        &mut ledger.book,
+        &mut ledger.figures,
+        &mut [],
     );
-    turned.gate
+    tables.gate = turned.gate;
 }
 
 // All whole events of the bytes turn the page, on a copy of the waiting table in a window; one walk builds the index of its rows for all of them.
-fn turn_beside(
-    version: u64,
-    bytes: &[u8],
-    number: u64,
-    first: Gate,
-    guests: &mut [u64],
-    waiting: &mut [u64],
-    flight: &mut [u64],
-    book: &mut [u64],
-    figures: &mut [u64],
-) -> Gate
+fn turn_beside(version: u64, bytes: &[u8], number: u64, ledger: &mut Ledger)
     requires bytes_bound { number + length bytes.now < 2 ^ 64 }
-    requires firm { Firm number first guests.old waiting.old flight.old book.old figures.old }
-    ensures figures_after { page_of result guests.new waiting.new flight.new book.new figures.new ≡ page_after (page_of first guests.old waiting.old flight.old book.old figures.old) (events_of version (whole bytes.now) bytes.now) }
-    ensures firm_2 { Firm (number + whole bytes.now) result guests.new waiting.new flight.new book.new figures.new }
+    requires firm { IsFirm number ledger.old }
+    ensures page_after { page_in ledger.new ≡ page_after (page_in ledger.old) (events_of version (whole bytes.now) bytes.now) }
+    ensures firm_2 { IsFirm (number + whole bytes.now) ledger.new }
 {
-    let size = first.setup.capacity as usize * WAITING_WIDE;
-    let rows = first.waiting as usize;
+    let tables = &mut ledger.tables;
+    let size = tables.gate.setup.capacity as usize * WAITING_WIDE;
+    let rows = tables.gate.waiting as usize;
     let mut window = [0u64; WINDOW_LONG];
     let mut index = [0u16; INDEX_WIDE];
-    windows::open(&waiting[..], size, rows, &mut window, &mut index);
+    windows::open(&tables.waiting, size, rows, &mut window, &mut index);
     let turned = turn_in(
         version,
         bytes,
         number,
-        first,
-        guests,
+        tables.gate,
+        &mut tables.guests,
         &mut window,
         size,
-        flight,
-        book,
-        figures,
+        &mut tables.flight,
+        &mut ledger.book,
+        &mut ledger.figures,
         &mut index,
     );
-    windows::close(&window, turned.start, size, waiting);
-    turned.gate
+    windows::close(&window, turned.start, size, &mut tables.waiting);
+    tables.gate = turned.gate;
 }
 
 // All whole events of the bytes turn the page: with an index of the waiting rows, unless so few wait that they are as well walked.
-fn turn_all(
-    version: u64,
-    bytes: &[u8],
-    number: u64,
-    first: Gate,
-    guests: &mut [u64],
-    waiting: &mut [u64],
-    flight: &mut [u64],
-    book: &mut [u64],
-    figures: &mut [u64],
-) -> Gate
+fn turn_all(version: u64, bytes: &[u8], number: u64, ledger: &mut Ledger)
     requires bytes_bound { number + length bytes.now < 2 ^ 64 }
-    requires firm { Firm number first guests.old waiting.old flight.old book.old figures.old }
-    ensures figures_after { page_of result guests.new waiting.new flight.new book.new figures.new ≡ page_after (page_of first guests.old waiting.old flight.old book.old figures.old) (events_of version (whole bytes.now) bytes.now) }
-    ensures firm_2 { Firm (number + whole bytes.now) result guests.new waiting.new flight.new book.new figures.new }
+    requires firm { IsFirm number ledger.old }
+    ensures page_after { page_in ledger.new ≡ page_after (page_in ledger.old) (events_of version (whole bytes.now) bytes.now) }
+    ensures firm_2 { IsFirm (number + whole bytes.now) ledger.new }
 {
-    if first.waiting as usize <= MOST_WALKED {
-        return turn_walked(
-            version, bytes, number, first, guests, waiting, flight, book, figures,
-        );
+    if ledger.tables.gate.waiting as usize <= MOST_WALKED {
+        turn_walked(version, bytes, number, ledger);
+    } else {
+        turn_beside(version, bytes, number, ledger);
     }
-    turn_beside(
-        version, bytes, number, first, guests, waiting, flight, book, figures,
-    )
 }
 
-// The gate after a turn, how many bytes are left at the front, and how many events there were so far.
+// How many bytes are left at the front after a turn, and how many events there were so far.
 #[derive(Drop)]
 pub struct Turn {
-    pub gate: Gate,
     pub rest: usize,
     pub number: u64,
 }
@@ -259,115 +215,83 @@ pub struct Turn {
 // All whole events of the first `have` bytes turn the page; what is left of the bytes moves to the front.
 fn take_in(
     version: u64,
-    buffer: &mut [u8],
+    buffer: &mut [u8; BUFFER_LONG],
     have: usize,
     number: u64,
-    gate: Gate,
-    guests: &mut [u64],
-    waiting: &mut [u64],
-    flight: &mut [u64],
-    book: &mut [u64],
-    figures: &mut [u64],
+    ledger: &mut Ledger,
 ) -> Turn
-    requires have_in_bounds { (have ≤ length buffer.old) × (number + have < 2 ^ 64) }
-    requires firm { Firm number gate guests.old waiting.old flight.old book.old figures.old }
-    ensures figures_after { stand_of version (take result.rest buffer.new) result.gate guests.new waiting.new flight.new book.new figures.new ≡ onward (stand_of version (take have buffer.old) gate guests.old waiting.old flight.old book.old figures.old) }
-    ensures firm_2 { Firm result.number result.gate guests.new waiting.new flight.new book.new figures.new }
+    requires have_in_bounds { (have ≤ 4096) × (number + have < 2 ^ 64) }
+    requires firm { IsFirm number ledger.old }
+    ensures stand_after { stand_of version (take result.rest buffer.new) ledger.new ≡ onward (stand_of version (take have buffer.old) ledger.old) }
+    ensures firm_2 { IsFirm result.number ledger.new }
     ensures rest_bound { (result.rest < 14) × (result.number ≤ number + have) }
 {
-    let after = turn_all(
-        version,
-        &buffer[..have],
-        number,
-        gate,
-        guests,
-        waiting,
-        flight,
-        book,
-        figures,
-    );
+    turn_all(version, &buffer[..have], number, ledger);
     let events = have / 14;
-    let rest = shift(buffer, events * 14, have);
+    buffer.copy_within(events * 14..have, 0);
     Turn {
-        gate: after,
-        rest,
-        number: number + (events as u64),
+        rest: have - events * 14,
+        number: number + events as u64,
     }
 }
 
-// Writes the lines of the first `known` guests.
-fn finish(known: u64, figures: &[u64], streams: &mut Streams, log: &mut u64) -> End
-    requires { Closes log.old known figures.now }
+// Writes the lines of all guests.
+fn finish(ledger: &Ledger, streams: &mut Streams, log: &mut u64) -> End
+    requires { Closes log.old ledger.now.tables.gate.guests ledger.now.figures }
     ensures { Listed result log.new }
 {
     let mut out = [0u8; 20480];
-    let n = put_guests(&mut out, known as usize, figures);
+    let n = put_guests(
+        &mut out,
+        ledger.tables.gate.guests as usize,
+        &ledger.figures,
+    );
     last(&out, n, streams, log)
 }
 
 // Turns the page by the events of an input that has ended, and writes the sheet.
 fn close(
     version: u64,
-    buffer: &mut [u8],
+    buffer: &mut [u8; BUFFER_LONG],
     have: usize,
-    opened: Gate,
-    guests: &mut [u64],
-    waiting: &mut [u64],
-    flight: &mut [u64],
-    book: &mut [u64],
-    figures: &mut [u64],
+    ledger: &mut Ledger,
     streams: &mut Streams,
     log: &mut u64,
 ) -> End
-    requires buffer_len { (length buffer.old ≡ 4096) × (have ≤ 4096) }
-    requires firm { Firm 0 opened guests.old waiting.old flight.old book.old figures.old }
-    requires standing { Standing true log.old (stand_of version (take have buffer.old) opened guests.old waiting.old flight.old book.old figures.old) }
+    requires have_in_bounds { have ≤ 4096 }
+    requires firm { IsFirm 0 ledger.old }
+    requires standing { Standing true log.old (stand_of version (take have buffer.old) ledger.old) }
     ensures { Listed result log.new }
 {
-    let turn = take_in(
-        version, buffer, have, 0, opened, guests, waiting, flight, book, figures,
-    );
-    let gate = turn.gate;
-    finish(gate.guests, figures, streams, log)
+    take_in(version, buffer, have, 0, ledger);
+    finish(ledger, streams, log)
 }
 
 // Turns the page by the events of an input that may go on, until no more bytes come, and writes the sheet.
 fn pump(
     version: u64,
-    buffer: &mut [u8],
+    buffer: &mut [u8; BUFFER_LONG],
     first: usize,
-    opened: Gate,
-    guests: &mut [u64],
-    waiting: &mut [u64],
-    flight: &mut [u64],
-    book: &mut [u64],
-    figures: &mut [u64],
+    ledger: &mut Ledger,
     streams: &mut Streams,
     log: &mut u64,
 ) -> End
-    requires buffer_len { (length buffer.old ≡ 4096) × (first ≤ 4096) }
-    requires firm { Firm 0 opened guests.old waiting.old flight.old book.old figures.old }
-    requires standing { Standing false log.old (stand_of version (take first buffer.old) opened guests.old waiting.old flight.old book.old figures.old) }
+    requires first_in_bounds { first ≤ 4096 }
+    requires firm { IsFirm 0 ledger.old }
+    requires standing { Standing false log.old (stand_of version (take first buffer.old) ledger.old) }
     ensures { Listed result log.new }
 {
-    let mut gate = opened;
     let mut have = first;
     let mut done: u64 = 0;
-    let mut turns = TURNS;
-    while turns > 0 {
-        let turn = take_in(
-            version, buffer, have, done, gate, guests, waiting, flight, book, figures,
-        );
-        gate = turn.gate;
+    for _turn in 0..TURNS {
+        let turn = take_in(version, buffer, have, done, ledger);
         done = turn.number;
         have = turn.rest;
-        let came = stream::refill(buffer, have, streams, log);
-        match came {
+        match stream::refill(buffer, have, streams, log) {
             Moved::Bytes(more) => have += more,
-            Moved::Nothing => return finish(gate.guests, figures, streams, log),
+            Moved::Nothing => return finish(ledger, streams, log),
             Moved::Failed => return End::Unread,
         }
-        turns -= 1;
     }
     End::Unended
 }
@@ -376,28 +300,19 @@ fn pump(
 pub fn run(
     ended: bool,
     version: u64,
-    buffer: &mut [u8],
+    buffer: &mut [u8; BUFFER_LONG],
     first: usize,
-    opened: Gate,
-    guests: &mut [u64],
-    waiting: &mut [u64],
-    flight: &mut [u64],
-    book: &mut [u64],
-    figures: &mut [u64],
+    ledger: &mut Ledger,
     streams: &mut Streams,
     log: &mut u64,
 ) -> End
-    requires buffer_len { (length buffer.old ≡ 4096) × (first ≤ 4096) }
-    requires firm { Firm 0 opened guests.old waiting.old flight.old book.old figures.old }
-    requires standing { Standing ended log.old (stand_of version (take first buffer.old) opened guests.old waiting.old flight.old book.old figures.old) }
+    requires first_in_bounds { first ≤ 4096 }
+    requires firm { IsFirm 0 ledger.old }
+    requires standing { Standing ended log.old (stand_of version (take first buffer.old) ledger.old) }
     ensures { Listed result log.new }
 {
     if ended {
-        return close(
-            version, buffer, first, opened, guests, waiting, flight, book, figures, streams, log,
-        );
+        return close(version, buffer, first, ledger, streams, log);
     }
-    pump(
-        version, buffer, first, opened, guests, waiting, flight, book, figures, streams, log,
-    )
+    pump(version, buffer, first, ledger, streams, log)
 }

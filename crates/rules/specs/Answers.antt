@@ -1,13 +1,11 @@
 -- Document 01, "Refusal numbers" and the printed lines: the paper's number and values for each case of an answer.
-use Rattle.std.specs.Prelude.{Bool, true, false, List, [], ◌∷◌, ℕ}
+use Rattle.std.specs.Prelude.{Bool, true, false, List, [], ◌∷◌, ℕ, Some, None, Option}
 use Rattle.rules.specs.declared.Phase.{Phase}
 use Rattle.rules.specs.declared.Phase.TheVariants.{Reservation, Weight}
 use Rattle.rules.specs.declared.Refusal.{Refusal}
 use Rattle.rules.specs.declared.Refusal.TheVariants.{BadSetting, ShortTable, Unsound, UnknownGuest, TimeAboveCeiling, TimeBeforeLast, IdInUse, NoRoom, TagAboveCeiling, NotInFlight, BadMark, BadVersion, HeaderCut, BadEvent, EventCut, AnswersShort, TooManyEvents, BadCost, NoWayBack, BadDelta, RoomShort, NoArray}
 use Rattle.rules.specs.declared.Answer.{Answer}
 use Rattle.rules.specs.declared.Answer.TheVariants.{Nothing, Sent, Refused}
-use Rattle.rules.specs.declared.Wake.{Wake}
-use Rattle.rules.specs.declared.Wake.TheVariants.{At, Never}
 
 -- the number of a refusal, from the paper's table
 abbrev pub number_of : Refusal → ℕ
@@ -62,6 +60,6 @@ taken (Sent p g i) = true
 taken (Refused r) = false
 
 -- what is shown of a time to wake: the time, or no number where there is none
-abbrev pub hour : Wake → List ℕ
-hour (At n) = n ∷ []
-hour Never = []
+abbrev pub hour : Option ℕ → List ℕ
+hour (Some n) = n ∷ []
+hour None = []

@@ -64,38 +64,50 @@ pub enum Event {
     Tick(u64),
 }
 
-// The phase of the choice that sent a request.
+// The phase of the choice that sent a request, in the order of the numbers that a host sees.
 #[derive(Clone, Copy)]
 pub enum Phase {
-    Reservation,
-    Weight,
+    Reservation = 1,
+    Weight = 2,
 }
 
-// Why a call or a trace is refused, in the order of the papers' numbers: 1 to 15 are document 01's, those behind them document 02's.
+// Why a call or a trace is refused, by the papers' number: 1 to 15 are document 01's, those behind them document 02's.
 #[derive(Clone, Copy)]
 pub enum Refusal {
-    BadSetting,
-    ShortTable,
-    Unsound,
-    UnknownGuest,
-    TimeAboveCeiling,
-    TimeBeforeLast,
-    IdInUse,
-    NoRoom,
-    TagAboveCeiling,
-    NotInFlight,
-    BadMark,
-    BadVersion,
-    HeaderCut,
-    BadEvent,
-    EventCut,
-    AnswersShort,
-    TooManyEvents,
-    BadCost,
-    NoWayBack,
-    BadDelta,
-    RoomShort,
-    NoArray,
+    BadSetting = 1,
+    ShortTable = 2,
+    Unsound = 3,
+    UnknownGuest = 4,
+    TimeAboveCeiling = 5,
+    TimeBeforeLast = 6,
+    IdInUse = 7,
+    NoRoom = 8,
+    TagAboveCeiling = 9,
+    NotInFlight = 10,
+    BadMark = 11,
+    BadVersion = 12,
+    HeaderCut = 13,
+    BadEvent = 14,
+    EventCut = 15,
+    AnswersShort = 16,
+    TooManyEvents = 17,
+    BadCost = 18,
+    NoWayBack = 19,
+    BadDelta = 20,
+    RoomShort = 21,
+    NoArray = 22,
+}
+
+// The papers' number of a refusal.
+impl From<Refusal> for u64 {
+    ghost use Rattle.std.specs.Prelude.{◌≡◌};
+    ghost use Rattle.rules.specs.Answers.{number_of};
+
+    ghost from_gives = { λ refusal number. number ≡ number_of refusal };
+
+    fn from(refusal: Refusal) -> u64 {
+        refusal as u64
+    }
 }
 
 // What a call answers: nothing is sent, a request is sent, or the call is refused.
@@ -106,17 +118,10 @@ pub enum Answer {
     Refused(Refusal),
 }
 
-// When a tick alone would next send something: at a time, or at none as the tables stand.
-#[derive(Clone, Copy)]
-pub enum Wake {
-    At(u64),
-    Never,
-}
-
 // The gate after a call, the call's answer, and when to wake the gate by a tick.
 #[derive(Clone, Copy)]
 pub struct Outcome {
     pub gate: Gate,
     pub answer: Answer,
-    pub wake: Wake,
+    pub wake: Option<u64>,
 }

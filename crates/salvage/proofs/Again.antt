@@ -7,14 +7,13 @@ use native.Mathlib.Omega.{arith}
 use lib.ListN.{length, take, drop, length-append, length-drop}
 use lib.Seq.{length-take-le, take_all, take-add, drop_at, take-append-le, drop-append-le}
 use Rattle.lists.specs.Tab.{tab, tab_snoc, tab_ext}
-use Rattle.salvage.specs.Fates.{fate_of, reason_in, after, last_at, fate_at}
+use Rattle.salvage.specs.Fates.{fate_of, reason_in, after, last_at, fate_at, Fate, Last}
 use Rattle.salvage.specs.Result.{bytes_by, row_by, kept_of, rows_of, event_count}
 use Rattle.salvage.specs.Cases.{InOrder, none, both, skip}
-use Rattle.salvage.specs.declared.Last.{Last}
-use Rattle.salvage.specs.declared.Fate.{Fate}
-use Rattle.salvage.specs.declared.Fate.TheVariants.{Kept, Dropped}
 use Rattle.salvage.proofs.Counts.{kept_so, kept_whole}
-use Rattle.salvage.proofs.Fields.{some, kept_by, fate_append, fate_take}
+use Rattle.salvage.proofs.Fields.{kept_by, fate_append, fate_take}
+use Rattle.std.specs.Prelude.{Ok, Err}
+use Rattle.salvage.specs.declared.Reason.{Reason}
 
 -- THE OLD ORDER
 
@@ -80,7 +79,7 @@ pub record Again (v : ℕ) (bs : List ℕ) (k : ℕ) : Type 0 where
 
 module _ (v : ℕ) (bs : List ℕ) where
   -- one event more that is kept
-  again_kept : (k t : ℕ) → fate_at v bs k ≡ Kept t → Again v bs k → Again v bs (suc k)
+  again_kept : (k t : ℕ) → fate_at v bs k ≡ Ok t → Again v bs k → Again v bs (suc k)
   unfolding last_at kept_of rows_of
   again_kept k t e a =
       let xs = kept_of v bs k in
@@ -93,7 +92,7 @@ module _ (v : ℕ) (bs : List ℕ) where
       let here : kept_of v bs (suc k) ≡ zs = ap (λ (f : Fate). xs ++ bytes_by f ys) e in
       let at : drop (m * 14) zs ≡ ys = drop_at xs ys (m * 14) a.long in
       let before : last_at v zs m ≡ last_at v bs k = last_front v xs ys m fits ∙ a.last in
-      let fate : fate_at v zs m ≡ Kept t = (λ i. fate_of v (before i) (at i)) ∙ fate_take v (last_at v bs k) (drop (k * 14) bs) whole ∙ e in
+      let fate : fate_at v zs m ≡ Ok t = (λ i. fate_of v (before i) (at i)) ∙ fate_take v (last_at v bs k) (drop (k * 14) bs) whole ∙ e in
       let own : piece zs m ≡ ys = ap (take 14) at ∙ take_all 14 ys (omega arith) in
       record {
         count = suc m;
@@ -108,7 +107,7 @@ module _ (v : ℕ) (bs : List ℕ) where
       }
 
   -- and one that is dropped
-  again-dropped : (k r : ℕ) → fate_at v bs k ≡ Dropped r → Again v bs k → Again v bs (suc k)
+  again-dropped : (k : ℕ) (r : Reason) → fate_at v bs k ≡ Err r → Again v bs k → Again v bs (suc k)
   unfolding last_at kept_of rows_of
   again-dropped k r e a =
       let xs = kept_of v bs k in
@@ -129,8 +128,8 @@ module _ (v : ℕ) (bs : List ℕ) where
   again (suc k) = go (again k) (fate_at v bs k) refl
     where
       go : Again v bs k → (f : Fate) → fate_at v bs k ≡ f → Again v bs (suc k)
-      go a (Kept t) e = again_kept k t e a
-      go a (Dropped r) e = again-dropped k r e a
+      go a (Ok t) e = again_kept k t e a
+      go a (Err r) e = again-dropped k r e a
 
 -- ALL EVENTS KEPT
 
@@ -140,7 +139,7 @@ module _ (v : ℕ) (bs : List ℕ) where
   all-kept zero h = (refl, refl)
   all-kept (suc k) h =
       let i = all-kept k (λ j l. h j (omega arith)) in
-      let f = kept_by (fate_at v bs k) (some v (last_at v bs k) (drop (k * 14) bs)) (h k (omega arith)) in
+      let f = kept_by (fate_at v bs k) (h k (omega arith)) in
       let n : k * 14 + 14 ≡ suc k * 14 = omega arith in (
         (λ j. i.0 j ++ bytes_by (f.1 j) (piece bs k)) ∙ sym (take-add (k * 14) 14 bs) ∙ ap (λ (m : ℕ). take m bs) n,
         (λ j. i.1 j ++ row_by (f.1 j) (k + 1)),

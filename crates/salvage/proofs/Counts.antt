@@ -11,24 +11,24 @@ use lib.Seq.{length-take-le, take-add}
 use borrow.Author.Tests.{ltb-false}
 use Rattle.lists.specs.Words.{if◌then◌else◌}
 use Rattle.trace.specs.Event.{event_of}
-use Rattle.salvage.specs.Fates.{by_read, fate_of, after, last_at, fate_at}
+use Rattle.salvage.specs.Fates.{by_read, fate_of, after, last_at, fate_at, Fate, Last}
 use Rattle.salvage.specs.Result.{bytes_by, Row, row_by, kept_of, rows_of, flat}
 use Rattle.salvage.specs.Judging.{bytes_for, rows_for, IfKept, IfDropped}
-use Rattle.salvage.specs.declared.Last.{Last}
-use Rattle.salvage.specs.declared.Fate.{Fate}
-use Rattle.salvage.specs.declared.Fate.TheVariants.{Kept, Dropped}
+use Rattle.std.specs.Prelude.{Ok, Err}
+use Rattle.salvage.specs.declared.Reason.TheVariants.{Cut}
+use Rattle.salvage.specs.declared.Reason.{Reason}
 
 -- BY A FATE
 
 pub if_kept : (f : Fate) {P : Type 0} → P → IfKept f P
-if_kept (Kept t) p = p
-if_kept (Dropped r) p = tt
+if_kept (Ok t) p = p
+if_kept (Err r) p = tt
 
 -- what has to be so of a kept event is so of one that is known to be kept; and of a dropped one
-pub kept_so : {f : Fate} {t : ℕ} {P : Type 0} → f ≡ Kept t → IfKept f P → P
+pub kept_so : {f : Fate} {t : ℕ} {P : Type 0} → f ≡ Ok t → IfKept f P → P
 kept_so {P = P} e p = subst (λ (g : Fate). IfKept g P) e p
 
-pub dropped_so : {f : Fate} {r : ℕ} {P : Type 0} → f ≡ Dropped r → IfDropped f P → P
+pub dropped_so : {f : Fate} {r : Reason} {P : Type 0} → f ≡ Err r → IfDropped f P → P
 dropped_so {P = P} e p = subst (λ (g : Fate). IfDropped g P) e p
 
 -- an event that is kept is whole
@@ -36,25 +36,25 @@ pub kept_whole : (v : ℕ) (l : Last) (bs : List ℕ) → IfKept (fate_of v l bs
 unfolding fate_of
 kept_whole v l bs = go (ltb (length bs) 14) refl
   where
-    go : (b : Bool) → ltb (length bs) 14 ≡ b → IfKept (if b then Dropped 5 else by_read l (event_of v bs)) (14 ≤ length bs)
+    go : (b : Bool) → ltb (length bs) 14 ≡ b → IfKept (if b then Err Cut else by_read l (event_of v bs)) (14 ≤ length bs)
     go true e = tt
     go false e = if_kept (by_read l (event_of v bs)) (ltb-false (length bs) 14 e)
 
 length-bytes : (f : Fate) (bs : List ℕ) → IfKept f (14 ≤ length bs) → length (bytes_by f (take 14 bs)) ≡ bytes_for f
-length-bytes (Kept t) bs h = length-take-le 14 bs h
-length-bytes (Dropped r) bs h = refl
+length-bytes (Ok t) bs h = length-take-le 14 bs h
+length-bytes (Err r) bs h = refl
 
 bytes_most : (f : Fate) (bs : List ℕ) → length (bytes_by f bs) ≤ length bs
-bytes_most (Kept t) bs = omega arith
-bytes_most (Dropped r) bs = omega arith
+bytes_most (Ok t) bs = omega arith
+bytes_most (Err r) bs = omega arith
 
 length-row : (f : Fate) (n : ℕ) → length (row_by f n) ≡ rows_for f
-length-row (Kept t) n = refl
-length-row (Dropped r) n = refl
+length-row (Ok t) n = refl
+length-row (Err r) n = refl
 
 rows_most : (f : Fate) → rows_for f ≤ 1
-rows_most (Kept t) = omega arith
-rows_most (Dropped r) = omega arith
+rows_most (Ok t) = omega arith
+rows_most (Err r) = omega arith
 
 -- THE LIST as numbers
 
@@ -154,13 +154,13 @@ module _ (v : ℕ) (bs : List ℕ) where
 
   pub kept-room : (k n : ℕ) (f : Fate) (first at room : ℕ) → f ≡ fate_at v bs k → k < n → at ≡ first + length (kept_of v bs k)
       → first + length (kept_of v bs n) ≤ room → IfKept f ((k * 14 + 14 ≤ length bs) × (at + 14 ≤ room))
-  kept-room k n (Dropped r) first at room e h a enough = tt
-  kept-room k n (Kept t) first at room e h a enough =
+  kept-room k n (Err r) first at room e h a enough = tt
+  kept-room k n (Ok t) first at room e h a enough =
       let whole : 14 ≤ length (drop (k * 14) bs) = kept_so (sym e) (kept_whole v (last_at v bs k) (drop (k * 14) bs)) in
       (omega (arith, length-drop (k * 14) bs), omega (arith, length-kept-more k, ap bytes_for e, kept_grows (k + 1) n (omega arith)))
 
   pub row_room : (k n : ℕ) (f : Fate) (at list : ℕ) → f ≡ fate_at v bs k → k < n → at ≡ 0 + length (flat (rows_of v bs k))
       → length (flat (rows_of v bs n)) ≤ list → IfDropped f (at + 2 ≤ list)
-  row_room k n (Kept t) at list e h a enough = tt
-  row_room k n (Dropped r) at list e h a enough =
+  row_room k n (Ok t) at list e h a enough = tt
+  row_room k n (Err r) at list e h a enough =
       omega (arith, length-rows-more k, ap rows_for e, rows_grow (k + 1) n (omega arith), length-flat (rows_of v bs k), length-flat (rows_of v bs n))

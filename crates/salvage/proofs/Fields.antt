@@ -13,23 +13,20 @@ use Rattle.rules.specs.Numbers.{ceiling}
 use Rattle.rules.specs.Events.{moment}
 use Rattle.rules.specs.declared.Event.TheVariants.{Arrival, Completion, Tick}
 use Rattle.trace.specs.Little.{byte_at, four_at, eight_at}
-use Rattle.trace.specs.Event.{kind_in, upper_in, event_from, event_of}
-use Rattle.trace.specs.declared.Read.{Read}
-use Rattle.trace.specs.declared.Read.TheVariants.{Good, Bad}
+use Rattle.trace.specs.Event.{kind_in, upper_in, event_from, event_of, Read}
 use Rattle.trace.proofs.EventLaws.{event_same, event_take}
 use Rattle.moved.specs.Moves.{is_bad}
-use Rattle.salvage.specs.Fates.{farthest, from_last, by_time, by_read, fate_of, reason_in}
-use Rattle.salvage.specs.declared.Last.{Last}
-use Rattle.salvage.specs.declared.Last.TheVariants.{Nothing, At}
-use Rattle.salvage.specs.declared.Fate.{Fate}
-use Rattle.salvage.specs.declared.Fate.TheVariants.{Kept, Dropped}
+use Rattle.salvage.specs.Fates.{farthest, from_last, by_time, by_read, fate_of, reason_in, Fate, Last, reason_number}
+use Rattle.std.specs.Prelude.{Some, None, Ok, Err}
+use Rattle.salvage.specs.declared.Reason.TheVariants.{Bad, Above, Cut, Behind, Ahead}
+use Rattle.salvage.specs.declared.Reason.{Reason}
 
 -- THE TIME
 
 -- the time that was read, or another number where the event is bad
 abbrev moment_or : ℕ → Read → ℕ
-moment_or d (Good e) = moment e
-moment_or d Bad = d
+moment_or d (Some e) = moment e
+moment_or d None = d
 
 -- is that of the bytes
 moment_from : (k u g i t : ℕ) → moment_or t (event_from k u g i t) ≡ t
@@ -38,10 +35,10 @@ moment_from k u g i t = go (eqb k 0) (eqb k 1 && eqb u 0) (eqb k 2 && eqb u 0 &&
   where
     go : (a b c : Bool)
         → moment_or t
-        (if a then Good (Arrival (record { guest = g; id = i; cost = u + 1; delta = 1; rho = 1 }) t)
-        else if b then Good (Completion (record { guest = g; id = i }) t)
-        else if c then Good (Tick t)
-        else Bad)
+        (if a then Some (Arrival (record { guest = g; id = i; cost = u + 1; delta = 1; rho = 1 }) t)
+        else if b then Some (Completion (record { guest = g; id = i }) t)
+        else if c then Some (Tick t)
+        else None)
         ≡ t
     go true b c = refl
     go false true c = refl
@@ -53,67 +50,54 @@ unfolding event_of
 moment-of v bs = moment_from (kind_in v (byte_at bs 0)) (upper_in v (byte_at bs 0)) (byte_at bs 1) (four_at bs 2) (eight_at bs 6)
 
 -- by what was read and its time
-by_read_lem : (l : Last) (d : ℕ) (r : Read) → by_read l r ≡ (if is_bad r then Dropped 1 else by_time l (moment_or d r))
-by_read_lem l d (Good e) = refl
-by_read_lem l d Bad = refl
+by_read_lem : (l : Last) (d : ℕ) (r : Read) → by_read l r ≡ (if is_bad r then Err Bad else by_time l (moment_or d r))
+by_read_lem l d (Some e) = refl
+by_read_lem l d None = refl
 
 -- BY THE FIELDS: the reasons in their order
 pub fate_is : (v : ℕ) (l : Last) (bs : List ℕ)
     → fate_of v l bs
-    ≡ (if ltb (length bs) 14 then Dropped 5 else if is_bad (event_of v bs) then Dropped 1 else if ltb ceiling (eight_at bs 6) then Dropped 2 else from_last l (eight_at bs 6))
+    ≡ (if ltb (length bs) 14 then Err Cut else if is_bad (event_of v bs) then Err Bad else if ltb ceiling (eight_at bs 6) then Err Above else from_last l (eight_at bs 6))
 unfolding fate_of
 fate_is v l bs =
-    ap (λ (f : Fate). if ltb (length bs) 14 then Dropped 5 else f)
+    ap (λ (f : Fate). if ltb (length bs) 14 then Err Cut else f)
     (by_read_lem l (eight_at bs 6) (event_of v bs)
-    ∙ ap (λ (t : ℕ). if is_bad (event_of v bs) then Dropped 1 else by_time l t) (moment-of v bs))
+    ∙ ap (λ (t : ℕ). if is_bad (event_of v bs) then Err Bad else by_time l t) (moment-of v bs))
 
 -- A REASON is above 0
-
-abbrev pub Some : Fate → Type 0
-Some (Kept t) = Unit {0}
-Some (Dropped r) = 0 < r
-
-some_more : (b : Bool) (x : ℕ) (f : Fate) → 0 < x → Some f → Some (if b then Dropped x else f)
-some_more true x f h s = h
-some_more false x f h s = s
-
-some_last : (l : Last) (t : ℕ) → Some (from_last l t)
-some_last Nothing t = tt
-some_last (At u) t = some_more (ltb t u) 3 _ (omega arith) (some_more (ltb (u + farthest) t) 4 (Kept t) (omega arith) tt)
-
-pub some : (v : ℕ) (l : Last) (bs : List ℕ) → Some (fate_of v l bs)
-some v l bs =
-    rw (fate_is v l bs)
-    (some_more (ltb (length bs) 14) 5 _ (omega arith)
-    (some_more (is_bad (event_of v bs)) 1 _ (omega arith)
-    (some_more (ltb ceiling (eight_at bs 6)) 2 _ (omega arith) (some_last l (eight_at bs 6)))))
+pub reason_some : (r : Reason) → 0 < reason_number r
+reason_some Bad = omega arith
+reason_some Above = omega arith
+reason_some Behind = omega arith
+reason_some Ahead = omega arith
+reason_some Cut = omega arith
 
 -- where it is none, the event is kept
-pub kept_by : (f : Fate) → Some f → reason_in f ≡ 0 → (t : ℕ) × (f ≡ Kept t)
-kept_by (Kept t) s e = (t, refl)
-kept_by (Dropped r) s e = absurd (omega arith)
+pub kept_by : (f : Fate) → reason_in f ≡ 0 → (t : ℕ) × (f ≡ Ok t)
+kept_by (Ok t) e = (t, refl)
+kept_by (Err r) e = absurd (omega (arith, reason_some r))
 
 -- A KEPT EVENT has its own time
 
-kept_peel : (b : Bool) (x : ℕ) (f : Fate) (t : ℕ) → (if b then Dropped x else f) ≡ Kept t → f ≡ Kept t
+kept_peel : (b : Bool) (x : Reason) (f : Fate) (t : ℕ) → (if b then Err x else f) ≡ Ok t → f ≡ Ok t
 kept_peel true x f t e = let z : ◌≡◌ {A = ℕ} 0 1 = cc in absurd (omega arith)
 kept_peel false x f t e = e
 
 time_in : Fate → ℕ
-time_in (Kept t) = t
-time_in (Dropped r) = 0
+time_in (Ok t) = t
+time_in (Err r) = 0
 
-kept_last : (l : Last) (u t : ℕ) → from_last l u ≡ Kept t → u ≡ t
+kept_last : (l : Last) (u t : ℕ) → from_last l u ≡ Ok t → u ≡ t
 unfolding time_in
-kept_last Nothing u t e = ap time_in e
-kept_last (At w) u t e = ap time_in (kept_peel (ltb (w + farthest) u) 4 (Kept u) t (kept_peel (ltb u w) 3 _ t e))
+kept_last None u t e = ap time_in e
+kept_last (Some w) u t e = ap time_in (kept_peel (ltb (w + farthest) u) Ahead (Ok u) t (kept_peel (ltb u w) Behind _ t e))
 
-pub kept_time : (v : ℕ) (l : Last) (bs : List ℕ) (t : ℕ) → fate_of v l bs ≡ Kept t → eight_at bs 6 ≡ t
+pub kept_time : (v : ℕ) (l : Last) (bs : List ℕ) (t : ℕ) → fate_of v l bs ≡ Ok t → eight_at bs 6 ≡ t
 kept_time v l bs t e =
     kept_last l (eight_at bs 6) t
-    (kept_peel (ltb ceiling (eight_at bs 6)) 2 _ t
-    (kept_peel (is_bad (event_of v bs)) 1 _ t
-    (kept_peel (ltb (length bs) 14) 5 _ t (sym (fate_is v l bs) ∙ e))))
+    (kept_peel (ltb ceiling (eight_at bs 6)) Above _ t
+    (kept_peel (is_bad (event_of v bs)) Bad _ t
+    (kept_peel (ltb (length bs) 14) Cut _ t (sym (fate_is v l bs) ∙ e))))
 
 -- ITS FIRST 14 BYTES alone count
 

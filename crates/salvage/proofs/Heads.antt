@@ -14,7 +14,7 @@ use Rattle.rules.specs.Numbers.{within}
 use Rattle.rules.specs.Sound.{counted, ruled, settled}
 use Rattle.rules.specs.Refusals.{Verdict, accept, judged}
 use Rattle.trace.specs.Little.{byte_at, two_at, four_at}
-use Rattle.trace.specs.Header.{mark, first_version, last_version, is_two, body, version_of, depth_of, guests_of, capacity_of, rule_in, rule_of, credit_at, settings_at, settings_in, header_tests_for, header_tests, header_by}
+use Rattle.trace.specs.Header.{mark, first_version, last_version, is_two, body, version_of, depth_of, guests_of, capacity_of, rule_in, rule_of, credit_at, settings_at, settings_in, header_tests_for, header_tests, opened_of, header_by}
 use Rattle.trace.specs.Answers.{event_bytes}
 use Rattle.trace.proofs.HeaderLaws.{Opens, opened, by_version, body-two, body_grows, body-least, record_fits, credit_fits, same_is}
 use Rattle.salvage.specs.Result.{kept_in, salvaged}
@@ -22,8 +22,8 @@ use Rattle.salvage.proofs.Verdicts.{good-mark}
 
 module _ (bs : List ℕ) (good : judged (header_tests bs) ≡ accept) where
   -- what its bytes say
-  pub opens : Opens first_version last_version bs (version_of bs) (depth_of bs) (guests_of bs) (capacity_of bs) (rule_of bs)
-  opens = opened bs (version_of bs) (depth_of bs) (guests_of bs) (capacity_of bs) (rule_of bs) (ap (λ (v : Verdict). header_by v bs) good)
+  pub opens : Opens first_version last_version bs (opened_of bs)
+  opens = opened bs (opened_of bs) (ap (λ (v : Verdict). header_by v bs) good)
 
   abbrev v : ℕ
   v = version_of bs

@@ -20,36 +20,35 @@ use Rattle.trace.specs.Event.{event_of}
 use Rattle.trace.specs.Answers.{event_bytes, bytes_at}
 use Rattle.trace.proofs.LineExactly.{faulty_is}
 use Rattle.moved.specs.Moves.{is_bad}
-use Rattle.salvage.specs.Fates.{farthest, from_last, reason_in, after, last_at, fate_at}
+use Rattle.salvage.specs.Fates.{farthest, from_last, reason_in, after, last_at, fate_at, Fate, Last, reason_number}
 use Rattle.salvage.specs.Cases.{events_in, reason_at, time_at, LastKept, drop_cases, Rightly, Clean}
-use Rattle.salvage.specs.declared.Last.{Last}
-use Rattle.salvage.specs.declared.Last.TheVariants.{Nothing, At}
-use Rattle.salvage.specs.declared.Fate.{Fate}
-use Rattle.salvage.specs.declared.Fate.TheVariants.{Kept, Dropped}
-use Rattle.salvage.proofs.Fields.{fate_is, Some, some, kept_time}
+use Rattle.salvage.proofs.Fields.{fate_is, reason_some, kept_time}
+use Rattle.std.specs.Prelude.{Ok, Err, Some, None}
+use Rattle.salvage.specs.declared.Reason.{Reason}
+use Rattle.salvage.specs.declared.Reason.TheVariants.{Bad, Above, Behind, Ahead, Cut}
 
 -- REASONS AND CASES
 
 -- the fate gives the reason n, or none
 abbrev Gives : Fate → ℕ → Type 0
-Gives (Kept t) n = ⊥
-Gives (Dropped r) n = r ≡ n
+Gives (Ok t) n = ⊥
+Gives (Err r) n = reason_number r ≡ n
 
 abbrev IsKept : Fate → Type 0
-IsKept (Kept t) = Unit {0}
-IsKept (Dropped r) = ⊥
+IsKept (Ok t) = Unit {0}
+IsKept (Err r) = ⊥
 
 -- it gives the number of the first case whose condition holds
 record Says (f : Fate) (ks : List Case) : Type 0 where
   number : (n : ℕ) → Gives f n ↔ FirstOf n ks
   kept : IsKept f ↔ NoneHolds ks
 
-says_end : (t : ℕ) → Says (Kept t) []
+says_end : (t : ℕ) → Says (Ok t) []
 says_end t = record { number = λ n. Iff.rfl; kept = Iff.rfl }
 
 -- one reason more in front
-says_more : {P : Type 0} {f : Fate} {ks : List Case} (b : Bool) (x : ℕ) → (b ≡ true) ↔ P → Says f ks
-    → Says (if b then Dropped x else f) (record { number = x; condition = P } ∷ ks)
+says_more : {P : Type 0} {f : Fate} {ks : List Case} (b : Bool) (x : Reason) → (b ≡ true) ↔ P → Says f ks
+    → Says (if b then Err x else f) (record { number = reason_number x; condition = P } ∷ ks)
 says_more true x h s =
     record {
       number = λ n. (λ e. inl (e, h.0 refl), λ p. ⊎_elim (λ q. q.0) (λ q. absurd (q.0 (h.0 refl))) p);
@@ -66,16 +65,16 @@ never : {P : Type 0} → (P → ⊥) → (false ≡ true) ↔ P
 never n = (λ e. absurd (false≢true e), λ p. absurd (n p))
 
 -- what it says in numbers
-says_exactly : (f : Fate) (ks : List Case) → Some f → Says f ks → RefusedExactly ks (λ n. (0 < n) × (reason_in f ≡ n)) (reason_in f ≡ 0)
-says_exactly (Kept t) ks h s =
+says_exactly : (f : Fate) (ks : List Case) → Says f ks → RefusedExactly ks (λ n. (0 < n) × (reason_in f ≡ n)) (reason_in f ≡ 0)
+says_exactly (Ok t) ks s =
     record {
       number = λ n. (λ p. absurd (omega (arith, p.0, p.1)), λ p. absurd ((s.number n).1 p));
       no_number = (λ e. s.kept.0 tt, λ p. refl);
     }
-says_exactly (Dropped r) ks h s =
+says_exactly (Err r) ks s =
     record {
-      number = λ n. (λ p. (s.number n).0 p.1, λ p. let e = (s.number n).1 p in (omega (arith, e), e));
-      no_number = (λ e. absurd (omega arith), λ p. absurd (s.kept.1 p));
+      number = λ n. (λ p. (s.number n).0 p.1, λ p. let e = (s.number n).1 p in (omega (arith, e, reason_some r), e));
+      no_number = (λ e. absurd (omega (arith, reason_some r)), λ p. absurd (s.kept.1 p));
     }
 
 -- THE LAST KEPT of a trace
@@ -89,16 +88,16 @@ module _ (bs : List ℕ) where
 
   -- what it is before event k: none of them is kept, or the last that is has this time
   abbrev Recent : Last → ℕ → Type 0
-  Recent Nothing k = (i : ℕ) → i < k → reason_at bs i ≡ 0 → ⊥
-  Recent (At u) k = (j : ℕ) × LastKept (reason_at bs) j k × (time_at bs j ≡ u)
+  Recent None k = (i : ℕ) → i < k → reason_at bs i ≡ 0 → ⊥
+  Recent (Some u) k = (j : ℕ) × LastKept (reason_at bs) j k × (time_at bs j ≡ u)
 
   -- one event more that is dropped
   recent_more : (l : Last) (k : ℕ) → (reason_at bs k ≡ 0 → ⊥) → Recent l k → Recent l (suc k)
-  recent_more Nothing k h never = λ i l e. ⊎_elim (λ p. h (subst (λ (n : ℕ). reason_at bs n ≡ 0) p e)) (λ p. never i p e) (eq-or-lt_of_le (below i k l))
+  recent_more None k h never = λ i l e. ⊎_elim (λ p. h (subst (λ (n : ℕ). reason_at bs n ≡ 0) p e)) (λ p. never i p e) (eq-or-lt_of_le (below i k l))
     where
       below : (i k : ℕ) → i < suc k → i ≤ k
       below i k h = omega arith
-  recent_more (At u) k h (j, r, e) =
+  recent_more (Some u) k h (j, r, e) =
       (j, record { before = omega (arith, r.before); kept = r.kept; none-since = λ i a b e. ⊎_elim (λ p. h (subst (λ (n : ℕ). reason_at bs n ≡ 0) p e)) (λ p. r.none-since i a p e) (eq-or-lt_of_le (below i k b)) }, e)
     where
       below : (i k : ℕ) → i < suc k → i ≤ k
@@ -110,10 +109,8 @@ module _ (bs : List ℕ) where
   recent (suc k) = go (recent k) (fate_at v eb k) refl
     where
       go : Recent (last_at v eb k) k → (f : Fate) → fate_at v eb k ≡ f → Recent (after (last_at v eb k) f) (suc k)
-      go r (Kept t) e = (k, record { before = omega arith; kept = ap reason_in e; none-since = λ i a b z. omega arith }, kept_time v (last_at v eb k) (drop (k * 14) eb) t e)
-      go r (Dropped n) e =
-          let above : 0 < n = subst Some e (some v (last_at v eb k) (drop (k * 14) eb)) in
-          recent_more (last_at v eb k) k (λ z. let w : n ≡ 0 = sym (ap reason_in e) ∙ z in omega arith) r
+      go r (Ok t) e = (k, record { before = omega arith; kept = ap reason_in e; none-since = λ i a b z. omega arith }, kept_time v (last_at v eb k) (drop (k * 14) eb) t e)
+      go r (Err n) e = recent_more (last_at v eb k) k (λ z. let w : reason_number n ≡ 0 = sym (ap reason_in e) ∙ z in omega (arith, reason_some n)) r
 
   -- there is one at the most
   last_once : (why : ℕ → ℕ) (i j k : ℕ) → LastKept why i k → LastKept why j k → i ≡ j
@@ -130,15 +127,15 @@ module _ (bs : List ℕ) where
       (record { number = 3; condition = (j : ℕ) × LastKept (reason_at bs) j k × (time_at bs k < time_at bs j) }
       ∷ record { number = 4; condition = (j : ℕ) × LastKept (reason_at bs) j k × (time_at bs j + farthest < time_at bs k) }
       ∷ [])
-  last_says Nothing k r =
-      says_more false 3 (never (λ p. r p.0 p.1.before p.1.kept))
-      (says_more false 4 (never (λ p. r p.0 p.1.before p.1.kept)) (says_end (time_at bs k)))
-  last_says (At u) k (j, r, e) =
+  last_says None k r =
+      says_more false Behind (never (λ p. r p.0 p.1.before p.1.kept))
+      (says_more false Ahead (never (λ p. r p.0 p.1.before p.1.kept)) (says_end (time_at bs k)))
+  last_says (Some u) k (j, r, e) =
       let t = time_at bs k in
       let same : (i : ℕ) → LastKept (reason_at bs) i k → time_at bs i ≡ u = λ i h. ap (time_at bs) (last_once (reason_at bs) i j k h r) ∙ e in
-      says_more (ltb t u) 3
+      says_more (ltb t u) Behind
       (λ h. (j, r, omega (arith, ltb-true t u h)), λ p. lt-ltb t u (omega (arith, p.2, same p.0 p.1)))
-      (says_more (ltb (u + farthest) t) 4
+      (says_more (ltb (u + farthest) t) Ahead
       (λ h. (j, r, omega (arith, ltb-true (u + farthest) t h)), λ p. lt-ltb (u + farthest) t (omega (arith, p.2, same p.0 p.1)))
       (says_end t))
 
@@ -147,13 +144,13 @@ module _ (bs : List ℕ) where
   unfolding drop_cases
   fate_says k =
       subst (λ (f : Fate). Says f (drop_cases (reason_at bs) bs k)) (sym (fate_is v (last_at v eb k) (drop (k * 14) eb)))
-      (says_more (ltb (length (bytes_at bs k)) 14) 5 (less (length (bytes_at bs k)) 14).holds
-      (says_more (is_bad (event_of v (bytes_at bs k))) 1 (faulty_is v (bytes_at bs k))
-      (says_more (ltb ceiling (time_at bs k)) 2 (less ceiling (time_at bs k)).holds (last_says (last_at v eb k) k (recent k)))))
+      (says_more (ltb (length (bytes_at bs k)) 14) Cut (less (length (bytes_at bs k)) 14).holds
+      (says_more (is_bad (event_of v (bytes_at bs k))) Bad (faulty_is v (bytes_at bs k))
+      (says_more (ltb ceiling (time_at bs k)) Above (less ceiling (time_at bs k)).holds (last_says (last_at v eb k) k (recent k)))))
 
   -- each event is kept exactly where no reason fits, else dropped for the first that does
   pub rightly : Rightly (reason_at bs) bs
-  rightly k h = says_exactly (fate_at v eb k) (drop_cases (reason_at bs) bs k) (some v (last_at v eb k) (drop (k * 14) eb)) (fate_says k)
+  rightly k h = says_exactly (fate_at v eb k) (drop_cases (reason_at bs) bs k) (fate_says k)
 
 -- NOTHING ELSE IS RIGHT
 

@@ -6,17 +6,16 @@ use mathlib.Core.List.{List, [], Memᴰ}
 use mathlib.Core.Logic.{◌↔◌, ⊎_elim}
 use native.Mathlib.Omega.{arith}
 use native.Mathlib.Nat.{eq-or-lt_of_le}
-use lib.ListN.{length, drop}
+use lib.ListN.{length}
 use Rattle.trace.specs.Header.{version_of}
 use Rattle.trace.specs.Answers.{event_bytes}
-use Rattle.salvage.specs.Fates.{reason_in, last_at, fate_at}
+use Rattle.salvage.specs.Fates.{reason_in, fate_at, Fate, reason_number}
 use Rattle.salvage.specs.Result.{Row, row_by, kept_of, rows_of, rows_in, kept_in}
 use Rattle.salvage.specs.Judging.{bytes_for, rows_for}
 use Rattle.salvage.specs.Cases.{events_in, reason_at, row_at}
-use Rattle.salvage.specs.declared.Fate.{Fate}
-use Rattle.salvage.specs.declared.Fate.TheVariants.{Kept, Dropped}
 use Rattle.salvage.proofs.Counts.{length-kept-more, length-rows-more}
-use Rattle.salvage.proofs.Fields.{Some, some}
+use Rattle.salvage.proofs.Fields.{reason_some}
+use Rattle.std.specs.Prelude.{Ok, Err}
 
 -- a row of this number and reason
 abbrev row : ℕ → ℕ → Row
@@ -24,16 +23,16 @@ row n r = record { number = n; reason = r }
 
 -- ONE EVENT
 
-row_in : (f : Fate) (n m r : ℕ) → Some f → Memᴰ (row n r) (row_by f m) → (n ≡ m) × (0 < r) × (reason_in f ≡ r)
-row_in (Kept t) n m r s h = absurd (Memᴰ.not-nil h)
-row_in (Dropped x) n m r s h =
+row_in : (f : Fate) (n m r : ℕ) → Memᴰ (row n r) (row_by f m) → (n ≡ m) × (0 < r) × (reason_in f ≡ r)
+row_in (Ok t) n m r h = absurd (Memᴰ.not-nil h)
+row_in (Err x) n m r h =
     let e = Memᴰ.eq_of_singleton h in
-    let z : x ≡ r = sym (ap Row.reason e) in
-    (ap Row.number e, omega arith, z)
+    let z : reason_number x ≡ r = sym (ap Row.reason e) in
+    (ap Row.number e, omega (arith, reason_some x), z)
 
 in_row : (f : Fate) (m r : ℕ) → 0 < r → reason_in f ≡ r → Memᴰ (row m r) (row_by f m)
-in_row (Kept t) m r h e = absurd (omega arith)
-in_row (Dropped x) m r h e = Memᴰ.head (λ i. row m (sym e i))
+in_row (Ok t) m r h e = absurd (omega arith)
+in_row (Err x) m r h e = Memᴰ.head (λ i. row m (sym e i))
 
 -- THE FIRST n EVENTS
 
@@ -45,7 +44,7 @@ module _ (v : ℕ) (bs : List ℕ) where
       ⊎_elim
       (λ m. let p = rows_in_lem n k r m in (omega (arith, p.0), p.1, p.2))
       (λ m.
-      let p = row_in (fate_at v bs n) (k + 1) (n + 1) r (some v (last_at v bs n) (drop (n * 14) bs)) m in
+      let p = row_in (fate_at v bs n) (k + 1) (n + 1) r m in
       let e : n ≡ k = omega (arith, p.0) in
       (omega arith, p.1, ap (λ (j : ℕ). reason_in (fate_at v bs j)) (sym e) ∙ p.2))
       (Memᴰ.append_cases (rows_of v bs n) h)
@@ -72,8 +71,8 @@ module _ (v : ℕ) (bs : List ℕ) where
 
   -- each event is kept, or has a row
   one_each : (f : Fate) → bytes_for f + rows_for f * 14 ≡ 14
-  one_each (Kept t) = refl
-  one_each (Dropped r) = refl
+  one_each (Ok t) = refl
+  one_each (Err r) = refl
 
   told : (n : ℕ) → length (kept_of v bs n) + length (rows_of v bs n) * 14 ≡ n * 14
   unfolding kept_of rows_of

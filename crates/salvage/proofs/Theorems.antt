@@ -19,16 +19,15 @@ use Rattle.trace.specs.Cases.{header_cases}
 use Rattle.trace.proofs.HeaderExactly.{header_tested, header_good}
 use Rattle.moved.specs.Cases.{WellFormed}
 use Rattle.salvage.specs.Result.{kept_of, rows_of, event_count, kept_in, rows_in, salvaged, flat, list_of}
-use Rattle.salvage.specs.Salvages.{room_tests, salvage_tests, salvaged_shown, leaves_by, salvages}
+use Rattle.salvage.specs.Salvages.{room_tests, salvage_tests, salvaged_shown, leaves_by, salvages, Salvaged}
 use Rattle.salvage.specs.Cases.{events_in, reason_at, pieces, drop_cases, Clean, Untouched, InOrder}
-use Rattle.salvage.specs.declared.Salvaged.{Salvaged}
-use Rattle.salvage.specs.declared.Salvaged.TheVariants.{Written, Refused}
 use Rattle.salvage.proofs.Counts.{length-flat}
 use Rattle.salvage.proofs.Verdicts.{room_enough}
 use Rattle.salvage.proofs.Reasons.{rightly, clean_kept}
 use Rattle.salvage.proofs.Rows.{no_rows}
 use Rattle.salvage.proofs.Again.{piece, again, all_stay}
 use Rattle.salvage.proofs.Heads.{opens, version_there, good-there, front-there, events-there}
+use Rattle.std.specs.Prelude.{Ok, Err}
 
 -- A TRACE WITH A GOOD HEADER, and room
 pub good-leaves : (bs room list : List ℕ) → NoneHolds (header_cases bs) → length (salvaged bs) ≤ length room → length (list_of bs) ≤ length list
@@ -135,10 +134,10 @@ at n l = get_or l n 0
 
 pub salvaged-shown_once : (a b : Salvaged) → salvaged_shown a ≡ salvaged_shown b → a ≡ b
 unfolding at
-salvaged-shown_once (Written n k) (Written m l) h = λ i. Written (ap (at 1) h i) (ap (at 2) h i)
-salvaged-shown_once (Written n k) (Refused s) h = absurd (number_of_some s (sym (ap (at 0) h)))
-salvaged-shown_once (Refused r) (Written m l) h = absurd (number_of_some r (ap (at 0) h))
-salvaged-shown_once (Refused r) (Refused s) h = ap Refused (number_of_once r s (ap (at 0) h))
+salvaged-shown_once (Ok w) (Ok x) h = λ i. Ok (record { bytes = ap (at 1) h i; rows = ap (at 2) h i })
+salvaged-shown_once (Ok w) (Err s) h = absurd (number_of_some s (sym (ap (at 0) h)))
+salvaged-shown_once (Err r) (Ok x) h = absurd (number_of_some r (ap (at 0) h))
+salvaged-shown_once (Err r) (Err s) h = ap Err (number_of_once r s (ap (at 0) h))
 
 pub once : (bs room list : List ℕ) (a b : Salvaged) (xs ys zs ws : List ℕ) → (salvaged_shown a, xs, zs) ≡ salvages bs room list → (salvaged_shown b, ys, ws) ≡ salvages bs room list
     → (a ≡ b) × (xs ≡ ys) × (zs ≡ ws)

@@ -1,29 +1,28 @@
 -- What the functions within the crate tell each other.
-use Rattle.std.specs.Prelude.{ℕ, ◌≤◌, ◌≡◌, List, length, take}
+use Rattle.std.specs.Prelude.{ℕ, ◌≤◌, ◌≡◌, List, length, take, Ok, Err}
 use Rattle.trace.specs.Header.{mark, body, version_of, guests_of}
 use Rattle.salvage.specs.Result.{kept_of, rows_of, event_count, salvaged, list_of}
-use Rattle.salvage.specs.declared.Fate.{Fate}
-use Rattle.salvage.specs.declared.Fate.TheVariants.{Kept, Dropped}
+use Rattle.salvage.specs.Fates.{Fate}
 
 -- how many bytes of the result an event has: none where it is dropped
 abbrev pub bytes_for : Fate → ℕ
-bytes_for (Kept t) = 14
-bytes_for (Dropped r) = 0
+bytes_for (Ok t) = 14
+bytes_for (Err r) = 0
 
 -- how many rows of the list it has: one where it is dropped
 abbrev pub rows_for : Fate → ℕ
-rows_for (Kept t) = 0
-rows_for (Dropped r) = 1
+rows_for (Ok t) = 0
+rows_for (Err r) = 1
 
 -- what has to be so where an event is kept
 abbrev pub IfKept : Fate → Type 0 → Type 0
-IfKept (Kept t) P = P
-IfKept (Dropped r) P = Unit {0}
+IfKept (Ok t) P = P
+IfKept (Err r) P = Unit {0}
 
 -- what has to be so where it is dropped
 abbrev pub IfDropped : Fate → Type 0 → Type 0
-IfDropped (Kept t) P = Unit {0}
-IfDropped (Dropped r) P = P
+IfDropped (Ok t) P = Unit {0}
+IfDropped (Err r) P = P
 
 -- all events of the bytes were looked at: the bytes that are kept, and the rows
 pub record Tallied (version : ℕ) (bs : List ℕ) (bytes rows : ℕ) : Type 0 where

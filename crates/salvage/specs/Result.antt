@@ -1,17 +1,15 @@
 -- Document 02, K12: what comes out of a trace with a good header: its bytes without those of the dropped events, and the list of these. Words in quotes are K12's.
-use Rattle.std.specs.Prelude.{ℕ, zero, suc, ◌+◌, ◌*◌, ◌/◌, List, [], ◌∷◌, ◌++◌, length, take, drop}
+use Rattle.std.specs.Prelude.{ℕ, zero, suc, ◌+◌, ◌*◌, ◌/◌, List, [], ◌∷◌, ◌++◌, length, take, drop, Ok, Err}
 use Rattle.trace.specs.Header.{body, version_of, guests_of}
 use Rattle.trace.specs.Answers.{event_bytes}
-use Rattle.salvage.specs.Fates.{fate_at}
-use Rattle.salvage.specs.declared.Fate.{Fate}
-use Rattle.salvage.specs.declared.Fate.TheVariants.{Kept, Dropped}
+use Rattle.salvage.specs.Fates.{fate_at, Fate, reason_number}
 
 -- ONE EVENT
 
 -- its bytes, where it is kept
 abbrev pub bytes_by : Fate → List ℕ → List ℕ
-bytes_by (Kept t) bs = bs
-bytes_by (Dropped r) bs = []
+bytes_by (Ok t) bs = bs
+bytes_by (Err r) bs = []
 
 -- a row of the list: "event number, and why it was dropped"
 pub record Row : Type 0 where
@@ -20,8 +18,8 @@ pub record Row : Type 0 where
 
 -- its row, where it is dropped
 abbrev pub row_by : Fate → (number : ℕ) → List Row
-row_by (Kept t) n = []
-row_by (Dropped r) n = record { number = n; reason = r } ∷ []
+row_by (Ok t) n = []
+row_by (Err r) n = record { number = n; reason = reason_number r } ∷ []
 
 -- THE FIRST k EVENTS of the bytes of events
 

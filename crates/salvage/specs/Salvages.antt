@@ -1,14 +1,14 @@
 -- Document 02, K12, the call: "Room past the results is unchanged. Refusals: header faults keep numbers 11, 12, 13 and 1; then 21, lent room for trace or list too
 -- short, nothing written." Words in quotes are K12's.
-use Rattle.std.specs.Prelude.{ℕ, ◌||◌, List, [], ◌∷◌, ◌++◌, ltb, length}
+use Rattle.std.specs.Prelude.{ℕ, ◌||◌, List, [], ◌∷◌, ◌++◌, ltb, length, Ok, Err, Result}
 use Rattle.std.proofs.lemmas.List.Edits.{sets}
 use Rattle.rules.specs.Answers.{number_of}
 use Rattle.rules.specs.Refusals.{Test, Verdict, accept, refuse, judged}
+use Rattle.rules.specs.declared.Refusal.{Refusal}
 use Rattle.rules.specs.declared.Refusal.TheVariants.{RoomShort}
 use Rattle.trace.specs.Header.{header_tests}
 use Rattle.salvage.specs.Result.{salvaged, rows_in, list_of}
-use Rattle.salvage.specs.declared.Salvaged.{Salvaged}
-use Rattle.salvage.specs.declared.Salvaged.TheVariants.{Written, Refused}
+use Rattle.salvage.specs.declared.Written.{Written}
 
 -- THE ORDER
 
@@ -22,15 +22,19 @@ salvage_tests bs room list = header_tests bs ++ room_tests bs room list
 
 -- THE CALL
 
+-- the answer of a salvage: how many bytes and rows are written, or why it is refused
+abbrev pub Salvaged : Type 0
+Salvaged = Result Written Refusal
+
 -- the paper's number and values of an answer: its refusal or 0, the bytes written and the rows written, 0 when refused
 abbrev pub salvaged_shown : Salvaged → List ℕ
-salvaged_shown (Written bytes rows) = 0 ∷ bytes ∷ rows ∷ []
-salvaged_shown (Refused r) = number_of r ∷ 0 ∷ 0 ∷ []
+salvaged_shown (Ok w) = 0 ∷ w.bytes ∷ w.rows ∷ []
+salvaged_shown (Err r) = number_of r ∷ 0 ∷ 0 ∷ []
 
 -- the answer by a verdict
 abbrev pub answer_by : Verdict → List ℕ → Salvaged
-answer_by accept bs = Written (length (salvaged bs)) (length (rows_in bs))
-answer_by (refuse r) bs = Refused r
+answer_by accept bs = Ok (record { bytes = length (salvaged bs); rows = length (rows_in bs) })
+answer_by (refuse r) bs = Err r
 
 -- the room by a verdict: "nothing written", "Room past the results is unchanged."
 abbrev pub room_by : Verdict → (bs room : List ℕ) → List ℕ

@@ -1,26 +1,33 @@
-// Document 02, K12: the salvage of a torn trace. The crate has no code: it stands for what is in specs/ and proofs/; `fates` says what becomes of one event, and
-// `saves` salvages a trace.
+// Document 02, K12: the salvage of a torn trace: why an event is dropped, and what a salvage answers. The rest is in specs/ and proofs/; `fates` says what
+// becomes of one event, and `saves` salvages a trace.
 #![tactic(auto)]
 
-use rules::Refusal;
+ghost use Rattle.std.specs.Prelude.{◌≡◌};
+ghost use Rattle.salvage.specs.Fates.{reason_number};
 
-// The time of the last kept event, where one is kept.
+// Why an event is dropped: its kind or its spare part is not one that an event has, its time is above the ceiling, before that of the last kept or too
+// far ahead of it, or it is cut short.
 #[derive(Clone, Copy)]
-pub enum Last {
-    Nothing,
-    At(u64),
+pub enum Reason {
+    Bad = 1,
+    Above,
+    Behind,
+    Ahead,
+    Cut,
 }
 
-// What becomes of an event: it is kept, and this is its time, or it is dropped, and this is the number of the reason.
-#[derive(Clone, Copy)]
-pub enum Fate {
-    Kept(u64),
-    Dropped(u64),
+impl Reason {
+    // Its number in the list.
+    pub fn number(self) -> u64
+        ensures { result ≡ reason_number self }
+    {
+        self as u64
+    }
 }
 
-// The answer of a salvage: so many bytes and rows are written, or why it is refused.
+// How many bytes and rows a salvage wrote.
 #[derive(Clone, Copy)]
-pub enum Salvaged {
-    Written { bytes: usize, rows: usize },
-    Refused(Refusal),
+pub struct Written {
+    pub bytes: usize,
+    pub rows: usize,
 }

@@ -12,46 +12,39 @@ use crate::writing::write;
 use fields::body;
 use headers::read_header;
 use rules::Refusal;
-use salvage::Salvaged;
-use trace::Header;
+use salvage::Written;
 
 mod judging; // how much there is to write
 mod writing; // what is kept, and the list
 
 // Behind a good header: where there is room, what is kept and the list are written.
-fn sort(trace: &[u8], version: u64, at: usize, room: &mut [u8], list: &mut [u64]) -> Salvaged
+fn sort(
+    trace: &[u8],
+    version: u64,
+    at: usize,
+    room: &mut [u8],
+    list: &mut [u64],
+) -> Result<Written, Refusal>
     requires { Begun version at trace.now }
     ensures { (salvaged_shown result, room.new, list.new) ≡ leaves_by (judged (room_tests trace.now (length room.old) (length list.old))) trace.now room.old list.old }
 {
     let seen = look_over(version, &trace[at..]);
     let bytes = at + seen.bytes;
-    let rows = seen.rows;
-    if room.len() < bytes {
-        return Salvaged::Refused(Refusal::RoomShort);
-    }
-    if list.len() / 2 < rows {
-        return Salvaged::Refused(Refusal::RoomShort);
+    if room.len() < bytes || list.len() / 2 < seen.rows {
+        return Err(Refusal::RoomShort);
     }
     write(trace, version, at, room, list);
-    Salvaged::Written { bytes, rows }
+    Ok(Written {
+        bytes,
+        rows: seen.rows,
+    })
 }
 
 // Salvages a trace of either version; when refused, nothing is written.
-pub fn salvage(trace: &[u8], room: &mut [u8], list: &mut [u64]) -> Salvaged
+pub fn salvage(trace: &[u8], room: &mut [u8], list: &mut [u64]) -> Result<Written, Refusal>
     ensures { (salvaged_shown result, room.new, list.new) ≡ salvages trace.now room.old list.old }
 {
-    let header = read_header(trace);
-    match header {
-        Header::Refused(why) => Salvaged::Refused(why),
-        Header::Opened {
-            version,
-            depth: _,
-            guests,
-            capacity: _,
-            rule: _,
-        } => {
-            let at = body(version, guests as usize);
-            sort(trace, version, at, room, list)
-        }
-    }
+    let opened = read_header(trace)?;
+    let at = body(opened.version, opened.guests as usize);
+    sort(trace, opened.version, at, room, list)
 }

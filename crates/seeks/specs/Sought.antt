@@ -1,5 +1,5 @@
 -- The search along the rows of a guest: what it knows at a number of the index, and what it answers. Assumes nothing.
-use Rattle.std.specs.Prelude.{ℕ, ◌+◌, ◌-◌, ◌≤◌, ◌<◌, ◌≡◌, refl, Bool, true, false, not, List}
+use Rattle.std.specs.Prelude.{ℕ, ◌+◌, ◌-◌, ◌≤◌, ◌<◌, ◌≡◌, Bool, true, false, not, List}
 use Rattle.std.proofs.Common.{arith}
 use Rattle.table.specs.Columns.{ID, most_guests, waiting_at}
 use Rattle.walks.specs.Survey.{idle_in}
@@ -42,7 +42,7 @@ module _ {ws ix : List ℕ} {n : ℕ} (i : Indexed ws ix n) (g id : ℕ) where
   pub sought_end : {x : ℕ} → Sought ws n g id x → x ≤ 0 → (b : Bool) → Behind ws n g 0 b → (lacks_in ws n g id ≡ true) × (idle_in ws n g ≡ not b)
   sought_end {x} s done b has =
       let all = passed-all (Differs ws id) ws g s.from n s.lacking (s.leads.none (omega (arith, done))) in
-      search_end ws n g id {waits = b} (record { row = 0; begins = refl; inside = omega arith; lacking = λ k l m own. all k m own; idling = has }) (omega arith)
+      search_end ws n g id {waits = b} (record { lacking = λ k l m own. all k m own; idling = has }) (omega arith)
 
   module _ (h : g < most_guests) where
     -- a guest without a first row has none

@@ -1,4 +1,5 @@
 -- A request that is the first of its guest may go. What either phase picks is such a one. Assumes nothing.
+use Rattle.std.specs.Prelude.{Some}
 use Prim.Native.Nat.{ℕ, zero, suc, ◌<◌}
 use mathlib.Core.Path.{refl, ap}
 use mathlib.Core.List.{List, [], ◌∷◌}
@@ -11,7 +12,6 @@ use Rattle.rules.specs.Chosen.{at}
 use Rattle.rules.proofs.Facts.{Sound}
 use Rattle.rules.proofs.Picks.{Between, Goes, due-goes, open_goes}
 use Rattle.walks.specs.Walks.{Picks}
-use Rattle.walks.specs.declared.Found.TheVariants.{At}
 use Rattle.sends.specs.Firsts.{FirstOf}
 
 -- the request at a place stands between those before and those after it
@@ -28,9 +28,9 @@ module _ (t : Table) (place : ℕ) where
   first_goes here h = record { split = between t.waiting place here; first = h }
 
   -- what the reservation phase picks is the first of its guest
-  pub due-first : Sound t → Picks (due t) Request.rtag t.waiting (At place) → FirstOf t.waiting place
+  pub due-first : Sound t → Picks (due t) Request.rtag t.waiting (Some place) → FirstOf t.waiting place
   due-first s p = (due-goes t s (at t.waiting place) (remove_at place t.waiting) p.pick).first
 
   -- what the weight phase picks is the first of its guest
-  pub open_first : Sound t → Picks (open? t) Request.stag t.waiting (At place) → FirstOf t.waiting place
+  pub open_first : Sound t → Picks (open? t) Request.stag t.waiting (Some place) → FirstOf t.waiting place
   open_first s p = (open_goes t s (at t.waiting place) (remove_at place t.waiting) p.pick).first

@@ -1,4 +1,5 @@
 -- What the walks and the moves of the choice ask, from a known table; and what the walks find, as the phases pick. Assumes nothing.
+use Rattle.std.specs.Prelude.{Option}
 use Prim.Native.Nat.{ℕ, ◌+◌, ◌-◌, ◌*◌, ◌≤◌, ◌<◌}
 use mathlib.Core.Path.{◌≡◌, refl, sym, ap, ◌∙◌}
 use mathlib.Core.Bool.{Bool, true, false, ◌&&◌}
@@ -22,12 +23,11 @@ use Rattle.rules.proofs.Spacings.{fair_is}
 use Rattle.rules.proofs.Picks.{Goes}
 use Rattle.rules.proofs.ChoiceSound.{sent_first}
 use Rattle.rules.specs.declared.Gate.{Gate}
-use Rattle.table.specs.Columns.{guest_wide, waiting_wide, flight_wide, most_guests, most_capacity, most_depth, RESERVATION, guest_at}
+use Rattle.table.specs.Columns.{guest_wide, waiting_wide, flight_wide, most_depth, RESERVATION, guest_at}
 use Rattle.table.specs.View.{guest_form, request_form, guests_of, table_of, Known}
 use Rattle.walks.specs.LeastLaws.{least_ext, open_by_tag}
 use Rattle.moves.specs.Moves.{Lawful, Unreserved, gone}
-use Rattle.walks.specs.Walks.{Picks, Owned, Rising, SharesFit}
-use Rattle.walks.specs.declared.Found.{Found}
+use Rattle.walks.specs.Walks.{Picks, Queued}
 use Rattle.table.proofs.Facts.{Facts, facts, rows_ask, row_is, guest_is}
 use Rattle.sends.specs.Firsts.{FirstOf}
 use Rattle.sends.proofs.Rising.{rising-rows}
@@ -42,15 +42,22 @@ module _ (g : Gate) (gs ws fs : List ℕ) (k : Known g gs ws fs) where
   f : Facts g gs ws fs
   f = facts g gs ws fs k
 
-  -- what the walk asks
-  pub line_asks : ((g.waiting ≤ most_capacity) × (g.waiting * waiting_wide ≤ length ws) × (g.guests ≤ most_guests) × (g.guests * guest_wide ≤ length gs))
-      × ((Owned ws g.waiting g.guests × Rising ws g.waiting × SharesFit ws g.waiting) × (g.time ≤ ceiling))
-  line_asks = (
-    ((rows_ask g gs ws fs k).0, (rows_ask g gs ws fs k).1, f.counts.guest-count.1, k.guest_room),
-    ((f.owners, rising-rows g gs ws fs k, λ j h. omega (arith, (f.lawfuls j h).share, ap Request.stag (row_is g gs ws fs k j h))), f.timed),
-  )
+  -- the requests that wait are as the walks are lent them
+  pub queued : Queued ws g.waiting gs g.guests g.time
+  queued =
+      record {
+        few = (rows_ask g gs ws fs k).0;
+        room = (rows_ask g gs ws fs k).1;
+        few_guests = f.counts.guest-count.1;
+        guest_room = k.guest_room;
+        early = f.timed;
+        owned = f.owners;
+        rising = rising-rows g gs ws fs k;
+        shares_fit = λ j h. omega (arith, (f.lawfuls j h).share, ap Request.stag (row_is g gs ws fs k j h));
+        limits_fit = λ j h. omega (arith, (f.lawfuls j h).limit, ap Request.ltag (row_is g gs ws fs k j h));
+      }
 
-  -- and of the latest limit tag that the reservation phase lets pass
+  -- the latest limit tag that the reservation phase lets pass is at most the ceiling
   pub latest_asks : (latest : ℕ) → latest ≡ (if eqb g.setup.rule 2 then g.time else ceiling) → latest ≤ ceiling
   latest_asks latest e = go (eqb g.setup.rule 2) e
     where
@@ -87,7 +94,7 @@ module _ (g : Gate) (gs ws fs : List ℕ) (k : Known g gs ws fs) where
       go false = sym (le-leb q.ltag ceiling (f.lawfuls j (omega (arith, length-rows request_form ws g.waiting))).limit)
 
   -- the walk's test is the reservation phase's
-  pub due_picks : (m : ℕ) → m ≡ latest → (x : Found) → Picks (λ q. due_at (settings_of (guests_of gs g.guests) q) g.time q && leb q.ltag m) Request.rtag t.waiting x
+  pub due_picks : (m : ℕ) → m ≡ latest → (x : Option ℕ) → Picks (λ q. due_at (settings_of (guests_of gs g.guests) q) g.time q && leb q.ltag m) Request.rtag t.waiting x
       → Picks (due t) Request.rtag t.waiting x
   due_picks m e x p =
       record {
@@ -99,7 +106,7 @@ module _ (g : Gate) (gs ws fs : List ℕ) (k : Known g gs ws fs) where
       }
 
   -- the walk's test is the weight phase's
-  pub open_picks : (x : Found) → Picks (λ q. leb q.ltag g.time) Request.stag t.waiting x → Picks (open? t) Request.stag t.waiting x
+  pub open_picks : (x : Option ℕ) → Picks (λ q. leb q.ltag g.time) Request.stag t.waiting x → Picks (open? t) Request.stag t.waiting x
   open_picks x p =
       record {
         pick = least_ext (open? t) (λ q. leb q.ltag t.time) Request.stag t.waiting (λ j h. open_by_tag (settings_of t.guests (at t.waiting j)) t.time (at t.waiting j) (limit_zero j h)) ∙ p.pick;

@@ -1,4 +1,5 @@
 -- What the functions of the choice know at their calls and at their ends, from what their callees ensure. Assumes nothing.
+use Rattle.std.specs.Prelude.{Some, None, Option}
 use Prim.Native.Nat.{ℕ, ◌+◌, ◌-◌, ◌*◌, ◌≤◌, ◌<◌}
 use mathlib.Core.Path.{◌≡◌, sym, ap, ◌∙◌, subst}
 use mathlib.Core.Bool.{◌&&◌}
@@ -21,8 +22,6 @@ use Rattle.table.specs.View.{decision_of, flight_form, guests_of, table_of, Know
 use Rattle.moves.specs.Moves.{gone, joined, Named, fall_of, next_dropped, tags_dropped, Lawful, Unreserved}
 use Rattle.walks.specs.Walks.{Picks}
 use Rattle.moves.specs.declared.rows.Sent.{Sent as Gone}
-use Rattle.walks.specs.declared.Found.{Found}
-use Rattle.walks.specs.declared.Found.TheVariants.{At, Nothing as NoPlace}
 use Rattle.table.specs.Does.{written, Leaves, weight_phase, reservation_phase, sent_gate, sending}
 use Rattle.table.proofs.Facts.{facts}
 use Rattle.table.proofs.Left.{stays}
@@ -85,42 +84,42 @@ module _ (g : Gate) (gs ws fs : List ℕ) (k : Known g gs ws fs) where
     -- THE RESERVATION PHASE, where m is the latest limit tag that passes
 
     module _ (m : ℕ) (is : m ≡ latest g gs ws fs k) where
-      abbrev Due : Found → Type 0
+      abbrev Due : Option ℕ → Type 0
       Due x = Picks (λ q. due_at (settings_of (guests_of gs g.guests) q) g.time q && leb q.ltag m) Request.rtag t.waiting x
 
       -- the place that is due is one of those that wait, and the first of its guest
-      pub due-here : (x : Found) (place : ℕ) → Due x → x ≡ At place → (place < g.waiting) × FirstOf t.waiting place
+      pub due-here : (x : Option ℕ) (place : ℕ) → Due x → x ≡ Some place → (place < g.waiting) × FirstOf t.waiting place
       due-here x place p e =
           let f = found_at g gs ws fs k x place (due_picks g gs ws fs k m is x p) e in
           (f.1, due-first t place (facts g gs ws fs k).firm f.0)
 
       -- and its send is what the phase comes to
-      pub one-due : (x : Found) (place : ℕ) → Due x → x ≡ At place → {d : Decision} {hs vs es : List ℕ}
+      pub one-due : (x : Option ℕ) (place : ℕ) → Due x → x ≡ Some place → {d : Decision} {hs vs es : List ℕ}
           → Leaves (λ t. sent_by_reservation_at t place) g gs ws fs d hs vs es → Leaves reservation_phase g gs ws fs d hs vs es
       one-due x place p e = alike (reservation_at g gs ws fs k place (found_at g gs ws fs k x place (due_picks g gs ws fs k m is x p) e).0)
 
-      pub none-due : (x : Found) → Due x → x ≡ NoPlace → {d : Decision} {hs vs es : List ℕ} → Leaves weight_phase g gs ws fs d hs vs es → Leaves reservation_phase g gs ws fs d hs vs es
-      none-due x p e = alike (reservation_none g gs ws fs k (subst (λ (y : Found). Picks (due t) Request.rtag t.waiting y) e (due_picks g gs ws fs k m is x p)))
+      pub none-due : (x : Option ℕ) → Due x → x ≡ None → {d : Decision} {hs vs es : List ℕ} → Leaves weight_phase g gs ws fs d hs vs es → Leaves reservation_phase g gs ws fs d hs vs es
+      none-due x p e = alike (reservation_none g gs ws fs k (subst (λ (y : Option ℕ). Picks (due t) Request.rtag t.waiting y) e (due_picks g gs ws fs k m is x p)))
 
     -- THE WEIGHT PHASE
 
-    abbrev Open : Found → Type 0
+    abbrev Open : Option ℕ → Type 0
     Open x = Picks (λ q. leb q.ltag g.time) Request.stag t.waiting x
 
     -- the place that is open is one of those that wait, and the first of its guest
-    pub open_here : (x : Found) (place : ℕ) → Open x → x ≡ At place → (place < g.waiting) × FirstOf t.waiting place
+    pub open_here : (x : Option ℕ) (place : ℕ) → Open x → x ≡ Some place → (place < g.waiting) × FirstOf t.waiting place
     open_here x place p e =
         let f = found_at g gs ws fs k x place (open_picks g gs ws fs k x p) e in
         (f.1, open_first t place (facts g gs ws fs k).firm f.0)
 
     -- and its send is what the phase comes to
-    pub one_open : (x : Found) (place : ℕ) → Open x → x ≡ At place → {d : Decision} {hs vs es : List ℕ}
+    pub one_open : (x : Option ℕ) (place : ℕ) → Open x → x ≡ Some place → {d : Decision} {hs vs es : List ℕ}
         → Leaves (λ t. sent_by_weight_at t place) g gs ws fs d hs vs es → Leaves weight_phase g gs ws fs d hs vs es
     one_open x place p e = alike (weight-at g gs ws fs k place (found_at g gs ws fs k x place (open_picks g gs ws fs k x p) e).0)
 
-    pub none_open : (x : Found) → Open x → x ≡ NoPlace → (d : Decision) → d ≡ decision_of g Nothing → Leaves weight_phase g gs ws fs d gs ws fs
+    pub none_open : (x : Option ℕ) → Open x → x ≡ None → (d : Decision) → d ≡ decision_of g Nothing → Leaves weight_phase g gs ws fs d gs ws fs
     none_open x p e d ed =
-        again weight_phase (λ i. (ed i, gs, ws, fs)) (stays g gs ws fs k {f = weight_phase} (weight-none g gs ws fs k (subst (λ (y : Found). Picks (open? t) Request.stag t.waiting y) e (open_picks g gs ws fs k x p))))
+        again weight_phase (λ i. (ed i, gs, ws, fs)) (stays g gs ws fs k {f = weight_phase} (weight-none g gs ws fs k (subst (λ (y : Option ℕ). Picks (open? t) Request.stag t.waiting y) e (open_picks g gs ws fs k x p))))
 
     -- THE CHOICE
 

@@ -1,4 +1,5 @@
 -- A send by reservation over the lent numbers is the one of the definitions; and what a phase comes to where it finds nothing. Assumes nothing.
+use Rattle.std.specs.Prelude.{Some, None, Option}
 use Prim.Native.Nat.{ℕ, ◌+◌, ◌-◌, ◌*◌, ◌<◌}
 use mathlib.Core.Path.{◌≡◌, sym, ap, ◌∙◌}
 use mathlib.Core.Bool.{Bool}
@@ -20,8 +21,6 @@ use Rattle.table.specs.ViewLaws.{guest_exact}
 use Rattle.moves.specs.Moves.{gone, joined}
 use Rattle.moves.specs.MovesLaws.{gone_is, joined_is}
 use Rattle.walks.specs.Walks.{Picks}
-use Rattle.walks.specs.declared.Found.{Found}
-use Rattle.walks.specs.declared.Found.TheVariants.{At, Nothing as NoPlace}
 use Rattle.table.specs.Does.{written, Leaves, weight_phase, reservation_phase, sent_gate}
 use Rattle.table.proofs.Facts.{facts, row_is}
 
@@ -50,29 +49,29 @@ module _ (g : Gate) (gs ws fs : List ℕ) (k : Known g gs ws fs) where
   t = table_of g gs ws fs
 
   -- one is due
-  pub reservation_at : (place : ℕ) → Picks (due t) Request.rtag t.waiting (At place) → sent_by_reservation_at t place ≡ reservation_phase t
+  pub reservation_at : (place : ℕ) → Picks (due t) Request.rtag t.waiting (Some place) → sent_by_reservation_at t place ≡ reservation_phase t
   unfolding by_reservation
   reservation_at place p = rw p.pick
 
   -- none is due
-  pub reservation_none : Picks (due t) Request.rtag t.waiting NoPlace → weight_phase t ≡ reservation_phase t
+  pub reservation_none : Picks (due t) Request.rtag t.waiting None → weight_phase t ≡ reservation_phase t
   unfolding by_reservation
   reservation_none p = rw p.pick
 
   -- one is open
-  pub weight-at : (place : ℕ) → Picks (open? t) Request.stag t.waiting (At place) → sent_by_weight_at t place ≡ weight_phase t
+  pub weight-at : (place : ℕ) → Picks (open? t) Request.stag t.waiting (Some place) → sent_by_weight_at t place ≡ weight_phase t
   unfolding by_weight
   weight-at place p = rw p.pick
 
   -- none is open
-  pub weight-none : Picks (open? t) Request.stag t.waiting NoPlace → weight_phase t ≡ record { table = t; answer = Nothing }
+  pub weight-none : Picks (open? t) Request.stag t.waiting None → weight_phase t ≡ record { table = t; answer = Nothing }
   unfolding by_weight
   weight-none p = rw p.pick
 
   -- a place that a walk found is one of those that wait
-  pub found_at : {ok : Request → Bool} {tag : Request → ℕ} (f : Found) (place : ℕ) → Picks ok tag t.waiting f → f ≡ At place → Picks ok tag t.waiting (At place) × (place < g.waiting)
+  pub found_at : {ok : Request → Bool} {tag : Request → ℕ} (f : Option ℕ) (place : ℕ) → Picks ok tag t.waiting f → f ≡ Some place → Picks ok tag t.waiting (Some place) × (place < g.waiting)
   found_at {ok} {tag} f place p e =
-      let q : Picks ok tag t.waiting (At place) = rw e at p in
+      let q : Picks ok tag t.waiting (Some place) = rw e at p in
       (q, omega (arith, q.inside, length-rows request_form ws g.waiting))
 
   module _ (free : g.flight < g.setup.depth) (place : ℕ) (here : place < g.waiting) where

@@ -2,118 +2,63 @@
 // what was read before it, and promises what was after it: crates/pages/specs/Standing.antt. It reads and writes by `stream` alone, and writes at the end.
 #![tactic(auto)]
 
-ghost use Rattle.std.specs.Prelude.{◌≡◌, ◌≤◌, length, take};
+ghost use Rattle.std.specs.Prelude.{◌≡◌, ◌≤◌, take, Ok};
 ghost use Rattle.lines.specs.Line.{refusal_line};
 ghost use Rattle.port.specs.Tape.{Holds, blank};
 ghost use Rattle.trace.specs.Header.{header_of};
-ghost use Rattle.trace.specs.declared.Header.TheVariants.{Opened};
-ghost use Rattle.begin.specs.Begin.{Largest};
 ghost use Rattle.stream.specs.Outcome.{Last, First};
 ghost use Rattle.pages.specs.Sheet.{sheet_of};
-ghost use Rattle.pages.specs.Standing.{Roomy, Listed};
+ghost use Rattle.pages.specs.Standing.{Listed};
 
+use buffers::BUFFER_LONG;
 use headers::read_header;
 use port::Streams;
+use rolls::ledger::Ledger;
 use rules::Refusal;
-use stream::{End, Filled};
-use table::columns::{FLIGHT_LONG, GUESTS_LONG, SETTINGS_LONG, WAITING_LONG};
-use tally::columns::{BOOK_LONG, FIGURES_LONG};
-use trace::Header;
+use stream::{End, ReadFailed};
+use trace::Opened;
 
 // Makes the arrays, each for the largest settings, runs the trace on them, and says on standard error where a read or a write failed.
 fn main(rt: HostRuntime) {
-    let mut buffer = [0u8; 4096];
-    let mut settings = [0u64; SETTINGS_LONG];
-    let mut guests = [0u64; GUESTS_LONG];
-    let mut waiting = [0u64; WAITING_LONG];
-    let mut flight = [0u64; FLIGHT_LONG];
-    let mut book = [0u64; BOOK_LONG];
-    let mut figures = [0u64; FIGURES_LONG];
+    let mut buffer = [0u8; BUFFER_LONG];
+    let mut ledger = Ledger::new();
     let mut streams = port::open(rt);
     let mut log = port::start();
-    let end = run(
-        &mut buffer,
-        &mut settings,
-        &mut guests,
-        &mut waiting,
-        &mut flight,
-        &mut book,
-        &mut figures,
-        &mut streams,
-        &mut log,
-    );
-    report(end, &streams);
-}
-
-// One line where a read or a write failed, and none else.
-fn report(end: End, streams: &Streams) {
-    match end {
-        End::Unread => port::complain(b"sheet: cannot read standard input", streams),
-        End::Unwritten => port::complain(b"sheet: cannot write standard output", streams),
-        End::Whole => {}
-        End::Unended => {}
-    }
+    let end = run(&mut buffer, &mut ledger, &mut streams, &mut log);
+    stream::report(b"sheet", end, &streams);
 }
 
 // Reads the first bytes, which hold the whole header or all of a shorter input, and goes on with them.
 fn run(
-    buffer: &mut [u8],
-    settings: &mut [u64],
-    guests: &mut [u64],
-    waiting: &mut [u64],
-    flight: &mut [u64],
-    book: &mut [u64],
-    figures: &mut [u64],
+    buffer: &mut [u8; BUFFER_LONG],
+    ledger: &mut Ledger,
     streams: &mut Streams,
     log: &mut u64,
 ) -> End
-    requires buffer_len { length buffer.old ≡ 4096 }
-    requires largest { Largest settings.old guests.old waiting.old flight.old }
-    requires roomy { Roomy book.old figures.old }
-    requires holds { Holds log.old blank }
+    requires { Holds log.old blank }
     ensures { Listed result log.new }
 {
-    let filled = stream::fill(buffer, streams, log);
-    match filled {
-        Filled::Upto(have) => judge(
-            buffer, have, settings, guests, waiting, flight, book, figures, streams, log,
-        ),
-        Filled::Failed => End::Unread,
+    match stream::fill(buffer, streams, log) {
+        Ok(have) => judge(buffer, have, ledger, streams, log),
+        Err(ReadFailed) => End::Unread,
     }
 }
 
 // Goes on by what the header is.
 fn judge(
-    buffer: &mut [u8],
+    buffer: &mut [u8; BUFFER_LONG],
     have: usize,
-    settings: &mut [u64],
-    guests: &mut [u64],
-    waiting: &mut [u64],
-    flight: &mut [u64],
-    book: &mut [u64],
-    figures: &mut [u64],
+    ledger: &mut Ledger,
     streams: &mut Streams,
     log: &mut u64,
 ) -> End
-    requires buffer_len { (length buffer.old ≡ 4096) × (have ≤ 4096) }
-    requires largest { Largest settings.old guests.old waiting.old flight.old }
-    requires roomy { Roomy book.old figures.old }
+    requires have_in_bounds { have ≤ 4096 }
     requires first { First log.old (take have buffer.old) }
     ensures { Listed result log.new }
 {
-    let header = read_header(&buffer[..have]);
-    match header {
-        Header::Refused(refusal) => refuse(refusal, streams, log),
-        Header::Opened {
-            version,
-            depth,
-            guests: known,
-            capacity,
-            rule,
-        } => follow(
-            buffer, have, version, depth, known, capacity, rule, settings, guests, waiting, flight,
-            book, figures, streams, log,
-        ),
+    match read_header(&buffer[..have]) {
+        Err(refusal) => refuse(refusal, streams, log),
+        Ok(opened) => follow(buffer, have, opened, ledger, streams, log),
     }
 }
 
@@ -129,47 +74,20 @@ fn refuse(refusal: Refusal, streams: &mut Streams, log: &mut u64) -> End
 
 // A good header: opens the tables, clears the figures, and goes on with the events. A buffer that is not full holds all of the input.
 fn follow(
-    buffer: &mut [u8],
+    buffer: &mut [u8; BUFFER_LONG],
     have: usize,
-    version: u64,
-    depth: u64,
-    known: u64,
-    capacity: u64,
-    rule: u64,
-    settings: &mut [u64],
-    guests: &mut [u64],
-    waiting: &mut [u64],
-    flight: &mut [u64],
-    book: &mut [u64],
-    figures: &mut [u64],
+    opened: Opened,
+    ledger: &mut Ledger,
     streams: &mut Streams,
     log: &mut u64,
 ) -> End
-    requires buffer_len { (length buffer.old ≡ 4096) × (have ≤ 4096) }
-    requires buffer_value { header_of (take have buffer.old) ≡ Opened version depth known capacity rule }
-    requires largest { Largest settings.old guests.old waiting.old flight.old }
-    requires roomy { Roomy book.old figures.old }
+    requires have_in_bounds { have ≤ 4096 }
+    requires buffer_value { header_of (take have buffer.old) ≡ Ok opened }
     requires first { First log.old (take have buffer.old) }
     ensures { Listed result log.new }
 {
-    let begun = begin::begin(
-        buffer, have, version, depth, known, capacity, rule, settings, guests, waiting, flight,
-    );
-    let rest = begun.rest;
-    let gate = begun.gate;
-    moves::rows::clear(figures, FIGURES_LONG);
-    rolls::run(
-        have < 4096,
-        version,
-        buffer,
-        rest,
-        gate,
-        guests,
-        waiting,
-        flight,
-        book,
-        figures,
-        streams,
-        log,
-    )
+    let rest = begin::begin(buffer, have, opened, &mut ledger.tables);
+    ledger.figures.fill(0);
+    let ended = have < BUFFER_LONG;
+    rolls::run(ended, opened.version, buffer, rest, ledger, streams, log)
 }

@@ -13,7 +13,7 @@ ghost use Rattle.arrays.specs.Steps.{verdict_of, lent_tests, guest_tests};
 use arrays::{Ask, Site};
 use calling::counts::{is_counted, is_ruled};
 use counters::{COUNTER_WIDE, MOST_ARRAYS, is_good};
-use gate::Judged;
+use gate::Opening;
 use phases::is_in_step;
 use rules::{Gate, Refusal};
 
@@ -21,10 +21,7 @@ use rules::{Gate, Refusal};
 fn is_several(arrays: u64) -> bool
     ensures { result ≡ within 1 most_arrays arrays }
 {
-    if arrays < 1 {
-        return false;
-    }
-    arrays <= MOST_ARRAYS
+    (1..=MOST_ARRAYS).contains(&arrays)
 }
 
 // Counters or phases are shorter than so many guests at so many arrays and a depth need.
@@ -32,35 +29,29 @@ fn is_short(arrays: usize, guests: usize, depth: usize, counters: &[u64], phases
     requires { (arrays ≤ most_arrays) × (guests ≤ most_guests) }
     ensures { result ≡ short_at arrays guests depth counters.now phases.now }
 {
-    if counters.len() < arrays * guests * COUNTER_WIDE {
-        return true;
-    }
-    phases.len() < depth
+    counters.len() < arrays * guests * COUNTER_WIDE || phases.len() < depth
 }
 
 // The arrays, the gate's counts, and the counters and phases, which are lent beside its tables: 22, 3, 2, 3.
-fn judge_lent(site: Site, gate: Gate, counters: &[u64], phases: &[u64]) -> Judged
+fn judge_lent(site: Site, gate: Gate, counters: &[u64], phases: &[u64]) -> Result<(), Refusal>
     ensures { verdict_of result ≡ judged (lent_tests site gate counters.now phases.now) }
 {
     if !is_several(site.arrays) {
-        return Judged::Bad(Refusal::NoArray);
+        return Err(Refusal::NoArray);
     }
     if !is_counted(gate.setup.depth, gate.guests, gate.setup.capacity) {
-        return Judged::Bad(Refusal::Unsound);
+        return Err(Refusal::Unsound);
     }
     let arrays = site.arrays as usize;
     let guests = gate.guests as usize;
     let depth = gate.setup.depth as usize;
     if is_short(arrays, guests, depth, counters, phases) {
-        return Judged::Bad(Refusal::ShortTable);
+        return Err(Refusal::ShortTable);
     }
-    if !is_good(counters, arrays * guests) {
-        return Judged::Bad(Refusal::Unsound);
+    if !is_good(counters, arrays * guests) || !is_in_step(phases, gate.flight, depth) {
+        return Err(Refusal::Unsound);
     }
-    if !is_in_step(phases, gate.flight, depth) {
-        return Judged::Bad(Refusal::Unsound);
-    }
-    Judged::Good
+    Ok(())
 }
 
 // The array that is named is not there.
@@ -71,27 +62,27 @@ fn is_absent(site: Site) -> bool
 }
 
 // The array that is named: 22.
-fn judge_array(site: Site) -> Judged
+fn judge_array(site: Site) -> Result<(), Refusal>
     ensures { verdict_of result ≡ judged (array_test site ∷ []) }
 {
     if is_absent(site) {
-        return Judged::Bad(Refusal::NoArray);
+        return Err(Refusal::NoArray);
     }
-    Judged::Good
+    Ok(())
 }
 
 // A guest, and the array that is named: 4, 22.
-fn judge_guest(site: Site, gate: Gate, guest: u64) -> Judged
+fn judge_guest(site: Site, gate: Gate, guest: u64) -> Result<(), Refusal>
     ensures { verdict_of result ≡ judged (guest_tests site gate guest) }
 {
     if gate.guests <= guest {
-        return Judged::Bad(Refusal::UnknownGuest);
+        return Err(Refusal::UnknownGuest);
     }
     judge_array(site)
 }
 
 // The guest of what is asked, where it has one, and the array that is named.
-fn judge_place(site: Site, gate: Gate, what: Ask) -> Judged
+fn judge_place(site: Site, gate: Gate, what: Ask) -> Result<(), Refusal>
     ensures { verdict_of result ≡ judged (place_tests site gate what) }
 {
     match what {
@@ -102,45 +93,40 @@ fn judge_place(site: Site, gate: Gate, what: Ask) -> Judged
 }
 
 // All that is judged before the gate is asked.
-pub fn judge(site: Site, gate: Gate, counters: &[u64], phases: &[u64], what: Ask) -> Judged
+pub fn judge(
+    site: Site,
+    gate: Gate,
+    counters: &[u64],
+    phases: &[u64],
+    what: Ask,
+) -> Result<(), Refusal>
     ensures { verdict_of result ≡ judged (ask_tests site gate counters.now phases.now what) }
 {
-    let found = judge_lent(site, gate, counters, phases);
-    match found {
-        Judged::Bad(why) => Judged::Bad(why),
-        Judged::Good => judge_place(site, gate, what),
-    }
+    judge_lent(site, gate, counters, phases)?;
+    judge_place(site, gate, what)
 }
 
 // All that is judged before the gate is opened: 22, 1, 2.
 pub fn judge_opening(
     site: Site,
-    depth: u64,
-    known: u64,
-    capacity: u64,
-    rule: u64,
+    opening: Opening,
     counters: &[u64],
     phases: &[u64],
-) -> Judged
-    ensures { verdict_of result ≡ judged (opening_tests site depth known capacity rule counters.now phases.now) }
+) -> Result<(), Refusal>
+    ensures { verdict_of result ≡ judged (opening_tests site opening.setup.depth opening.guests opening.setup.capacity opening.setup.rule counters.now phases.now) }
 {
-    if !is_several(site.arrays) {
-        return Judged::Bad(Refusal::NoArray);
+    if !is_several(site.arrays) || is_absent(site) {
+        return Err(Refusal::NoArray);
     }
-    if is_absent(site) {
-        return Judged::Bad(Refusal::NoArray);
-    }
-    if !is_counted(depth, known, capacity) {
-        return Judged::Bad(Refusal::BadSetting);
-    }
-    if !is_ruled(rule) {
-        return Judged::Bad(Refusal::BadSetting);
+    let setup = opening.setup;
+    if !is_counted(setup.depth, opening.guests, setup.capacity) || !is_ruled(setup.rule) {
+        return Err(Refusal::BadSetting);
     }
     let arrays = site.arrays as usize;
-    let guests = known as usize;
-    let places = depth as usize;
+    let guests = opening.guests as usize;
+    let places = opening.setup.depth as usize;
     if is_short(arrays, guests, places, counters, phases) {
-        return Judged::Bad(Refusal::ShortTable);
+        return Err(Refusal::ShortTable);
     }
-    Judged::Good
+    Ok(())
 }

@@ -2,7 +2,6 @@
 ghost use Rattle.std.specs.Prelude.{◌≡◌, ◌<◌};
 ghost use Rattle.batch.specs.Rows.{count_of, event_from, event_at};
 
-use batch::Read;
 use rules::{Arriving, Event, Flight};
 
 // How many numbers a row has.
@@ -32,48 +31,41 @@ pub const EVENT_RHO: usize = 6;
 // The most events of one call.
 pub const MOST_EVENTS: usize = 256;
 
-// The event that seven numbers are.
-fn event_from(kind: u64, guest: u64, id: u64, time: u64, cost: u64, delta: u64, rho: u64) -> Read
+// The event that seven numbers are, or none: refusal 14.
+// The kind is the number that C hands over, and this is the one place that reads it.
+#[tactic(auto, unfolding(batch::specs::Rows::event_from))]
+fn event_from(
+    kind: u64,
+    guest: u64,
+    id: u64,
+    time: u64,
+    cost: u64,
+    delta: u64,
+    rho: u64,
+) -> Option<Event>
     ensures { result ≡ event_from kind guest id time cost delta rho }
 {
-    if 4294967296 <= id {
-        return Read::Bad;
-    }
-    let id = id as u32;
-    if kind == 0 {
-        let what = Arriving {
-            guest,
-            id,
-            cost,
-            delta,
-            rho,
-        };
-        return Read::Good(Event::Arrival(what, time));
-    }
-    if cost != 0 {
-        return Read::Bad;
-    }
-    if delta != 0 {
-        return Read::Bad;
-    }
-    if rho != 0 {
-        return Read::Bad;
-    }
-    if kind == 1 {
-        return Read::Good(Event::Completion(Flight { guest, id }, time));
-    }
-    if kind == 2 {
-        if guest == 0 {
-            if id == 0 {
-                return Read::Good(Event::Tick(time));
-            }
+    let id = u32::try_from(id).ok()?;
+    let bare = cost == 0 && delta == 0 && rho == 0;
+    match kind {
+        0 => {
+            let what = Arriving {
+                guest,
+                id,
+                cost,
+                delta,
+                rho,
+            };
+            Some(Event::Arrival(what, time))
         }
+        1 if bare => Some(Event::Completion(Flight { guest, id }, time)),
+        2 if bare && guest == 0 && id == 0 => Some(Event::Tick(time)),
+        _ => None,
     }
-    Read::Bad
 }
 
 // The event of row k.
-pub fn event_at(events: &[u64], k: usize) -> Read
+pub fn event_at(events: &[u64], k: usize) -> Option<Event>
     requires { k < count_of events.now }
     ensures { result ≡ event_at events.now k }
 {

@@ -11,7 +11,7 @@ use Rattle.table.specs.Columns.{guest_wide, waiting_wide, most_capacity, LIMIT, 
 use Rattle.table.specs.View.{table_of}
 use Rattle.moves.specs.Moves.{appended, followed}
 use Rattle.table.specs.Does.{placed_gate}
-use Rattle.stamps.specs.declared.Stamp.{Stamp}
+use Rattle.tags.specs.declared.Stamp.{Stamp}
 
 -- the tags of a request of the guest h that arrives now
 abbrev pub stamp_of : (idle : Bool) (now : ℕ) → Guest → Stamp

@@ -8,18 +8,11 @@ ghost use Rattle.table.specs.Columns.{guest_wide};
 ghost use Rattle.table.specs.View.{guest_form};
 ghost use Rattle.stamps.specs.Arrive.{stamp_of, Stampable, Placeable, Placed};
 
+use places::Placing;
 use rules::{Arriving, Gate};
 use table::columns::{CREDIT, GUEST_WIDE, LIMIT, LNEXT, RESERVATION, RNEXT, SHARES, SNEXT};
 use table::gates;
-use tags::{raised_down, raised_up};
-
-// The tags that an arriving request gets.
-#[derive(Drop)]
-pub struct Stamp {
-    pub rtag: u64,
-    pub ltag: u64,
-    pub stag: u64,
-}
+use tags::{Down, Stamp, Up, raised};
 
 // The tags of a request that arrives: of each kind its guest has, the larger of the next number, raised for delta or rho, and the time; but the share tag may
 // lie back by its credit, and at an idle guest it is not later than the time.
@@ -35,9 +28,9 @@ pub fn tags_of(guests: &[u64], what: Arriving, time: u64, idle: bool) -> Stamp
     let snext = guests[g * GUEST_WIDE + SNEXT];
     let shares = guests[g * GUEST_WIDE + SHARES];
     let credit = guests[g * GUEST_WIDE + CREDIT];
-    let r = raised_down(what.rho, reservation, rnext);
-    let l = raised_up(what.delta, limit, lnext);
-    let s = raised_down(what.delta, shares, snext);
+    let r = raised::<Down>(what.rho, reservation, rnext);
+    let l = raised::<Up>(what.delta, limit, lnext);
+    let s = raised::<Down>(what.delta, shares, snext);
     let rtag = tags::tag_if(0 < reservation, time, r);
     let ltag = tags::tag_if(0 < limit, time, l);
     let stag = tags::share_tag(idle, time, s, shares, credit);
@@ -55,25 +48,19 @@ pub fn place(
     waiting: &mut [u64],
     what: Arriving,
     time: u64,
-    tags: Stamp,
+    stamp: Stamp,
 ) -> Gate
-    requires { Placeable gate guests.old waiting.old what tags }
-    ensures { Placed gate guests.old waiting.old what time tags result guests.new waiting.new }
+    requires { Placeable gate guests.old waiting.old what stamp }
+    ensures { Placed gate guests.old waiting.old what time stamp result guests.new waiting.new }
 {
     let count = gate.waiting as usize;
-    let rtag = tags.rtag;
-    let ltag = tags.ltag;
-    let stag = tags.stag;
-    places::append(
-        waiting,
-        count,
-        what.guest,
-        what.id as u64,
-        rtag,
-        ltag,
-        stag,
-        what.cost,
-    );
-    places::follow(guests, what.guest, rtag, ltag, stag, what.cost);
+    let placing = Placing {
+        guest: what.guest,
+        id: what.id as u64,
+        stamp: stamp,
+        cost: what.cost,
+    };
+    places::append(waiting, count, placing);
+    places::follow(guests, placing);
     gates::placed(gate, time)
 }

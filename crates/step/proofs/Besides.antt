@@ -1,4 +1,5 @@
 -- The index beside the rows, through a step. Assumes nothing.
+use Rattle.std.specs.Prelude.{Option, Err, Result as OkOrErr}
 use Prim.Native.Nat.{ℕ, ◌*◌}
 use mathlib.Core.Path.{◌≡◌, sym, ap, ◌∙◌, subst}
 use mathlib.Core.List.{List}
@@ -6,7 +7,6 @@ use Rattle.rules.specs.declared.Gate.{Gate}
 use Rattle.rules.specs.declared.Refusal.{Refusal}
 use Rattle.rules.specs.declared.Answer.{Answer}
 use Rattle.rules.specs.declared.Outcome.{Outcome}
-use Rattle.rules.specs.declared.Wake.{Wake}
 use Rattle.table.specs.declared.gates.Decision.{Decision}
 use Rattle.rules.specs.Tables.{Table}
 use Rattle.rules.specs.Choice.{Result}
@@ -21,17 +21,15 @@ use lib.ListN.{length}
 use Rattle.index.specs.Index.{Beside, stands, Snug}
 use Rattle.index.proofs.Laws.{stands-kept}
 use Rattle.enter.specs.Enters.{EntersBeside}
-use Rattle.enter.specs.declared.Entered.{Entered}
-use Rattle.enter.specs.declared.Entered.TheVariants.{Refused}
 use Rattle.enter.proofs.Besides.{beside_barred}
 
 module _ {vs ix : List ℕ} (g : Gate) where
   -- the event was refused
-  pub beside_refused : (x : Entered) (r : Refusal) → x ≡ Refused r → (a : Answer) (d : Decision) → d ≡ decision_of g a → EntersBeside g x vs ix → Beside vs ix d.gate.waiting
+  pub beside_refused : (x : OkOrErr Gate Refusal) (r : Refusal) → x ≡ Err r → (a : Answer) (d : Decision) → d ≡ decision_of g a → EntersBeside g x vs ix → Beside vs ix d.gate.waiting
   beside_refused x r e a d p b = subst (λ (y : Decision). Beside vs ix y.gate.waiting) (sym p) (beside_barred g x r e b)
 
   -- the gate is handed back
-  pub beside_handed : (a : Answer) (w : Wake) (o : Outcome) → o ≡ outcome_of g a w → Beside vs ix g.waiting → Beside vs ix o.gate.waiting
+  pub beside_handed : (a : Answer) (w : Option ℕ) (o : Outcome) → o ≡ outcome_of g a w → Beside vs ix g.waiting → Beside vs ix o.gate.waiting
   beside_handed a w o p b = subst (λ (y : Outcome). Beside vs ix y.gate.waiting) (sym p) b
 
 -- an index as long says the same of where the rows stand
@@ -58,12 +56,12 @@ module _ (g : Gate) (gs ws fs : List ℕ) (e : Event) (d : Decision) (hs vs es i
       ((es, subst (λ (x : List ℕ). Known d.gate hs x es) p k), (subst (λ (x : List ℕ). Beside x ix' d.gate.waiting) p b, step_snug (stands ix d.answer vs) l long snug))
 
   -- and what it says
-  pub wake-said : Known d.gate hs (stands ix d.answer vs) es → (w : Wake)
+  pub wake-said : Known d.gate hs (stands ix d.answer vs) es → (w : Option ℕ)
       → ((us js : List ℕ) → Known d.gate hs (stands ix' d.answer vs) us → w ≡ wake (table_of d.gate hs (stands ix' d.answer vs) js)) → w ≡ wake (table_of d.gate hs (stands ix d.answer vs) es)
   wake-said k w said =
       let p = stands-kept ix ix' vs d.answer same in
       said es es (subst (λ (x : List ℕ). Known d.gate hs x es) (sym p) k) ∙ (λ i. wake (table_of d.gate hs (p i) es))
 
 -- what is handed back has the answer of the step, and so the rows stand where they stood after it
-pub handed-stands : (ix vs : List ℕ) (d : Decision) (a : Answer) (w : Wake) (o : Outcome) → o ≡ outcome_of d.gate a w → a ≡ d.answer → stands ix o.answer vs ≡ stands ix d.answer vs
+pub handed-stands : (ix vs : List ℕ) (d : Decision) (a : Answer) (w : Option ℕ) (o : Outcome) → o ≡ outcome_of d.gate a w → a ≡ d.answer → stands ix o.answer vs ≡ stands ix d.answer vs
 handed-stands ix vs d a w o p e = ap (λ (x : Outcome). stands ix x.answer vs) p ∙ ap (λ (x : Answer). stands ix x vs) e

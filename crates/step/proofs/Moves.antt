@@ -1,5 +1,6 @@
 -- What an event enters, and then the choice on it, are together a step; a refused event leaves all as it stood. And with the time to wake what a step
 -- leaves is what a call hands back. Assumes nothing.
+use Rattle.std.specs.Prelude.{Option, Err, Ok, Result as OkOrErr}
 use Prim.Native.Nat.{ℕ}
 use mathlib.Core.Path.{◌≡◌, refl, sym, ap, ◌∙◌, subst}
 use mathlib.Core.Bool.{true}
@@ -21,7 +22,6 @@ use Rattle.rules.specs.declared.Refusal.{Refusal}
 use Rattle.rules.specs.declared.Answer.{Answer}
 use Rattle.rules.specs.declared.Answer.TheVariants.{Nothing, Sent, Refused}
 use Rattle.rules.specs.declared.Outcome.{Outcome}
-use Rattle.rules.specs.declared.Wake.{Wake}
 use Rattle.table.specs.declared.gates.Decision.{Decision}
 use Rattle.table.specs.View.{decision_of, outcome_of, table_of, Known}
 use Rattle.table.specs.Does.{Lent, written, does, Leaves, refusing}
@@ -29,8 +29,6 @@ use Rattle.table.proofs.Lens.{Room, written-shown, written-again, known-room}
 use Rattle.table.proofs.Left.{stays, left-handed}
 use Rattle.step.proofs.After.{choice-known, step-shown}
 use Rattle.enter.specs.Enters.{EntersAt, Enters}
-use Rattle.enter.specs.declared.Entered.{Entered}
-use Rattle.enter.specs.declared.Entered.TheVariants.{Refused as Barred, At}
 
 -- an answer that is no refusal carries the time to wake
 carries : (a : Answer) (u : Table) → ((r : Refusal) → a ≡ Refused r → ⊥) → wake u ≡ tells_of a u
@@ -48,19 +46,19 @@ module _ (g : Gate) (gs ws fs : List ℕ) (k : Known g gs ws fs) (e : Event) whe
   refused_stays r v = stays g gs ws fs k {f = λ t. step t e} (rw v)
 
   -- what the event came to, and the numbers after it
-  module _ (x : Entered) (hs vs es : List ℕ) (c : Enters e g gs ws fs x hs vs es) where
+  module _ (x : OkOrErr Gate Refusal) (hs vs es : List ℕ) (c : Enters e g gs ws fs x hs vs es) where
     -- a refusal is the step, and what is left is known as before
-    pub refused-moves : (r : Refusal) → x ≡ Barred r → (d : Decision) → d ≡ decision_of g (Refused r) → Leaves (λ t. step t e) g gs ws fs d hs vs es × Known d.gate hs vs es
+    pub refused-moves : (r : Refusal) → x ≡ Err r → (d : Decision) → d ≡ decision_of g (Refused r) → Leaves (λ t. step t e) g gs ws fs d hs vs es × Known d.gate hs vs es
     refused-moves r p d q =
-        let b : Enters e g gs ws fs (Barred r) hs vs es = subst (λ (y : Entered). Enters e g gs ws fs y hs vs es) p c in
+        let b : Enters e g gs ws fs (Err r) hs vs es = subst (λ (y : OkOrErr Gate Refusal). Enters e g gs ws fs y hs vs es) p c in
         let l = refused_stays r b.0 in
         let s : ◌≡◌ {A = Lent} (d.gate, hs, vs, es) (g, gs, ws, fs) = λ i. ((q i).gate, b.1 i, b.2 i, b.3 i) in
         (record { shows = s ∙ l.shows; answers = ap Decision.answer q ∙ l.answers }, subst (λ (y : Lent). Known y.0 y.1 y.2 y.3) (sym s) k)
 
     -- what was entered is known, and the choice on it is the step
-    module _ (h : Gate) (p : x ≡ At h) where
+    module _ (h : Gate) (p : x ≡ Ok h) where
       at : EntersAt e g gs ws fs h hs vs es
-      at = subst (λ (y : Entered). Enters e g gs ws fs y hs vs es) p c
+      at = subst (λ (y : OkOrErr Gate Refusal). Enters e g gs ws fs y hs vs es) p c
 
       pub entered_known : Known h hs vs es
       entered_known = at.known
@@ -97,7 +95,7 @@ module _ (g : Gate) (gs ws fs : List ℕ) (k : Known g gs ws fs) (e : Event) whe
 
   module _ (d : Decision) (hs vs es : List ℕ) (l : Leaves (λ t. step t e) g gs ws fs d hs vs es) (known : Known d.gate hs vs es) where
     -- with it what is left is handed back, and still known
-    handed_on_lem : (w : Wake) → w ≡ told (step t e) → (o : Outcome) → o ≡ outcome_of d.gate d.answer w → ((o, hs, vs, es) ≡ does (λ t. step t e) g gs ws fs) × Known o.gate hs vs es
+    handed_on_lem : (w : Option ℕ) → w ≡ told (step t e) → (o : Outcome) → o ≡ outcome_of d.gate d.answer w → ((o, hs, vs, es) ≡ does (λ t. step t e) g gs ws fs) × Known o.gate hs vs es
     handed_on_lem w p o q = ((λ i. (q i, hs, vs, es)) ∙ left-handed g gs ws fs d hs vs es l w p, subst (λ (x : Outcome). Known x.gate hs vs es) (sym q) known)
 
     -- a refusal carries none
@@ -105,7 +103,7 @@ module _ (g : Gate) (gs ws fs : List ℕ) (k : Known g gs ws fs) (e : Event) whe
     refused-told r p o q = handed_on_lem unsaid (ap (λ (a : Answer). tells_of a (step t e).table) (sym p ∙ l.answers)) o (q ∙ (λ i. outcome_of d.gate (sym p i) unsaid))
 
     -- any other answer carries that of the table after it
-    pub woken_told : ((r : Refusal) → d.answer ≡ Refused r → ⊥) → (w : Wake) → w ≡ wake (table_of d.gate hs vs es) → (o : Outcome) → o ≡ outcome_of d.gate d.answer w
+    pub woken_told : ((r : Refusal) → d.answer ≡ Refused r → ⊥) → (w : Option ℕ) → w ≡ wake (table_of d.gate hs vs es) → (o : Outcome) → o ≡ outcome_of d.gate d.answer w
         → ((o, hs, vs, es) ≡ does (λ t. step t e) g gs ws fs) × Known o.gate hs vs es
     woken_told n w p =
         handed_on_lem w (p ∙ ap wake (step-shown g gs ws fs k d hs vs es e l) ∙ carries d.answer (step t e).table n ∙ ap (λ (a : Answer). tells_of a (step t e).table) l.answers)

@@ -1,6 +1,7 @@
 // One event on a table that is known to be sound: it enters, then the choice is made; and, for who wants it, when to wake the gate then. For this
 // repository's own crates, and no public call. Soundness is shown once, where a table comes from, and kept by every step: nothing here tests it. So is the index of the
 // waiting rows, which stands beside them; one of no numbers is none, and every event walks the rows.
+// Gate and tables stay side by side for the reason that stands at the head of sends.
 #![tactic(auto)]
 
 ghost use Rattle.std.specs.Prelude.{◌≡◌, List, ℕ};
@@ -10,8 +11,7 @@ ghost use Rattle.table.specs.View.{table_of, Known};
 ghost use Rattle.table.specs.Does.{does, Leaves};
 ghost use Rattle.index.specs.Index.{Beside, stands, Snug};
 
-use enter::Entered;
-use rules::{Answer, Event, Gate, Outcome, Wake};
+use rules::{Answer, Event, Gate, Outcome};
 use table::columns::WAITING_WIDE;
 use table::gates;
 use table::gates::Decision;
@@ -33,13 +33,19 @@ pub fn step(
 {
     let entered = enter::enter(gate, guests, waiting, flight, event, index);
     match entered {
-        Entered::Refused(why) => gates::decided(gate, Answer::Refused(why)),
-        Entered::At(moved) => choose::choose(moved, guests, waiting, flight, index),
+        Err(why) => gates::decided(gate, Answer::Refused(why)),
+        Ok(moved) => choose::choose(moved, guests, waiting, flight, index),
     }
 }
 
 // When to wake the gate after an event with this answer: beside an index a send leaves the table a row further back.
-fn wake_after(gate: Gate, guests: &[u64], waiting: &[u64], answer: Answer, index: &[u16]) -> Wake
+fn wake_after(
+    gate: Gate,
+    guests: &[u64],
+    waiting: &[u64],
+    answer: Answer,
+    index: &[u16],
+) -> Option<u64>
     requires by_index { (fs : List ℕ) × Known gate guests.now (stands index.now answer waiting.now) fs }
     requires beside { Beside (stands index.now answer waiting.now) index.now gate.waiting × Snug gate waiting.now index.now }
     ensures { (fs es : List ℕ) → Known gate guests.now (stands index.now answer waiting.now) fs → result ≡ wake_at (table_of gate guests.now (stands index.now answer waiting.now) es) }

@@ -2,6 +2,7 @@
 use Prim.Native.Nat.{ℕ, ◌+◌, ◌-◌, ◌≤◌, ◌<◌}
 use mathlib.Core.Path.{◌≡◌, sym, ap, ◌∙◌, subst}
 use mathlib.Core.Bool.{true, false}
+use mathlib.Core.Logic.{◌⊎◌, ⊎_elim}
 use mathlib.Core.List.{List, ◌++◌, append_assoc, append-nil}
 use native.Mathlib.Omega.{arith}
 use lib.ListN.{length, take, drop, length-drop}
@@ -33,11 +34,11 @@ module _ (k n m r : ℕ) (bs : List ℕ) (w : Moved) (p : Goes (written (take k 
       (subst (λ (x : Moved). Holds r (took x (drop k bs) (written (take k bs) t))) e (behind _ (p t h)))
 
   -- a write took none, or failed
-  pub emits_stops : (w ≡ Nothing) → Emits false bs n r
-  emits_stops e t h = (k, subst (λ (x : Moved). Holds r (took x (drop k bs) (written (take k bs) t))) e (behind _ (p t h)))
-
-  pub emits_fails : (w ≡ Failed) → Emits false bs n r
-  emits_fails e t h = (k, subst (λ (x : Moved). Holds r (took x (drop k bs) (written (take k bs) t))) e (behind _ (p t h)))
+  pub emits_stops : (w ≡ Nothing) ⊎ (w ≡ Failed) → Emits false bs n r
+  emits_stops e t h = (k, ⊎_elim stops stops e)
+    where
+      stops : {v : Moved} → w ≡ v → Holds r (took v (drop k bs) (written (take k bs) t))
+      stops e = subst (λ (x : Moved). Holds r (took x (drop k bs) (written (take k bs) t))) e (behind _ (p t h))
 
 -- all of them
 pub emits_all : (k n m : ℕ) (bs : List ℕ) → length bs ≤ k → Goes (written (take k bs)) n m → Emits true bs n m

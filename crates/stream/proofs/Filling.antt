@@ -1,4 +1,5 @@
 -- A buffer is filled read by read. Assumes nothing.
+use Rattle.std.specs.Prelude.{Ok, Err}
 use Prim.Native.Nat.{ℕ, ◌+◌, ◌≤◌, ◌<◌}
 use mathlib.Core.Path.{◌≡◌, refl, sym, ap, ◌∙◌, subst}
 use mathlib.Core.Bool.{Bool, true, false}
@@ -12,7 +13,7 @@ use Rattle.port.specs.Moves.{Goes, brought}
 use Rattle.port.specs.declared.Moved.{Moved}
 use Rattle.port.specs.declared.Moved.TheVariants.{Bytes, Nothing, Failed}
 use Rattle.stream.specs.Runs.{Fills}
-use Rattle.stream.specs.declared.Filled.TheVariants.{Upto, Failed as Unfilled}
+use Rattle.stream.specs.declared.ReadFailed.{ReadFailed}
 
 -- the bytes xs were read behind what was, and the mark at the end is e
 abbrev with : List ℕ → Bool → Tape → Tape
@@ -39,7 +40,7 @@ module _ (k n m r : ℕ) (bs cs : List ℕ) (w : Moved) (p : Filling k bs n m) (
       (subst (λ (x : Moved). Holds r (brought x (drop k cs) (with (take k bs) false t))) e (g _ (p t h o))))
 
   -- no more come
-  pub fills_upto : w ≡ Nothing → k < length cs → Fills (Upto k) cs n r
+  pub fills_upto : w ≡ Nothing → k < length cs → Fills (Ok k) cs n r
   fills_upto e room = (
     omega arith,
     λ t h o.
@@ -49,9 +50,9 @@ module _ (k n m r : ℕ) (bs cs : List ℕ) (w : Moved) (p : Filling k bs n m) (
   )
 
   -- a read failed
-  pub fills_failed : w ≡ Failed → Fills Unfilled cs n r
-  fills_failed e t h o = (_, subst (λ (x : Moved). Holds r (brought x (drop k cs) (with (take k bs) false t))) e (g _ (p t h o)), refl, refl)
+  pub fills_failed : (x : ReadFailed) → w ≡ Failed → Fills (Err x) cs n r
+  fills_failed x e t h o = (_, subst (λ (x : Moved). Holds r (brought x (drop k cs) (with (take k bs) false t))) e (g _ (p t h o)), refl, refl)
 
 -- the buffer is full
-pub fills_all : (k n m : ℕ) (bs : List ℕ) → k ≤ length bs → length bs ≤ k → Filling k bs n m → Fills (Upto k) bs n m
+pub fills_all : (k n m : ℕ) (bs : List ℕ) → k ≤ length bs → length bs ≤ k → Filling k bs n m → Fills (Ok k) bs n m
 fills_all k n m bs room full p = (room, λ t h o. subst (λ (e : Bool). Holds m (with (take k bs) e t)) (sym (le-ltb k (length bs) full)) (p t h o))

@@ -1,5 +1,6 @@
 -- What a choice or a step leaves over lent numbers: it shows the table after it, is known again, and with the time to wake is what a call hands back.
 -- Assumes nothing.
+use Rattle.std.specs.Prelude.{Option}
 use Prim.Native.Nat.{ℕ}
 use mathlib.Core.Path.{◌≡◌, sym, ap, ◌∙◌, subst}
 use mathlib.Core.Bool.{true}
@@ -11,7 +12,6 @@ use Rattle.rules.specs.Waking.{told}
 use Rattle.rules.proofs.SameSettings.{SameSettings}
 use Rattle.rules.specs.declared.Gate.{Gate}
 use Rattle.rules.specs.declared.Answer.{Answer}
-use Rattle.rules.specs.declared.Wake.{Wake}
 use Rattle.table.specs.declared.gates.Decision.{Decision}
 use Rattle.table.specs.View.{decision_of, outcome_of, table_of, handed, identified, Known}
 use Rattle.table.specs.Does.{Lent, does, Leaves}
@@ -37,7 +37,7 @@ module _ (g : Gate) (gs ws fs : List ℕ) where
           subst (λ (x : Lent). Known x.0 x.1 x.2 x.3) (sym l.shows) (written_known gs ws fs (f t).table (known-room g gs ws fs k (f t).table same) firm ids)
 
   -- with the time to wake it is handed back
-  pub left-handed : {f : Table → Result} (d : Decision) (hs vs es : List ℕ) → Leaves f g gs ws fs d hs vs es → (w : Wake) → w ≡ told (f t)
+  pub left-handed : {f : Table → Result} (d : Decision) (hs vs es : List ℕ) → Leaves f g gs ws fs d hs vs es → (w : Option ℕ) → w ≡ told (f t)
       → (outcome_of d.gate d.answer w, hs, vs, es) ≡ does f g gs ws fs
   unfolding handed
   left-handed d hs vs es l w e = λ i. (outcome_of (l.shows i).0 (l.answers i) (e i), (l.shows i).1, (l.shows i).2, (l.shows i).3)

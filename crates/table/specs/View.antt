@@ -1,5 +1,5 @@
 -- The lent numbers as a table of document 01, and a table written over the numbers. Where each number stands in its row, Columns says.
-use Rattle.std.specs.Prelude.{ℕ, ◌*◌, ◌-◌, ◌≤◌, ◌≡◌, Bool, true, ◌&&◌, ◌||◌, List, [], ◌∷◌, ltb, eqb, length, get_or, take, drop}
+use Rattle.std.specs.Prelude.{ℕ, ◌*◌, ◌-◌, ◌≤◌, ◌≡◌, Bool, true, ◌&&◌, ◌||◌, List, [], ◌∷◌, ltb, eqb, length, get_or, take, drop, Option}
 use Rattle.lists.specs.Words.{all}
 use Rattle.lists.specs.Rows.{Form, rows_of, over_rows, Unused}
 use Rattle.rules.specs.Tables.{Request, Table, names}
@@ -11,7 +11,6 @@ use Rattle.rules.specs.Sound.{counted, sound}
 use Rattle.rules.specs.Choice.{Result}
 use Rattle.rules.specs.declared.Gate.{Gate}
 use Rattle.rules.specs.declared.Answer.{Answer}
-use Rattle.rules.specs.declared.Wake.{Wake}
 use Rattle.rules.specs.declared.Outcome.{Outcome}
 use Rattle.rules.specs.Waking.{told}
 use Rattle.table.specs.declared.gates.Decision.{Decision}
@@ -92,7 +91,7 @@ abbrev pub decision_of : Gate → Answer → Decision
 decision_of g a = record { gate = g; answer = a }
 
 -- the outcome of a call: the gate after it, its answer, and when to wake the gate
-abbrev pub outcome_of : Gate → Answer → Wake → Outcome
+abbrev pub outcome_of : Gate → Answer → Option ℕ → Outcome
 outcome_of g a w = record { gate = g; answer = a; wake = w }
 
 -- an outcome and the three lent tables as a call hands them back

@@ -5,7 +5,7 @@ ghost use Rattle.table.specs.Columns.{most_depth, most_capacity};
 ghost use Rattle.table.specs.View.{gate_at, decision_of, outcome_of};
 ghost use Rattle.table.specs.Does.{timed_gate, freed_gate, placed_gate, refusing, sending};
 
-use rules::{Answer, Gate, Outcome, Phase, Refusal, Setup, Wake};
+use rules::{Answer, Gate, Outcome, Phase, Refusal, Setup};
 
 // The gate of these settings at a time, with so many waiting and so many in flight.
 pub fn gate_at(setup: Setup, guests: u64, time: u64, waiting: u64, flight: u64) -> Gate
@@ -38,7 +38,7 @@ pub fn decided(gate: Gate, answer: Answer) -> Decision
 }
 
 // The outcome of a call: the gate after it, its answer, and when to wake the gate.
-pub fn answered(gate: Gate, answer: Answer, wake: Wake) -> Outcome
+pub fn answered(gate: Gate, answer: Answer, wake: Option<u64>) -> Outcome
     ensures { result ≡ outcome_of gate answer wake }
 {
     Outcome {
@@ -52,7 +52,7 @@ pub fn answered(gate: Gate, answer: Answer, wake: Wake) -> Outcome
 pub fn refused(gate: Gate, why: Refusal) -> Outcome
     ensures { result ≡ refusing why gate }
 {
-    answered(gate, Answer::Refused(why), Wake::At(0))
+    answered(gate, Answer::Refused(why), Some(0))
 }
 
 // A request of `guest` with this id went from the waiting to the array.

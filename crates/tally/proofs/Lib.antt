@@ -2,3 +2,4 @@ pub mod Places
 pub mod BookRows
 pub mod FigureRows
 pub mod Stubs
+pub mod SentRow

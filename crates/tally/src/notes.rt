@@ -1,6 +1,7 @@
 // The book as rows of numbers: a request is noted, its note is found, and struck once it was sent. Each contract says what becomes of the
 // numbers; proofs/ say which book they then show.
-ghost use Rattle.std.specs.Prelude.{◌≡◌, ◌+◌, ◌*◌, ◌<◌, ◌≤◌, length};
+ghost use Rattle.std.specs.Prelude.{◌≡◌, ◌+◌, ◌*◌, ◌<◌, ◌≤◌, length, IfSome};
+ghost use Rattle.std.specs.Option.{unwrap_or};
 ghost use Rattle.table.specs.Columns.{most_capacity};
 ghost use Rattle.book.specs.Page.{named};
 ghost use Rattle.tally.specs.Columns.{note_wide};
@@ -20,21 +21,19 @@ pub fn note(book: &mut [u64], place: usize, guest: u64, id: u64, since: u64, lim
     book[place * NOTE_WIDE + LIMITED] = limited;
 }
 
-// The first place with this guest and this id, or `count` where there is none. The id is tested first: it tells more requests apart.
-pub fn find(book: &[u64], count: usize, guest: u64, id: u64) -> usize
+// The first place with this guest and this id. The id is tested first: it tells more requests apart.
+pub fn find(book: &[u64], count: usize, guest: u64, id: u64) -> Option<usize>
     requires { (count ≤ most_capacity) × (count * note_wide ≤ length book.now) }
-    ensures { result ≡ found_in (named guest id) book.now count }
+    ensures place { unwrap_or result count ≡ found_in (named guest id) book.now count }
+    ensures inside { IfSome result (λ place. place < count) }
 {
-    let mut place: usize = 0;
-    while place < count {
-        if book[place * NOTE_WIDE + ID] == id {
-            if book[place * NOTE_WIDE + GUEST] == guest {
-                return place;
-            }
+    for place in 0..count {
+        let at = place * NOTE_WIDE;
+        if book[at + ID] == id && book[at + GUEST] == guest {
+            return Some(place);
         }
-        place += 1;
     }
-    count
+    None
 }
 
 // The note at `place` goes, and those behind it move down one place.

@@ -7,14 +7,14 @@ ghost use Rattle.rules.specs.declared.Answer.TheVariants.{Sent};
 ghost use Rattle.table.specs.Columns.{waiting_wide, GUEST, ID, waiting_at};
 ghost use Rattle.table.specs.View.{waiting_of, table_of};
 ghost use Rattle.walks.specs.Walks.{Picks};
-ghost use Rattle.walks.specs.declared.Found.TheVariants.{At};
 ghost use Rattle.index.specs.Index.{Beside};
-ghost use Rattle.lines.specs.Line.{line_of, LINE};
-ghost use Rattle.judge.specs.Judging.{begins as begins_with, ok_in, tag_in, ties, named, leads};
+ghost use Rattle.lines.specs.Line.{line_of};
+ghost use Rattle.judge.specs.Judging.{begins, ok_in, tag_in, ties, named, leads};
 ghost use Rattle.judge.specs.Hearing.{size_if, said_of, tag_column, latest_in, Timely, Lending, Tells, Finds};
 
 use crate::saying::says;
-use judge::Said;
+use judge::{Said, Told};
+use lines::LINE_LONG;
 use rules::{Answer, Gate, Phase};
 use sends::latest_limit;
 use table::columns::{GUEST, GUEST_WIDE, ID, LTAG, RESERVATION, RTAG, STAG, WAITING_WIDE};
@@ -22,9 +22,14 @@ use table::columns::{GUEST, GUEST_WIDE, ID, LTAG, RESERVATION, RTAG, STAG, WAITI
 pub mod saying; // a printed line, held against the lines
 
 // Only this answer may stand, and it changes nothing.
-pub fn hear_plain(gate: Gate, answer: Answer, number: u64, said: &[u8], text: &mut [u8]) -> Said
-    requires { LINE ≤ length text.old }
-    ensures { result ≡ said_of gate answer (size_if (begins_with (line_of number answer) said.now) (line_of number answer)) }
+pub fn hear_plain(
+    gate: Gate,
+    answer: Answer,
+    number: u64,
+    said: &[u8],
+    text: &mut [u8; LINE_LONG],
+) -> Said
+    ensures { result ≡ said_of gate answer (size_if (begins (line_of number answer) said.now) (line_of number answer)) }
 {
     let long = says(text, number, answer, said);
     Said { gate, answer, long }
@@ -91,7 +96,7 @@ fn is_tied(
     }
 }
 
-// How many bytes the line of the request at `place` has, where it is tied and the lines begin with its line; else 0.
+// How many bytes the line of the request at `place` has, where it is tied and the lines begin with its line.
 fn says_tied(
     gate: Gate,
     guests: &[u64],
@@ -102,25 +107,17 @@ fn says_tied(
     tag: u64,
     number: u64,
     said: &[u8],
-    text: &mut [u8],
-) -> usize
+    text: &mut [u8; LINE_LONG],
+) -> Option<usize>
     requires lending { Lending gate guests.now waiting.now × (place < gate.waiting) }
     requires latest_value { (latest ≡ latest_in phase gate) × Timely phase tag gate }
-    requires in_bounds { LINE ≤ length text.old }
     ensures { (fs : List ℕ) → result ≡ size_if (named number said.now phase (table_of gate guests.now waiting.now fs) tag (at (waiting_of waiting.now gate.waiting) place)) (line_of number (Sent phase (waiting_at waiting.now place GUEST) (waiting_at waiting.now place ID))) }
 {
     if !is_tied(gate, guests, waiting, place, phase, latest, tag) {
-        return 0;
+        return None;
     }
     let answer = send_of(waiting, place, phase);
     says(text, number, answer, said)
-}
-
-// The place of the request whose line was heard, and how many bytes its line has; 0 where none was.
-#[derive(Clone, Copy)]
-pub struct Told {
-    pub place: usize,
-    pub long: usize,
 }
 
 // Looks for a request that ties with the one at `place`, which our rules pick in this phase, and whose line the lines begin with: that one first, for none before
@@ -133,30 +130,23 @@ fn find_tied(
     phase: Phase,
     number: u64,
     said: &[u8],
-    text: &mut [u8],
-) -> Told
+    text: &mut [u8; LINE_LONG],
+) -> Option<Told>
     requires lending { Lending gate guests.now waiting.now }
-    requires by_index { (fs : List ℕ) → Picks (ok_in phase (table_of gate guests.now waiting.now fs)) (tag_in phase) (waiting_of waiting.now gate.waiting) (At place) }
-    requires in_bounds { LINE ≤ length text.old }
-    ensures { (fs : List ℕ) → Tells number said.now phase (table_of gate guests.now waiting.now fs) place result.place result.long }
+    requires by_index { (fs : List ℕ) → Picks (ok_in phase (table_of gate guests.now waiting.now fs)) (tag_in phase) (waiting_of waiting.now gate.waiting) (Some place) }
+    ensures { (fs : List ℕ) → Tells number said.now phase (table_of gate guests.now waiting.now fs) place result }
 {
     let tag = tag_at(waiting, place, phase);
     let latest = latest_in(gate, phase);
-    let count = gate.waiting as usize;
-    let mut i = place;
-    while i < count {
-        let long = says_tied(
+    for i in place..gate.waiting as usize {
+        let heard = says_tied(
             gate, guests, waiting, i, phase, latest, tag, number, said, text,
         );
-        if long > 0 {
-            return Told { place: i, long };
+        if let Some(long) = heard {
+            return Some(Told { place: i, long });
         }
-        i += 1;
     }
-    Told {
-        place: count,
-        long: 0,
-    }
+    None
 }
 
 // No request before `place` is of the guest of the one there.
@@ -165,12 +155,10 @@ fn is_first(waiting: &[u64], place: usize) -> bool
     ensures { (count : ℕ) → place < count → result ≡ leads (waiting_of waiting.now count) place }
 {
     let guest = waiting[place * WAITING_WIDE + GUEST];
-    let mut i: usize = 0;
-    while i < place {
+    for i in 0..place {
         if waiting[i * WAITING_WIDE + GUEST] == guest {
             return false;
         }
-        i += 1;
     }
     true
 }
@@ -181,7 +169,7 @@ fn leads_here(waiting: &[u64], count: usize, place: usize, index: &[u16]) -> boo
     requires beside { Beside waiting.now index.now count }
     ensures { result ≡ leads (waiting_of waiting.now count) place }
 {
-    if index.len() == 0 {
+    if index.is_empty() {
         return is_first(waiting, place);
     }
     let guest = waiting[place * WAITING_WIDE + GUEST] as usize;
@@ -198,25 +186,14 @@ pub fn find_send(
     phase: Phase,
     number: u64,
     said: &[u8],
-    text: &mut [u8],
+    text: &mut [u8; LINE_LONG],
     index: &[u16],
-) -> Told
+) -> Option<Told>
     requires lending { Lending gate guests.now waiting.now }
-    requires by_index { (fs : List ℕ) → Picks (ok_in phase (table_of gate guests.now waiting.now fs)) (tag_in phase) (waiting_of waiting.now gate.waiting) (At place) }
-    requires in_bounds { LINE ≤ length text.old }
+    requires by_index { (fs : List ℕ) → Picks (ok_in phase (table_of gate guests.now waiting.now fs)) (tag_in phase) (waiting_of waiting.now gate.waiting) (Some place) }
     requires beside { Beside waiting.now index.now gate.waiting }
-    ensures { (fs : List ℕ) → Finds number said.now phase (table_of gate guests.now waiting.now fs) place result.place result.long }
+    ensures { (fs : List ℕ) → Finds number said.now phase (table_of gate guests.now waiting.now fs) place result }
 {
-    let told = find_tied(gate, guests, waiting, place, phase, number, said, text);
-    let there = told.place;
-    if told.long == 0 {
-        return told;
-    }
-    if leads_here(waiting, gate.waiting as usize, there, index) {
-        return told;
-    }
-    Told {
-        place: there,
-        long: 0,
-    }
+    let told = find_tied(gate, guests, waiting, place, phase, number, said, text)?;
+    leads_here(waiting, gate.waiting as usize, told.place, index).then_some(told)
 }

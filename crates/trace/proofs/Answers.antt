@@ -19,10 +19,9 @@ use Rattle.rules.specs.declared.Answer.{Answer}
 use Rattle.rules.specs.declared.Answer.TheVariants.{Nothing, Refused}
 use Rattle.lines.specs.Line.{line_of, title_line}
 use Rattle.trace.specs.Header.{version_of, header_tests, header_by}
-use Rattle.trace.specs.Event.{event_of, events_of, whole}
+use Rattle.trace.specs.Event.{event_of, events_of, whole, Read}
 use Rattle.trace.specs.Printed.{answered, answers_to, table_after, lines_from, Place, events, lines, left, cut, finished, printed_by, printed}
 use Rattle.trace.specs.Answers.{event_bytes, opening, reads_of, cut_answer, answers_from, answers_of}
-use Rattle.trace.specs.declared.Read.{Read}
 use Rattle.trace.proofs.EventLaws.{events_add, length-events}
 use Rattle.trace.proofs.RunLaws.{answers-append, length-answers, lines-append}
 

@@ -13,35 +13,35 @@ use Rattle.rules.specs.declared.Settings.{Settings}
 use Rattle.rules.specs.Run.{fresh}
 use Rattle.rules.proofs.Conditions.{counted_means}
 use Rattle.lines.specs.Line.{title_line}
-use Rattle.trace.specs.Header.{first_version, last_version, body, guests_of, settings_in, header_of}
+use Rattle.trace.specs.Header.{first_version, last_version, body, guests_of, settings_in, header_of, Header}
 use Rattle.trace.specs.Printed.{finished, begun, printed_by, printed}
 use Rattle.trace.specs.Reads.{joined, more, as_read, printed_first, printed_reads}
-use Rattle.trace.specs.declared.Header.{Header}
-use Rattle.trace.specs.declared.Header.TheVariants.{Opened, Refused}
+use Rattle.trace.specs.declared.Opened.{Opened}
 use Rattle.trace.proofs.HeaderLaws.{Opens, opened}
 use Rattle.trace.proofs.FirstRead.{longest, settings-same, header_same}
 use Rattle.trace.proofs.Split.{reads_joined}
 use Rattle.table.specs.Columns.{most_guests}
+use Rattle.std.specs.Prelude.{Ok, Err}
 
 -- a read that brought all
 all_there : (h : Header) (bs : List ℕ) → printed_first h bs [] ≡ printed_by h bs
 unfolding as_read
-all_there (Refused r) bs = refl
-all_there (Opened v d n c r) bs = refl
+all_there (Err r) bs = refl
+all_there (Ok o) bs = refl
 
 -- where the events begin, the bytes behind the first read come in reads
-begun_more : (v d n c r : ℕ) (xs ys : List ℕ) → longest ≤ length xs → Opens first_version last_version xs v d n c r → more (begun v d n c r xs) ys ≡ begun v d n c r (xs ++ ys)
-begun_more v d n c r xs ys long o =
-    let few : guests_of xs ≤ most_guests = ((counted_means d (guests_of xs) c).holds.0 (rw o.guests_is at o.counts)).guest-count.1 in
-    ap (λ (l : List ℕ). record { version = v; bytes = l; table = fresh d c r (settings_in xs); number = 0 }) (sym (drop-append-le (body v n) xs ys o.whole))
-    ∙ ap (λ (ss : List Settings). record { version = v; bytes = drop (body v n) (xs ++ ys); table = fresh d c r ss; number = 0 }) (sym (settings-same xs ys long few))
+begun_more : (h : Opened) (xs ys : List ℕ) → longest ≤ length xs → Opens first_version last_version xs h → more (begun h xs) ys ≡ begun h (xs ++ ys)
+begun_more h xs ys long o =
+    let few : guests_of xs ≤ most_guests = ((counted_means h.depth (guests_of xs) h.capacity).holds.0 (rw o.guests_is at o.counts)).guest-count.1 in
+    ap (λ (l : List ℕ). record { version = h.version; bytes = l; table = fresh h.depth h.capacity h.rule (settings_in xs); number = 0 }) (sym (drop-append-le (body h.version h.guests) xs ys o.whole))
+    ∙ ap (λ (ss : List Settings). record { version = h.version; bytes = drop (body h.version h.guests) (xs ++ ys); table = fresh h.depth h.capacity h.rule ss; number = 0 }) (sym (settings-same xs ys long few))
 
 -- a first read that holds any header
 first-there : (xs : List ℕ) (rs : List (List ℕ)) → longest ≤ length xs → (h : Header) → header_of xs ≡ h → printed_first h xs rs ≡ printed_by h (xs ++ joined rs)
-first-there xs rs long (Refused r) e = refl
-first-there xs rs long (Opened v d n c r) e =
+first-there xs rs long (Err r) e = refl
+first-there xs rs long (Ok o) e =
     ap (λ (l : List ℕ). title_line ++ l)
-    (reads_joined rs (begun v d n c r xs) ∙ ap finished (begun_more v d n c r xs (joined rs) long (opened xs v d n c r e)))
+    (reads_joined rs (begun o xs) ∙ ap finished (begun_more o xs (joined rs) long (opened xs o e)))
 
 any_reads : (room : ℕ) → longest ≤ room → (rs : List (List ℕ)) (bs : List ℕ) → printed_reads room bs rs ≡ printed (bs ++ joined rs)
 unfolding printed_reads printed joined

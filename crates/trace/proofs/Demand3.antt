@@ -16,16 +16,15 @@ use Rattle.turns.proofs.Demand3.{demand_3}
 use Rattle.turns.proofs.TurnAt.{demand_3_places}
 use Rattle.rules.specs.declared.Answer.{Answer}
 use Rattle.trace.specs.Header.{version_of, rule_of}
-use Rattle.trace.specs.Event.{whole}
+use Rattle.trace.specs.Event.{whole, Read}
 use Rattle.trace.specs.Printed.{answered, answers_to}
 use Rattle.trace.specs.Answers.{event_bytes, bytes_at, opening, table_at, reads_of, cut_answer, free_answers, free_from}
 use Rattle.trace.specs.Cases.{header_cases}
-use Rattle.trace.specs.declared.Read.{Read}
-use Rattle.trace.specs.declared.Read.TheVariants.{Good, Bad}
 use Rattle.trace.proofs.Runs.{run}
 use Rattle.trace.proofs.Answers.{answers-later}
 use Rattle.trace.proofs.LineExactly.{table-sound}
 use Rattle.trace.proofs.RuleOne.{rule_kept}
+use Rattle.std.specs.Prelude.{Some, None}
 
 -- one event
 free_event : (t : Table) (e : Event) (l m : List Answer) → l ≡ m
@@ -36,8 +35,8 @@ free_event t e l m p = λ j. if finds_room t e then (step t e).answer ∷ p j el
 free-run : (rs : List Read) (t : Table) (more : List Answer) → free_answers t rs (answers_to t rs ++ more) ≡ at_free t (run rs)
 unfolding free_answers answers_to at_free answered
 free-run [] t more = refl
-free-run (Good e ∷ rs) t more = free_event t e _ _ (free-run rs (step t e).table more)
-free-run (Bad ∷ rs) t more = free-run rs t more
+free-run (Some e ∷ rs) t more = free_event t e _ _ (free-run rs (step t e).table more)
+free-run (None ∷ rs) t more = free-run rs t more
 
 -- the answers of a trace from event k on
 free_from_lem : (bs : List ℕ) (k : ℕ) → k ≤ whole (event_bytes bs) → free_from bs k ≡ at_free (table_at bs k) (run (reads_of (version_of bs) (bytes_at bs k)))

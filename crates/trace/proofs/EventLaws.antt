@@ -10,7 +10,7 @@ use lib.ListN.{length, take, drop, length-drop, get_or-append}
 use lib.Seq.{get_or-take, drop-drop, drop-append-le}
 use borrow.Author.Tests.{ne_eqb, lt-ltb}
 use Rattle.lists.specs.Words.{if◌then◌else◌}
-use Rattle.trace.specs.Little.{byte_at, four_at, eight, eight_at}
+use Rattle.trace.specs.Little.{byte_at, four_at, eight_at}
 use Rattle.trace.specs.Event.{read_shown, kind_in, upper_in, event_byte, event_from, event_of, events_of}
 
 -- THE FIRST BYTE, taken apart and built
@@ -32,10 +32,10 @@ upper_of_built k u h = omega arith
 -- AN EVENT
 
 -- the event of its fields
-pub event_by : (v : ℕ) (bs : List ℕ) (k u g i l h t : ℕ) → k ≡ kind_in v (byte_at bs 0) → u ≡ upper_in v (byte_at bs 0) → g ≡ byte_at bs 1 → i ≡ four_at bs 2
-    → l ≡ four_at bs 6 → h ≡ four_at bs 10 → t ≡ eight l h → event_from k u g i t ≡ event_of v bs
+pub event_by : (v : ℕ) (bs : List ℕ) (k u g i t : ℕ) → k ≡ kind_in v (byte_at bs 0) → u ≡ upper_in v (byte_at bs 0) → g ≡ byte_at bs 1 → i ≡ four_at bs 2
+    → t ≡ eight_at bs 6 → event_from k u g i t ≡ event_of v bs
 unfolding event_of
-event_by v bs k u g i l h t m n o p q r s = rw (m, n, o, p, s, q, r)
+event_by v bs k u g i t m n o p q = rw (m, n, o, p, q)
 
 -- "event kind above 2, or a tick with non-zero guest or id", and by K9 "a non-zero upper part" of what is no arrival
 abbrev pub is_bad : (kind upper guest id : ℕ) → Bool

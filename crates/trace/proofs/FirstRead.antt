@@ -17,10 +17,10 @@ use Rattle.rules.specs.Sound.{counted, ruled, settled}
 use Rattle.rules.specs.Refusals.{Verdict, accept, refuse, judged}
 use Rattle.trace.specs.Little.{byte_at, two_at, four_at}
 use Rattle.trace.specs.Header.{mark, same, first_version, last_version, is_two, body, version_of, depth_of, guests_of, capacity_of, rule_in, rule_of, credit_at, settings_at, settings_in, header_tests_for, header_tests, header_by, header_of}
-use Rattle.trace.specs.declared.Header.TheVariants.{Opened}
 use Rattle.rules.proofs.Conditions.{counted_means}
 use Rattle.table.specs.Columns.{most_guests}
 use Rattle.trace.proofs.HeaderLaws.{by_version, body_most, record_fits, credit_fits}
+use Rattle.std.specs.Prelude.{Ok}
 
 -- the most bytes of a header
 abbrev pub longest : ℕ
@@ -131,7 +131,7 @@ module _ (xs ys : List ℕ) (long : longest ≤ length xs) where
 
   -- what it makes of the bytes
   by_same : (v : Verdict) → header_by v (xs ++ ys) ≡ header_by v xs
-  by_same accept = λ i. Opened (version_same i) (at 5 (omega (arith, enough)) i) (at 6 (omega (arith, enough)) i) (two-same 7 (omega (arith, enough)) i) (rule_same i)
+  by_same accept = λ i. Ok (record { version = version_same i; depth = at 5 (omega (arith, enough)) i; guests = at 6 (omega (arith, enough)) i; capacity = two-same 7 (omega (arith, enough)) i; rule = rule_same i })
   by_same (refuse r) = refl
 
   -- so the header

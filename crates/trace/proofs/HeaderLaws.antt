@@ -18,8 +18,9 @@ use Rattle.rules.specs.Numbers.{within}
 use Rattle.rules.specs.Sound.{counted, ruled, settled}
 use Rattle.rules.specs.Refusals.{Verdict, accept, refuse, judged, is_accept}
 use Rattle.rules.proofs.Judged.{passed, passed-behind}
-use Rattle.trace.specs.Header.{same, first_version, last_version, body, version_of, depth_of, guests_of, capacity_of, rule_of, settings_in, header_tests_for, header_for}
-use Rattle.trace.specs.declared.Header.TheVariants.{Opened, Refused}
+use Rattle.trace.specs.Header.{same, first_version, last_version, body, version_of, depth_of, guests_of, capacity_of, rule_of, settings_in, header_tests_for, opened_of, header_for}
+use Rattle.trace.specs.declared.Opened.{Opened}
+use Rattle.std.specs.Prelude.{Ok, Err}
 
 -- THE MARK
 
@@ -119,21 +120,21 @@ header_order from to bs = refl
 -- A HEADER THAT OPENS
 
 -- what the bytes of a header that opens are, where the versions from one to another are taken
-pub record Opens (from to : ℕ) (bs : List ℕ) (version depth guests capacity rule : ℕ) : Type 0 where
-  pub version_is : version ≡ version_of bs
-  pub depth_is : depth ≡ depth_of bs
-  pub guests_is : guests ≡ guests_of bs
-  pub capacity_is : capacity ≡ capacity_of bs
-  pub rule_is : rule ≡ rule_of bs
-  pub taken : within from to version ≡ true
-  pub counts : counted depth guests capacity ≡ true
-  pub rules : ruled rule ≡ true
-  pub whole : body version guests ≤ length bs
+pub record Opens (from to : ℕ) (bs : List ℕ) (o : Opened) : Type 0 where
+  pub version_is : o.version ≡ version_of bs
+  pub depth_is : o.depth ≡ depth_of bs
+  pub guests_is : o.guests ≡ guests_of bs
+  pub capacity_is : o.capacity ≡ capacity_of bs
+  pub rule_is : o.rule ≡ rule_of bs
+  pub taken : within from to o.version ≡ true
+  pub counts : counted o.depth o.guests o.capacity ≡ true
+  pub rules : ruled o.rule ≡ true
+  pub whole : body o.version o.guests ≤ length bs
   pub settings : all settled (settings_in bs) ≡ true
 
 -- the bytes of a header that no test refuses
 opens : (from to : ℕ) (bs : List ℕ) → judged (header_tests_for from to bs) ≡ accept
-    → Opens from to bs (version_of bs) (depth_of bs) (guests_of bs) (capacity_of bs) (rule_of bs)
+    → Opens from to bs (opened_of bs)
 unfolding header_tests_for
 opens from to bs e =
     let ok : is_accept (judged (header_tests_for from to bs)) ≡ true = ap is_accept e in
@@ -154,20 +155,16 @@ opens from to bs e =
     }
 
 -- a header that opens
-pub opened_for : (from to : ℕ) (bs : List ℕ) (v d n c r : ℕ) → header_for from to bs ≡ Opened v d n c r → Opens from to bs v d n c r
-opened_for from to bs v d n c r h = go (judged (header_tests_for from to bs)) refl
+pub opened_for : (from to : ℕ) (bs : List ℕ) (o : Opened) → header_for from to bs ≡ Ok o → Opens from to bs o
+opened_for from to bs o h = go (judged (header_tests_for from to bs)) refl
   where
-    go : (w : Verdict) → judged (header_tests_for from to bs) ≡ w → Opens from to bs v d n c r
+    go : (w : Verdict) → judged (header_tests_for from to bs) ≡ w → Opens from to bs o
     go accept e =
-        let q : Opened (version_of bs) (depth_of bs) (guests_of bs) (capacity_of bs) (rule_of bs) ≡ Opened v d n c r = rw e at h in
-        let w : v ≡ version_of bs = cc in
-        let x : d ≡ depth_of bs = cc in
-        let y : n ≡ guests_of bs = cc in
-        let z : c ≡ capacity_of bs = cc in
-        let u : r ≡ rule_of bs = cc in
-        rw (w, x, y, z, u) (opens from to bs e)
-    go (refuse s) e = let q : Refused s ≡ Opened v d n c r = rw e at h in let z : ◌≡◌ {A = ℕ} 0 1 = cc in absurd (omega arith)
+        let q : Ok (opened_of bs) ≡ Ok o = rw e at h in
+        let p : opened_of bs ≡ o = cc in
+        subst (λ (x : Opened). Opens from to bs x) p (opens from to bs e)
+    go (refuse s) e = let q : Err s ≡ Ok o = rw e at h in let z : ◌≡◌ {A = ℕ} 0 1 = cc in absurd (omega arith)
 
 -- one that is read
-pub opened : (bs : List ℕ) (v d n c r : ℕ) → header_for first_version last_version bs ≡ Opened v d n c r → Opens first_version last_version bs v d n c r
+pub opened : (bs : List ℕ) (o : Opened) → header_for first_version last_version bs ≡ Ok o → Opens first_version last_version bs o
 opened = opened_for first_version last_version

@@ -31,17 +31,16 @@ use Rattle.rules.specs.declared.Refusal.TheVariants.{BadEvent, EventCut}
 use Rattle.rules.specs.declared.Answer.{Answer}
 use Rattle.rules.specs.declared.Answer.TheVariants.{Refused}
 use Rattle.trace.specs.Little.{byte_at, four_at, eight_at}
-use Rattle.trace.specs.Header.{version_of, depth_of, guests_of, capacity_of, rule_of, settings_at, settings_in, header_by}
-use Rattle.trace.specs.Event.{kind_in, upper_in, event_from, event_of, events_of}
+use Rattle.trace.specs.Header.{version_of, depth_of, guests_of, capacity_of, rule_of, settings_at, settings_in, opened_of, header_by}
+use Rattle.trace.specs.Event.{kind_in, upper_in, event_from, event_of, events_of, Read}
 use Rattle.trace.specs.Printed.{answered}
 use Rattle.trace.specs.Answers.{by_event, event_bytes, bytes_at, opening, table_at, answer_at}
 use Rattle.trace.specs.Cases.{header_cases, Faulty, line_cases}
-use Rattle.trace.specs.declared.Read.{Read}
-use Rattle.trace.specs.declared.Read.TheVariants.{Good, Bad}
 use Rattle.trace.proofs.HeaderLaws.{opened}
 use Rattle.trace.proofs.HeaderExactly.{header_good}
 use Rattle.trace.proofs.Runs.{run, table-run}
 use Rattle.trace.proofs.Answers.{answer_there, first_answer}
+use Rattle.std.specs.Prelude.{Some, None}
 
 -- THE TESTS OF A LINE
 
@@ -79,8 +78,8 @@ faulty_is v bs = bad_is (kind_in v (byte_at bs 0)) (upper_in v (byte_at bs 0)) (
 module _ (v : ℕ) (t : Table) (s : sound t ≡ true) where
   -- the event that was read
   read_tested : (r : Read) → Tested (by_event [] (event_tests t) r) (by_event [] (event_cases t) r)
-  read_tested (Good e) = event_tested t e s
-  read_tested Bad = end
+  read_tested (Some e) = event_tested t e s
+  read_tested None = end
 
   line_tested : (bs : List ℕ) → Tested (line_tests v t bs) (line_cases v t bs)
   unfolding line_cases
@@ -96,8 +95,8 @@ module _ (v : ℕ) (t : Table) (s : sound t ≡ true) where
 
   read-follows : (r : Read) → Follows (judged (record { refusal = BadEvent; holds = is_bad r } ∷ by_event [] (event_tests t) r)) (answered t r).answer
   unfolding answered
-  read-follows (Good e) = own-follows e
-  read-follows Bad = refl
+  read-follows (Some e) = own-follows e
+  read-follows None = refl
 
   line-follows : (bs : List ℕ) → Follows (judged (line_tests v t bs)) (if ltb (length bs) 14 then Refused EventCut else (answered t (event_of v bs)).answer)
   line-follows bs = go (ltb (length bs) 14)
@@ -112,10 +111,10 @@ module _ (v : ℕ) (t : Table) (s : sound t ≡ true) where
 -- every number of a line is above 3
 read_above : (t : Table) (r : Read) → all (ltb 3) (map Case.number (by_event [] (event_cases t) r)) ≡ true
 unfolding event_cases
-read_above t (Good (Arrival a now)) = refl
-read_above t (Good (Completion f now)) = refl
-read_above t (Good (Tick now)) = refl
-read_above t Bad = refl
+read_above t (Some (Arrival a now)) = refl
+read_above t (Some (Completion f now)) = refl
+read_above t (Some (Tick now)) = refl
+read_above t None = refl
 
 line_above : (v : ℕ) (t : Table) (bs : List ℕ) → all (ltb 3) (map Case.number (line_cases v t bs)) ≡ true
 unfolding line_cases
@@ -127,7 +126,7 @@ module _ (bs : List ℕ) (good : NoneHolds (header_cases bs)) where
   opening-sound : sound (opening bs) ≡ true
   unfolding open_tests
   opening-sound =
-      let o = opened bs (version_of bs) (depth_of bs) (guests_of bs) (capacity_of bs) (rule_of bs) (ap (λ (v : Verdict). header_by v bs) (header_good bs good)) in
+      let o = opened bs (opened_of bs) (ap (λ (v : Verdict). header_by v bs) (header_good bs good)) in
       let ok : judged (open_tests false (depth_of bs) (guests_of bs) (capacity_of bs) (rule_of bs) (settings_in bs)) ≡ accept = rw (o.counts, o.rules, o.settings) refl in
       fresh-sound false (depth_of bs) (guests_of bs) (capacity_of bs) (rule_of bs) (settings_in bs) ok (length-tab (guests_of bs) (settings_at (version_of bs) bs))
 

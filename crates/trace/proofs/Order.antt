@@ -14,11 +14,10 @@ use Rattle.rules.proofs.InOrder.{step_waits}
 use Rattle.rules.proofs.Answered.{step-taken}
 use Rattle.rules.specs.declared.Answer.{Answer}
 use Rattle.trace.specs.Header.{version_of}
-use Rattle.trace.specs.Event.{whole}
+use Rattle.trace.specs.Event.{whole, Read}
 use Rattle.trace.specs.Printed.{answered, answers_to, table_after}
 use Rattle.trace.specs.Answers.{by_event, event_bytes, opening, table_at, reads_of, cut_answer, answers_of, accepted_ids}
-use Rattle.trace.specs.declared.Read.{Read}
-use Rattle.trace.specs.declared.Read.TheVariants.{Good, Bad}
+use Rattle.std.specs.Prelude.{Some, None}
 
 module _ (g : ℕ) where
   -- the ids of the guest that an event brings and its answer accepts
@@ -32,8 +31,8 @@ module _ (g : ℕ) where
 
   read-waits : (t : Table) (r : Read) → waits g t ++ comes r (answered t r).answer ≡ sends g (answered t r).answer ++ waits g (answered t r).table
   unfolding answered
-  read-waits t (Good e) = event_waits t e
-  read-waits t Bad = append-nil (waits g t)
+  read-waits t (Some e) = event_waits t e
+  read-waits t None = append-nil (waits g t)
 
   -- a run of events, whatever answers stand behind theirs
   run-waits : (rs : List Read) (t : Table) (more : List Answer)

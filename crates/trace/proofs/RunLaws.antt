@@ -9,9 +9,8 @@ use lib.ListN.{length, drop}
 use Rattle.rules.specs.Tables.{Table}
 use Rattle.rules.specs.declared.Answer.{Answer}
 use Rattle.lines.specs.Line.{line_of}
-use Rattle.trace.specs.Event.{event_of, events_of}
+use Rattle.trace.specs.Event.{event_of, events_of, Read}
 use Rattle.trace.specs.Printed.{answered, answers_to, table_after, lines_from}
-use Rattle.trace.specs.declared.Read.{Read}
 use Rattle.trace.proofs.EventLaws.{events_snoc, length-events}
 
 -- TWO RUNS

@@ -11,13 +11,13 @@ use Rattle.rules.specs.declared.Refusal.TheVariants.{BadEvent}
 use Rattle.rules.specs.declared.Answer.{Answer}
 use Rattle.rules.specs.declared.Answer.TheVariants.{Refused}
 use Rattle.trace.specs.Printed.{answered, answers_to, table_after}
-use Rattle.trace.specs.declared.Read.{Read}
-use Rattle.trace.specs.declared.Read.TheVariants.{Good, Bad}
+use Rattle.std.specs.Prelude.{Some, None}
+use Rattle.trace.specs.Event.{Read}
 
 -- what an event that was read means to the rules: an event, or none where it is bad
 abbrev pub meant : Read → List Event
-meant (Good e) = e ∷ []
-meant Bad = []
+meant (Some e) = e ∷ []
+meant None = []
 
 -- the run of a list of events that were read
 abbrev pub run : List Read → List Event
@@ -33,12 +33,12 @@ woven (e ∷ es) l = (if empty (meant e) then Refused BadEvent ∷ [] else take 
 pub table-run : (t : Table) (es : List Read) → table_after t es ≡ after t (run es)
 unfolding table_after after answered
 table-run t [] = refl
-table-run t (Good e ∷ es) = table-run (step t e).table es
-table-run t (Bad ∷ es) = table-run t es
+table-run t (Some e ∷ es) = table-run (step t e).table es
+table-run t (None ∷ es) = table-run t es
 
 -- the answers are those to the run
 pub answers-run : (t : Table) (es : List Read) → answers_to t es ≡ woven es (answers t (run es))
 unfolding answers_to answers answered
 answers-run t [] = refl
-answers-run t (Good e ∷ es) = ap (λ (l : List Answer). (step t e).answer ∷ l) (answers-run (step t e).table es)
-answers-run t (Bad ∷ es) = ap (λ (l : List Answer). Refused BadEvent ∷ l) (answers-run t es)
+answers-run t (Some e ∷ es) = ap (λ (l : List Answer). (step t e).answer ∷ l) (answers-run (step t e).table es)
+answers-run t (None ∷ es) = ap (λ (l : List Answer). Refused BadEvent ∷ l) (answers-run t es)

@@ -5,10 +5,9 @@ use mathlib.Core.List.{List, [], ◌∷◌, ◌++◌, append_assoc, append-nil}
 use native.Mathlib.Omega.{arith}
 use lib.ListN.{length, drop, length-append, length-drop}
 use lib.Seq.{drop-drop, drop-append-le}
-use Rattle.trace.specs.Event.{events_of, whole}
+use Rattle.trace.specs.Event.{events_of, whole, Read}
 use Rattle.trace.specs.Printed.{answers_to, table_after, lines_from, Place, events, lines, left, cut, finished}
 use Rattle.trace.specs.Reads.{joined, more, as_read}
-use Rattle.trace.specs.declared.Read.{Read}
 use Rattle.trace.proofs.EventLaws.{events_add, events-append, length-events}
 use Rattle.trace.proofs.RunLaws.{lines_runs}
 

@@ -9,23 +9,22 @@ use Rattle.rules.specs.Run.{step, answers}
 use Rattle.rules.specs.declared.Answer.{Answer}
 use Rattle.worth.specs.Worth.{Worth}
 use Rattle.worth.proofs.Worth.{limit_worth}
-use Rattle.trace.specs.Event.{whole}
+use Rattle.trace.specs.Event.{whole, Read}
 use Rattle.trace.specs.Header.{version_of}
 use Rattle.trace.specs.Printed.{answered, answers_to}
 use Rattle.trace.specs.Answers.{event_bytes, bytes_at, opening, table_at, reads_of, cut_answer, to_events, answers_after}
 use Rattle.trace.specs.Cases.{header_cases}
-use Rattle.trace.specs.declared.Read.{Read}
-use Rattle.trace.specs.declared.Read.TheVariants.{Good, Bad}
 use Rattle.trace.proofs.Runs.{run}
 use Rattle.trace.proofs.Answers.{answers-later}
 use Rattle.trace.proofs.LineExactly.{table-sound}
+use Rattle.std.specs.Prelude.{Some, None}
 
 -- the answers to events are those of the run of the good ones, whatever answers stand behind theirs
 to-run : (rs : List Read) (t : Table) (more : List Answer) → to_events rs (answers_to t rs ++ more) ≡ answers t (run rs)
 unfolding to_events answers_to answers answered
 to-run [] t more = refl
-to-run (Good e ∷ rs) t more = ap ((step t e).answer ∷◌) (to-run rs (step t e).table more)
-to-run (Bad ∷ rs) t more = to-run rs t more
+to-run (Some e ∷ rs) t more = ap ((step t e).answer ∷◌) (to-run rs (step t e).table more)
+to-run (None ∷ rs) t more = to-run rs t more
 
 -- of a trace with a good header, from event k on, counted from 0
 pub trace_worth : (bs : List ℕ) → NoneHolds (header_cases bs) → (k : ℕ) → k ≤ whole (event_bytes bs)

@@ -1,5 +1,5 @@
 -- What the lines of a trace with a good header say: its events, by the bytes they stand in, and an answer for each.
-use Rattle.std.specs.Prelude.{ℕ, ◌*◌, false, List, [], ◌∷◌, ◌++◌, get_or, drop, if◌then◌else◌}
+use Rattle.std.specs.Prelude.{ℕ, ◌*◌, false, List, [], ◌∷◌, ◌++◌, get_or, drop, if◌then◌else◌, Some, None}
 use Rattle.rules.specs.Tables.{Table}
 use Rattle.rules.specs.Answers.{taken}
 use Rattle.rules.specs.declared.Event.{Event}
@@ -10,15 +10,13 @@ use Rattle.rules.specs.declared.Refusal.TheVariants.{EventCut}
 use Rattle.rules.specs.declared.Answer.{Answer}
 use Rattle.rules.specs.declared.Answer.TheVariants.{Nothing, Refused}
 use Rattle.trace.specs.Header.{version_of, depth_of, guests_of, capacity_of, rule_of, body, settings_in}
-use Rattle.trace.specs.Event.{events_of, whole}
+use Rattle.trace.specs.Event.{events_of, whole, Read}
 use Rattle.trace.specs.Printed.{answered, answers_to, table_after}
-use Rattle.trace.specs.declared.Read.{Read}
-use Rattle.trace.specs.declared.Read.TheVariants.{Good, Bad}
 
 -- what f says of the event that was read; where it is bad, `bad`
 abbrev pub by_event {ℓ} : {A : Type ℓ} → (bad : A) → (Event → A) → Read → A
-by_event bad f (Good e) = f e
-by_event bad f Bad = bad
+by_event bad f (Some e) = f e
+by_event bad f None = bad
 
 -- THE EVENTS of a trace
 

@@ -2,7 +2,7 @@
 -- reservation, limit, shares, 32 bits each." "Header order: 9 bytes present (13), 11, 12, counts (1), guest records present (13), guest
 -- settings (1)." Document 02, K9: "Both versions must be read. In version 2 the rule is one byte after the capacity (absent: 13, right after 12; judged
 -- with the counts), each guest record ends with the credit in 16 bits".
-use Rattle.std.specs.Prelude.{ℕ, ◌+◌, ◌*◌, Bool, true, false, not, ◌&&◌, List, [], ◌∷◌, eqb, ltb, length, take, if◌then◌else◌}
+use Rattle.std.specs.Prelude.{ℕ, ◌+◌, ◌*◌, Bool, true, false, not, ◌&&◌, List, [], ◌∷◌, eqb, ltb, length, take, if◌then◌else◌, Result, Ok, Err}
 use Rattle.lists.specs.Words.{all}
 use Rattle.lists.specs.Tab.{tab}
 use Rattle.rules.specs.declared.Settings.{Settings}
@@ -10,10 +10,10 @@ use Rattle.rules.specs.Numbers.{within}
 use Rattle.rules.specs.Sound.{counted, ruled, settled}
 use Rattle.rules.specs.Answers.{number_of}
 use Rattle.rules.specs.Refusals.{Test, Verdict, accept, refuse, judged}
+use Rattle.rules.specs.declared.Refusal.{Refusal}
 use Rattle.rules.specs.declared.Refusal.TheVariants.{BadSetting, BadMark, BadVersion, HeaderCut}
 use Rattle.trace.specs.Little.{byte_at, two_at, four_at}
-use Rattle.trace.specs.declared.Header.{Header}
-use Rattle.trace.specs.declared.Header.TheVariants.{Opened, Refused}
+use Rattle.trace.specs.declared.Opened.{Opened}
 
 -- the letters S, G and Q as bytes
 abbrev pub mark : List ℕ
@@ -107,15 +107,23 @@ header_tests_for from to bs =
 abbrev pub header_tests : List ℕ → List Test
 header_tests = header_tests_for first_version last_version
 
+-- a header: what it opens, or why it is refused
+abbrev pub Header : Type 0
+Header = Result Opened Refusal
+
 -- the paper's number and values of a header: the number of its refusal, or 0 with version, depth, guests, capacity and rule where it opens
 abbrev pub header_shown : Header → List ℕ
-header_shown (Opened v d n c r) = 0 ∷ v ∷ d ∷ n ∷ c ∷ r ∷ []
-header_shown (Refused r) = number_of r ∷ []
+header_shown (Ok o) = 0 ∷ o.version ∷ o.depth ∷ o.guests ∷ o.capacity ∷ o.rule ∷ []
+header_shown (Err r) = number_of r ∷ []
+
+-- what the bytes of a header say that it opens
+abbrev pub opened_of : List ℕ → Opened
+opened_of bs = record { version = version_of bs; depth = depth_of bs; guests = guests_of bs; capacity = capacity_of bs; rule = rule_of bs }
 
 -- what a verdict on the bytes of a header makes of them
 abbrev pub header_by : Verdict → List ℕ → Header
-header_by accept bs = Opened (version_of bs) (depth_of bs) (guests_of bs) (capacity_of bs) (rule_of bs)
-header_by (refuse r) bs = Refused r
+header_by accept bs = Ok (opened_of bs)
+header_by (refuse r) bs = Err r
 
 -- the header that stands at the front of a trace, where the versions from one to another are taken
 abbrev pub header_for : (from to : ℕ) → List ℕ → Header

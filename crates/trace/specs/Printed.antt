@@ -1,24 +1,21 @@
 -- Document 01, "The trace": what is printed for a whole trace. "Number 14 is judged before the event's other refusals. Refused events are
 -- passed over; a cut last event is a line with its number and `X 15`."
-use Rattle.std.specs.Prelude.{ℕ, ◌+◌, ◌*◌, List, [], ◌∷◌, ◌++◌, drop}
+use Rattle.std.specs.Prelude.{ℕ, ◌+◌, ◌*◌, List, [], ◌∷◌, ◌++◌, drop, Some, None, Ok, Err}
 use Rattle.rules.specs.Tables.{Table}
 use Rattle.rules.specs.Choice.{Result}
 use Rattle.rules.specs.Run.{step, fresh}
 use Rattle.rules.specs.declared.Refusal.TheVariants.{BadEvent, EventCut}
 use Rattle.rules.specs.declared.Answer.{Answer}
 use Rattle.rules.specs.declared.Answer.TheVariants.{Refused}
-use Rattle.trace.specs.Header.{body, settings_in, header_of}
-use Rattle.trace.specs.Event.{events_of, whole}
+use Rattle.trace.specs.Header.{body, settings_in, header_of, Header}
+use Rattle.trace.specs.Event.{events_of, whole, Read}
 use Rattle.lines.specs.Line.{line_of, refusal_line, title_line}
-use Rattle.trace.specs.declared.Header.{Header}
-use Rattle.trace.specs.declared.Header.TheVariants.{Opened, Refused as Unopened}
-use Rattle.trace.specs.declared.Read.{Read}
-use Rattle.trace.specs.declared.Read.TheVariants.{Good, Bad}
+use Rattle.trace.specs.declared.Opened.{Opened}
 
 -- an event as it was read, at a table: a bad one is refused 14 and changes nothing
 unfoldable pub answered : Table → Read → Result
-answered t (Good e) = step t e
-answered t Bad = record { table = t; answer = Refused BadEvent }
+answered t (Some e) = step t e
+answered t None = record { table = t; answer = Refused BadEvent }
 
 -- the answers to a run of events
 unfoldable pub answers_to : Table → List Read → List Answer
@@ -70,13 +67,14 @@ unfoldable pub finished : Place → List ℕ
 finished p = lines p ++ cut (left p).number (left p).bytes
 
 -- where the reading of events begins: at the fresh table that the header opens
-abbrev pub begun : (version depth guests capacity rule : ℕ) → List ℕ → Place
-begun v d n c r bs = record { version = v; bytes = drop (body v n) bs; table = fresh d c r (settings_in bs); number = 0 }
+abbrev pub begun : Opened → List ℕ → Place
+begun o bs =
+    record { version = o.version; bytes = drop (body o.version o.guests) bs; table = fresh o.depth o.capacity o.rule (settings_in bs); number = 0 }
 
 -- "A bad header prints the one line `trace refused` and the number. Otherwise the header line `event answer`, then a line for each event"
 abbrev pub printed_by : Header → List ℕ → List ℕ
-printed_by (Unopened r) bs = refusal_line r
-printed_by (Opened v d n c r) bs = title_line ++ finished (begun v d n c r bs)
+printed_by (Err r) bs = refusal_line r
+printed_by (Ok o) bs = title_line ++ finished (begun o bs)
 
 -- WHAT IS PRINTED: from the bytes of a whole trace to the bytes that the program prints
 unfoldable pub printed : List ℕ → List ℕ

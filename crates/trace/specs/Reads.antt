@@ -1,10 +1,8 @@
 -- A trace that comes in reads: "The program reads standard input through a buffer of 4,096 bytes." What is printed as they come.
-use Rattle.std.specs.Prelude.{ℕ, List, [], ◌∷◌, ◌++◌, leb, length, if◌then◌else◌}
-use Rattle.trace.specs.Header.{header_of}
+use Rattle.std.specs.Prelude.{ℕ, List, [], ◌∷◌, ◌++◌, leb, length, if◌then◌else◌, Ok, Err}
+use Rattle.trace.specs.Header.{header_of, Header}
 use Rattle.lines.specs.Line.{refusal_line, title_line}
 use Rattle.trace.specs.Printed.{Place, lines, left, finished, begun}
-use Rattle.trace.specs.declared.Header.{Header}
-use Rattle.trace.specs.declared.Header.TheVariants.{Opened, Refused as Unopened}
 
 -- the reads, one behind the other
 unfoldable pub joined : List (List ℕ) → List ℕ
@@ -22,8 +20,8 @@ as_read p (r ∷ rs) = lines p ++ as_read (more (left p) r) rs
 
 -- what is printed where the first bytes are judged as a header
 abbrev pub printed_first : Header → List ℕ → List (List ℕ) → List ℕ
-printed_first (Unopened r) bs rs = refusal_line r
-printed_first (Opened v d n c r) bs rs = title_line ++ as_read (begun v d n c r bs) rs
+printed_first (Err r) bs rs = refusal_line r
+printed_first (Ok o) bs rs = title_line ++ as_read (begun o bs) rs
 
 -- what is printed of a trace that comes in reads: the header is judged once `room` bytes are there or no more come
 unfoldable pub printed_reads : (room : ℕ) → List ℕ → List (List ℕ) → List ℕ

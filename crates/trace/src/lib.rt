@@ -1,25 +1,14 @@
-// The trace of document 01, and its version 2 of document 02, as bytes: what its header and its events are, and in specs/Printed.antt what is printed of it. The
-// crate has no code: `fields`, `headers` and `items` read them.
+// The trace of document 01, and its version 2 of document 02, as bytes: what its header and its events are, and in specs/Printed.antt what is printed
+// of it. The crate has no code: `fields`, `headers` and `items` read them. A header that opens reads as an `Opened`, a bad one as its refusal; an event
+// reads as itself, and a bad one as none.
 #![tactic(auto)]
 
-use rules::{Event, Refusal};
-
-// What the header of a trace opens, or why it is refused.
+// What the header of a trace opens.
 #[derive(Clone, Copy)]
-pub enum Header {
-    Opened {
-        version: u64,
-        depth: u64,
-        guests: u64,
-        capacity: u64,
-        rule: u64,
-    },
-    Refused(Refusal),
-}
-
-// An event as its 14 bytes have it, or a bad one: refusal 14.
-#[derive(Clone, Copy)]
-pub enum Read {
-    Good(Event),
-    Bad,
+pub struct Opened {
+    pub version: u64,
+    pub depth: u64,
+    pub guests: u64,
+    pub capacity: u64,
+    pub rule: u64,
 }

@@ -7,32 +7,24 @@ ghost use Rattle.table.specs.Columns.{guest_wide, waiting_wide, most_guests};
 ghost use Rattle.moves.specs.Moves.{fall_of, last_past, next_dropped, tags_dropped, Lawful, Unreserved};
 ghost use Rattle.index.specs.Index.{Indexed};
 
+use drops::{Fall, fall_after};
 use index::NEXTS;
-use table::columns::{COST, GUEST_WIDE, RESERVATION, RNEXT, RTAG, WAITING_WIDE};
-use tags::{cut, spacing_down};
+use table::columns::{COST, GUEST_WIDE, RNEXT, RTAG, WAITING_WIDE};
 
-// Every reservation tag of `guest` drops by d, but never below 0. What follows the last of them is handed back, or `next` where there is none.
-fn lower_along(
-    waiting: &mut [u64],
-    count: usize,
-    guest: u64,
-    d: u64,
-    spacing: u64,
-    next: u64,
-    index: &[u16],
-) -> u64
-    requires waiting_wide_in_bounds { (count * waiting_wide ≤ length waiting.old) × (spacing ≤ second) × (guest < most_guests) × Lawful count waiting.old }
+// Every reservation tag of `guest` drops by its fall, but never below 0. What follows the last of them is handed back, or the next number where there is none.
+fn lower_along(waiting: &mut [u64], count: usize, guest: u64, fall: Fall, index: &[u16]) -> u64
+    requires waiting_wide_in_bounds { (count * waiting_wide ≤ length waiting.old) × (fall.spacing ≤ second) × (guest < most_guests) × Lawful count waiting.old }
     requires indexed { Indexed waiting.old index.now count }
-    ensures waiting_after { waiting.new ≡ tags_dropped guest d waiting.old count }
-    ensures value { result ≡ last_past guest d spacing next waiting.old count }
+    ensures waiting_after { waiting.new ≡ tags_dropped guest fall.by waiting.old count }
+    ensures value { result ≡ last_past guest fall.by fall.spacing fall.next waiting.old count }
 {
-    let mut after = next;
+    let mut after = fall.next;
     let mut number = index[guest as usize] as usize;
     while 0 < number {
         let row = number - 1;
         let from = row * WAITING_WIDE;
-        let q = cut(waiting[from + RTAG], d);
-        after = q + waiting[from + COST] * spacing;
+        let q = waiting[from + RTAG].saturating_sub(fall.by);
+        after = q + waiting[from + COST] * fall.spacing;
         waiting[from + RTAG] = q;
         number = index[NEXTS + row] as usize;
     }
@@ -54,14 +46,9 @@ pub fn drop_along(
     ensures guests_after { guests.new ≡ next_dropped guest cost count waiting.old guests.old }
     ensures waiting_after { waiting.new ≡ tags_dropped guest (fall_of guest cost guests.old) waiting.old count }
 {
-    let from = (guest as usize) * GUEST_WIDE;
-    let r = guests[from + RESERVATION];
-    if r == 0 {
+    let Some(fall) = fall_after(guests, guest, cost) else {
         return;
-    }
-    let spacing = spacing_down(r);
-    let d = cost * spacing;
-    let n = guests[from + RNEXT];
-    let next = lower_along(waiting, count, guest, d, spacing, cut(n, d), index);
-    guests[from + RNEXT] = next;
+    };
+    let next = lower_along(waiting, count, guest, fall, index);
+    guests[(guest as usize) * GUEST_WIDE + RNEXT] = next;
 }

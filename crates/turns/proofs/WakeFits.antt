@@ -1,4 +1,5 @@
 -- When to wake is what document 02 asks, in plain facts about ticks, and those fit one value only. Assumes nothing.
+use Rattle.std.specs.Prelude.{Some, None, Option}
 use mathlib.Core.Path.{◌≡◌, refl, sym, ap, ◌∙◌}
 use mathlib.Core.Bool.{Bool, true, false, not, ◌&&◌, ◌||◌, and-true, true≢false}
 use mathlib.Core.List.{List, [], ◌∷◌, map}
@@ -22,8 +23,6 @@ use Rattle.rules.specs.declared.Event.TheVariants.{Tick}
 use Rattle.rules.specs.Refusals.{Verdict, accept, refuse, verdict, is_accept, accepted}
 use Rattle.rules.specs.Run.{decided, step, fresh}
 use Rattle.rules.specs.Waking.{ready_at, ready_in, soonest, wake, told}
-use Rattle.rules.specs.declared.Wake.{Wake}
-use Rattle.rules.specs.declared.Wake.TheVariants.{At, Never}
 use Rattle.turns.specs.Woken.{Sends, WakesAt, Wakes}
 use Rattle.rules.specs.declared.Phase.TheVariants.{Reservation, Weight}
 use Rattle.rules.specs.declared.Answer.{Answer}
@@ -169,40 +168,40 @@ module _ (t : Table) (s : sound t ≡ true) where
   unfolding wake
   wake-fits = go (room t) refl t.waiting refl
     where
-      go : (b : Bool) → room t ≡ b → (w : List Request) → t.waiting ≡ w → Wakes t (if b && not (empty w) then At (max t.time (soonest t)) else Never)
+      go : (b : Bool) → room t ≡ b → (w : List Request) → t.waiting ≡ w → Wakes t (if b && not (empty w) then Some (max t.time (soonest t)) else None)
       go false r w e = never-sends (inl r)
       go true r [] e = never-sends (inr (ap length e))
       go true r (q ∷ w) e = wakes-at r (omega (arith, ap length e))
 
   -- and nothing else is
-  pub wakes_once : (w x : Wake) → Wakes t w → Wakes t x → w ≡ x
-  wakes_once (At n) (At m) a b = ap At (go (ltb n m) refl (ltb m n) refl)
+  pub wakes_once : (w x : Option ℕ) → Wakes t w → Wakes t x → w ≡ x
+  wakes_once (Some n) (Some m) a b = ap Some (go (ltb n m) refl (ltb m n) refl)
     where
       go : (c : Bool) → ltb n m ≡ c → (d : Bool) → ltb m n ≡ d → n ≡ m
       go true c d e = absurd (unsent (step t (Tick n)).answer (b.before n a.later (ltb-true n m c)).1 a.sends)
       go false c true d = absurd (unsent (step t (Tick m)).answer (a.before m b.later (ltb-true m n d)).1 b.sends)
       go false c false d = omega (arith, ltb-false n m c, ltb-false m n d)
-  wakes_once (At n) Never a b = absurd (b n a.sends)
-  wakes_once Never (At m) a b = absurd (a m b.sends)
-  wakes_once Never Never a b = refl
+  wakes_once (Some n) None a b = absurd (b n a.sends)
+  wakes_once None (Some m) a b = absurd (a m b.sends)
+  wakes_once None None a b = refl
 
 -- K2: "none when no place is free or nothing waits", and only then
-pub wake-none : (t : Table) → (wake t ≡ Never) ↔ ((t.setup.depth ≤ length t.flight) ⊎ (t.waiting ≡ []))
+pub wake-none : (t : Table) → (wake t ≡ None) ↔ ((t.setup.depth ≤ length t.flight) ⊎ (t.waiting ≡ []))
 unfolding wake room
 wake-none t = (go (room t) refl t.waiting refl, ⊎_elim (λ k. rw (le-ltb (length t.flight) t.setup.depth k)) (λ k. rw k (dry (room t))))
   where
-    dry : (b : Bool) → (if b && false then At (max t.time (lowest (map (ready_in t.setup.rule t.guests) []))) else Never) ≡ Never
+    dry : (b : Bool) → (if b && false then Some (max t.time (lowest (map (ready_in t.setup.rule t.guests) []))) else None) ≡ None
     dry true = refl
     dry false = refl
 
-    go : (b : Bool) → room t ≡ b → (w : List Request) → t.waiting ≡ w → (if b && not (empty w) then At (max t.time (lowest (map (ready_in t.setup.rule t.guests) w))) else Never) ≡ Never
+    go : (b : Bool) → room t ≡ b → (w : List Request) → t.waiting ≡ w → (if b && not (empty w) then Some (max t.time (lowest (map (ready_in t.setup.rule t.guests) w))) else None) ≡ None
         → (t.setup.depth ≤ length t.flight) ⊎ (t.waiting ≡ [])
     go false r w e h = inl (ltb-false (length t.flight) t.setup.depth r)
     go true r [] e h = inr e
     go true r (q ∷ w) e h = let z : ◌≡◌ {A = ℕ} 0 1 = cc in absurd (omega arith)
 
 -- a fresh table has nothing waiting
-pub fresh-never : (d c r : ℕ) (ss : List Settings) → wake (fresh d c r ss) ≡ Never
+pub fresh-never : (d c r : ℕ) (ss : List Settings) → wake (fresh d c r ss) ≡ None
 unfolding fresh
 fresh-never d c r ss = (wake-none (fresh d c r ss)).1 (inr refl)
 
@@ -219,5 +218,5 @@ accepted-wakes t e h = rw (told_chosen (enter t e) (step t e) (step_chosen t e h
 
 -- And it carries none just where no place is free in that table or nothing waits.
 pub accepted-none : (t : Table) (e : Event) → accepted t e ≡ true
-    → (told (step t e) ≡ Never) ↔ (((step t e).table.setup.depth ≤ length (step t e).table.flight) ⊎ ((step t e).table.waiting ≡ []))
+    → (told (step t e) ≡ None) ↔ (((step t e).table.setup.depth ≤ length (step t e).table.flight) ⊎ ((step t e).table.waiting ≡ []))
 accepted-none t e h = rw (told_chosen (enter t e) (step t e) (step_chosen t e h)) (wake-none (step t e).table)

@@ -1,12 +1,10 @@
 -- When a tick alone would send something, described without computing it: document 02, K2, as facts about ticks. Words in quotes are K2's.
-use Rattle.std.specs.Prelude.{◌≡◌, true, ℕ, ◌≤◌, ◌<◌}
+use Rattle.std.specs.Prelude.{◌≡◌, true, ℕ, ◌≤◌, ◌<◌, Some, None, Option}
 use Rattle.rules.specs.Numbers.{ceiling}
 use Rattle.rules.specs.Tables.{Table}
 use Rattle.rules.specs.declared.Event.TheVariants.{Tick}
 use Rattle.rules.specs.Refusals.{accepted}
 use Rattle.rules.specs.Run.{step}
-use Rattle.rules.specs.declared.Wake.{Wake}
-use Rattle.rules.specs.declared.Wake.TheVariants.{At, Never}
 use Rattle.rules.specs.declared.Phase.{Phase}
 use Rattle.rules.specs.declared.Answer.{Answer}
 use Rattle.rules.specs.declared.Answer.TheVariants.{Nothing, Sent}
@@ -27,6 +25,6 @@ pub record WakesAt (t : Table) (n : ℕ) : Type 0 where
   pub before : (m : ℕ) → t.time ≤ m → m < n → (accepted t (Tick m) ≡ true) × ((step t (Tick m)).answer ≡ Nothing)
 
 -- w is when to wake the gate at the table t; none is that no tick sends, at any time
-abbrev pub Wakes : Table → Wake → Type 0
-Wakes t (At n) = WakesAt t n
-Wakes t Never = (m : ℕ) → Sends (step t (Tick m)).answer → ⊥
+abbrev pub Wakes : Table → Option ℕ → Type 0
+Wakes t (Some n) = WakesAt t n
+Wakes t None = (m : ℕ) → Sends (step t (Tick m)).answer → ⊥

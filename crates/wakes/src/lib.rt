@@ -3,16 +3,13 @@
 
 ghost use Rattle.std.specs.Prelude.{◌≡◌, map, ◌+◌, ◌*◌, ◌≤◌, ◌<◌, max, length, get_or};
 ghost use Rattle.lists.specs.Words.{lowest};
-ghost use Rattle.rules.specs.Numbers.{ceiling};
-ghost use Rattle.table.specs.Columns.{RESERVATION, guest_wide, RTAG, LTAG, waiting_wide, most_guests, most_capacity, guest_at};
+ghost use Rattle.table.specs.Columns.{RESERVATION, guest_wide, RTAG, LTAG, waiting_wide, most_guests, guest_at};
 ghost use Rattle.table.specs.View.{guests_of, waiting_of};
-ghost use Rattle.walks.specs.Walks.{Owned, Rising, LimitsFit, ready_by, ready_under, ready_by_tag};
+ghost use Rattle.walks.specs.Walks.{ready_by, ready_under, ready_by_tag};
 
 use table::columns::{GUEST, GUEST_WIDE, LTAG, MOST_GUESTS, RESERVATION, RTAG, WAITING_WIDE};
-use tags::CEILING;
-
-// One past the ceiling: no limit tag is as large.
-const PAST: u64 = CEILING + 1;
+use tags::PAST;
+use walks::queue::Queue;
 
 // The time from which the row at `at` could go under rule 1: its limit tag, or its reservation tag where that is earlier and its guest has a reservation.
 // An unlimited guest's limit tags are 0.
@@ -46,41 +43,29 @@ pub fn ready_under(rule: u64, waiting: &[u64], at: usize, guests: &[u64], guest:
 
 // The time, now or later, from which the first of the waiting requests could go. Only the first row of each guest is looked at: within a guest no
 // later tag is smaller. Where one could go now, no further row is, nor once no guest is left whose first row is unseen.
-pub fn soonest(
-    waiting: &[u64],
-    count: usize,
-    guests: &[u64],
-    known: usize,
-    time: u64,
-    rule: u64,
-) -> u64
-    requires count_nonzero { (0 < count) × (count ≤ most_capacity) × (count * waiting_wide ≤ length waiting.now) × (known ≤ most_guests) × (known * guest_wide ≤ length guests.now) }
-    requires owned { Owned waiting.now count known × Rising waiting.now count × LimitsFit waiting.now count }
-    requires time_le_ceiling { time ≤ ceiling }
-    ensures { result ≡ max time (lowest (map (ready_by_tag rule (guests_of guests.now known)) (waiting_of waiting.now count))) }
+pub fn soonest(queue: Queue, rule: u64) -> u64
+    requires { 0 < queue.count }
+    ensures { result ≡ max queue.entry.time (lowest (map (ready_by_tag rule (guests_of queue.entry.guests.now queue.entry.known)) (waiting_of queue.entry.waiting.now queue.entry.count))) }
 {
-    let used = count * WAITING_WIDE;
-    let mut seen = [0u8; MOST_GUESTS];
+    let mut seen = [false; MOST_GUESTS];
     let mut first = PAST;
-    let mut left = known;
-    let mut at: usize = 0;
-    while at < used {
-        let guest = waiting[at + GUEST] as usize;
-        if seen[guest] == 0 {
-            seen[guest] = 1;
-            left -= 1;
-            let ready = ready_under(rule, waiting, at, guests, guest);
-            if ready <= time {
-                return time;
-            }
-            if ready < first {
-                first = ready;
-            }
-            if left == 0 {
-                return first;
-            }
+    let mut left = queue.known;
+    for row in 0..queue.count {
+        let at = row * WAITING_WIDE;
+        let guest = queue.waiting[at + GUEST] as usize;
+        if seen[guest] {
+            continue;
         }
-        at += WAITING_WIDE;
+        seen[guest] = true;
+        left -= 1;
+        let ready = ready_under(rule, queue.waiting, at, queue.guests, guest);
+        if ready <= queue.time {
+            return queue.time;
+        }
+        first = first.min(ready);
+        if left == 0 {
+            return first;
+        }
     }
     first
 }

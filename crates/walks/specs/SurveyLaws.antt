@@ -1,6 +1,6 @@
 -- What the walks of the survey find, a row to a turn: the rows passed so far are the last rows in the search for a guest's own, the first rows in that
 -- for the ends. Assumes nothing.
-use Rattle.std.specs.Prelude.{ℕ, zero, suc, ◌+◌, ◌-◌, ◌*◌, ◌≤◌, ◌<◌, min, max, ◌≡◌, Bool, true, false, not, ◌&&◌, List, [], ◌∷◌, ◌++◌, map, eqb, length, get_or}
+use Rattle.std.specs.Prelude.{ℕ, zero, suc, ◌+◌, ◌-◌, ◌≤◌, ◌<◌, min, max, ◌≡◌, Bool, true, false, not, ◌&&◌, List, [], ◌∷◌, ◌++◌, map, eqb, length}
 use Rattle.std.proofs.Math.Path.{refl}
 use Rattle.std.proofs.Common.{sym, ap, ◌∙◌, subst, ⊎_elim, add-one, arith, eq-eqb, ne_eqb, eqb-true}
 use Rattle.std.proofs.Math.Bool.{and-true, and-false}
@@ -16,7 +16,6 @@ use Rattle.rules.specs.Tables.{Request, of, name, same, lacks}
 use Rattle.table.specs.Columns.{GUEST, ID, waiting_wide, waiting_at}
 use Rattle.table.specs.View.{request_form, waiting_of, name_is}
 use Rattle.walks.specs.Survey.{idle_in, tag_of, highest}
-use Rattle.walks.specs.WalksRows.{row_from}
 
 -- THE GUEST'S OWN ROWS
 
@@ -90,73 +89,50 @@ abbrev pub Behind : List ℕ → (count g row : ℕ) → Bool → Type 0
 Behind ws count g row true = (k : ℕ) × (row ≤ k) × (k < count) × (waiting_at ws k GUEST ≡ g)
 Behind ws count g row false = (k : ℕ) → row ≤ k → k < count → waiting_at ws k GUEST ≡ g → ⊥
 
--- the walk over the rows from the last to the first, down to the one whose numbers begin at `from`: none passed is this request, and whether one is of
--- its guest
-pub record Searched (ws : List ℕ) (count g id : ℕ) (waits : Bool) (from : ℕ) : Type 0 where
-  pub row : ℕ
-  pub begins : from ≡ row * waiting_wide
-  pub inside : row ≤ count
+-- the walk over the rows from the last to the first has passed those from `row` on: none of them is this request, and whether one is of its guest
+pub record Searched (ws : List ℕ) (count g id : ℕ) (waits : Bool) (row : ℕ) : Type 0 where
   pub lacking : (k : ℕ) → row ≤ k → k < count → waiting_at ws k GUEST ≡ g → waiting_at ws k ID ≡ id → ⊥
   pub idling : Behind ws count g row waits
 
 module _ (ws : List ℕ) (count g id : ℕ) where
   -- behind the last row
-  pub search_start : Searched ws count g id false (count * waiting_wide)
-  search_start = record { row = count; begins = refl; inside = omega arith; lacking = λ k l m e i. omega (arith, l, m); idling = λ k l m e. omega (arith, l, m) }
+  pub search_start : Searched ws count g id false count
+  search_start = record { lacking = λ k l m e i. omega (arith, l, m); idling = λ k l m e. omega (arith, l, m) }
 
-  module _ {waits : Bool} {from : ℕ} (s : Searched ws count g id waits from) (more : 0 < from) where
-    -- the row that is next
-    next : ℕ
-    next = s.row - 1
-
-    -- it is the first of those passed from then on
-    next_is : (s.row ≡ next + 1) × (from - waiting_wide ≡ next * waiting_wide)
-    unfolding next
-    next_is = (omega (arith, s.begins, more), omega (arith, s.begins, more))
-
-    -- a number of it
-    read : (j : ℕ) → get_or ws (from - waiting_wide + j) 0 ≡ waiting_at ws next j
-    read j = row_from ws next j next_is.1
-
-    -- a row from it on is it, or one passed before
-    split : {A : Type 0} (k : ℕ) → next ≤ k → (next ≡ k → A) → (s.row ≤ k → A) → A
-    split k l f h = ⊎_elim (λ m. f (omega (arith, m, l))) (λ m. h (omega (arith, m, next_is.0))) (lt_or_le k (next + 1))
+  module _ {waits : Bool} {row : ℕ} (s : Searched ws count g id waits row) (more : 0 < row) (inside : row ≤ count) where
+    -- a row from the next one on is it, or one passed before
+    split : {A : Type 0} (k : ℕ) → row - 1 ≤ k → (row - 1 ≡ k → A) → (row ≤ k → A) → A
+    split k l f h = ⊎_elim (λ (m : k < row). f (omega (arith, m, l, more))) (λ (m : row ≤ k). h m) (lt_or_le k row)
 
     -- the row is this request
-    pub search_hit : get_or ws (from - waiting_wide + GUEST) 0 ≡ g → get_or ws (from - waiting_wide + ID) 0 ≡ id → lacks_in ws count g id ≡ false
-    search_hit e i = lacks_not ws g id count next (omega (arith, next_is.0, s.inside)) (sym (read GUEST) ∙ e) (sym (read ID) ∙ i)
+    pub search_hit : waiting_at ws (row - 1) GUEST ≡ g → waiting_at ws (row - 1) ID ≡ id → lacks_in ws count g id ≡ false
+    search_hit e i = lacks_not ws g id count (row - 1) (omega (arith, more, inside)) e i
 
     -- another request of the guest
-    pub search_own : get_or ws (from - waiting_wide + GUEST) 0 ≡ g → (get_or ws (from - waiting_wide + ID) 0 ≡ id → ⊥) → Searched ws count g id true (from - waiting_wide)
+    pub search_own : waiting_at ws (row - 1) GUEST ≡ g → (waiting_at ws (row - 1) ID ≡ id → ⊥) → Searched ws count g id true (row - 1)
     search_own e i =
         record {
-          row = next;
-          begins = next_is.1;
-          inside = omega (arith, next_is.0, s.inside);
-          lacking = λ k l m f q. split k l (λ n. i (read ID ∙ ap (λ (x : ℕ). waiting_at ws x ID) n ∙ q)) (λ n. s.lacking k n m f q);
-          idling = (next, omega arith, omega (arith, next_is.0, s.inside), sym (read GUEST) ∙ e);
+          lacking = λ k l m f q. split k l (λ n. i (ap (λ (x : ℕ). waiting_at ws x ID) n ∙ q)) (λ n. s.lacking k n m f q);
+          idling = (row - 1, omega arith, omega (arith, more, inside), e);
         }
 
     -- another guest's
-    pub search_other : (get_or ws (from - waiting_wide + GUEST) 0 ≡ g → ⊥) → Searched ws count g id waits (from - waiting_wide)
+    pub search_other : (waiting_at ws (row - 1) GUEST ≡ g → ⊥) → Searched ws count g id waits (row - 1)
     search_other d =
         record {
-          row = next;
-          begins = next_is.1;
-          inside = omega (arith, next_is.0, s.inside);
           lacking = λ k l m f q. split k l (λ n. here k n f) (λ n. s.lacking k n m f q);
           idling = still waits s.idling;
         }
       where
-        here : (k : ℕ) → next ≡ k → waiting_at ws k GUEST ≡ g → ⊥
-        here k n f = d (read GUEST ∙ ap (λ (x : ℕ). waiting_at ws x GUEST) n ∙ f)
+        here : (k : ℕ) → row - 1 ≡ k → waiting_at ws k GUEST ≡ g → ⊥
+        here k n f = d (ap (λ (x : ℕ). waiting_at ws x GUEST) n ∙ f)
 
-        still : (b : Bool) → Behind ws count g s.row b → Behind ws count g next b
-        still true (k, l, m, e) = (k, omega (arith, l, next_is.0), m, e)
+        still : (b : Bool) → Behind ws count g row b → Behind ws count g (row - 1) b
+        still true (k, l, m, e) = (k, omega (arith, l), m, e)
         still false none = λ k l m f. split k l (λ n. here k n f) (λ n. none k n m f)
 
   -- where no row is this request, the rows lack it
-  none-lacks : (n : ℕ) → ((k : ℕ) → k < n → waiting_at ws k GUEST ≡ g → waiting_at ws k ID ≡ id → ⊥) → lacks_in ws n g id ≡ true
+  pub none-lacks : (n : ℕ) → ((k : ℕ) → k < n → waiting_at ws k GUEST ≡ g → waiting_at ws k ID ≡ id → ⊥) → lacks_in ws n g id ≡ true
   none-lacks zero h = lacks-none ws g id
   none-lacks (suc n) h = subst (λ (m : ℕ). lacks_in ws m g id ≡ true) (add-one n) (go (none-lacks n (λ k l. h k (omega (arith, l)))) (eqb (waiting_at ws n GUEST) g) refl)
     where
@@ -165,7 +141,7 @@ module _ (ws : List ℕ) (count g id : ℕ) where
       go so false e = lacks-guest ws g id n so (eqb-false (waiting_at ws n GUEST) g e)
 
   -- and whether one is of the guest says whether it is idle
-  idle_by : (n : ℕ) (b : Bool) → Behind ws n g 0 b → idle_in ws n g ≡ not b
+  pub idle_by : (n : ℕ) (b : Bool) → Behind ws n g 0 b → idle_in ws n g ≡ not b
   idle_by zero true (k, l, m, e) = absurd (omega (arith, m))
   idle_by zero false none = idle-none ws g
   idle_by (suc n) b p = subst (λ (m : ℕ). idle_in ws m g ≡ not b) (add-one n) (go b p (idle_by n) (eqb (waiting_at ws n GUEST) g) refl)
@@ -179,9 +155,9 @@ module _ (ws : List ℕ) (count g id : ℕ) where
       go false none so false e = idle-same ws g n (eqb-false (waiting_at ws n GUEST) g e) ∙ so false (λ k l m f. none k l (omega (arith, m)) f)
 
   -- at the first row
-  pub search_end : {waits : Bool} {from : ℕ} → Searched ws count g id waits from → from ≤ 0 → (lacks_in ws count g id ≡ true) × (idle_in ws count g ≡ not waits)
-  search_end {waits} s done =
-      let q : s.row ≡ 0 = omega (arith, s.begins, done) in
+  pub search_end : {waits : Bool} {row : ℕ} → Searched ws count g id waits row → row ≤ 0 → (lacks_in ws count g id ≡ true) × (idle_in ws count g ≡ not waits)
+  search_end {waits} {row} s done =
+      let q : row ≡ 0 = omega (arith, done) in
       (none-lacks count (λ k m. s.lacking k (omega (arith, q)) m), idle_by count waits (rw q at s.idling))
 
 -- THE ENDS

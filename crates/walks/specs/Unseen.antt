@@ -7,16 +7,15 @@ use Rattle.std.specs.Int.Bits.{bit_or, or_zero_r}
 use Rattle.std.proofs.lemmas.Nat.{or_lt, or_shr, or_mod, shl-shr}
 use Rattle.std.proofs.Math.Pow.{pow-lt}
 use Rattle.std.proofs.lemmas.Bool.{eqb-false}
-use Rattle.table.specs.Columns.{waiting_wide}
 use Rattle.walks.specs.Lifted.{or_above}
 
 -- a guest's bit in the number
 abbrev pub bit_of : (seen g : ℕ) → ℕ
 bit_of seen g = seen / 2 ^ g % 2
 
--- a guest's mark in a list
-abbrev pub mark_in : List ℕ → (g : ℕ) → ℕ
-mark_in seen g = get_or seen g 0
+-- a guest's mark in a list, as a bit
+abbrev pub mark_in : List Bool → (g : ℕ) → ℕ
+mark_in seen g = if get_or seen g false then 1 else 0
 
 -- guest g has its mark after, and the others are as before
 pub record Marked (before : ℕ → ℕ) (g : ℕ) (after : ℕ → ℕ) : Type 0 where
@@ -24,8 +23,12 @@ pub record Marked (before : ℕ → ℕ) (g : ℕ) (after : ℕ → ℕ) : Type 
   pub others : (k : ℕ) → (k ≡ g → ⊥) → after k ≡ before k
 
 -- a mark is put in a list
-pub marked_set : (seen : List ℕ) (g : ℕ) → g < length seen → Marked (mark_in seen) g (mark_in (set seen g 1))
-marked_set seen g long = record { own = get_or-set_same seen g 1 0 long; others = λ k other. get_or-set_other seen g k 1 0 other }
+pub marked_set : (seen : List Bool) (g : ℕ) → g < length seen → Marked (mark_in seen) g (mark_in (set seen g true))
+marked_set seen g long =
+    record {
+      own = ap (λ (b : Bool). if b then 1 else 0) (get_or-set_same seen g true false long);
+      others = λ k other. ap (λ (b : Bool). if b then 1 else 0) (get_or-set_other seen g k true false other);
+    }
 
 -- 0 has no bit
 pub none-set : (g : ℕ) → bit_of 0 g ≡ 0
@@ -125,7 +128,7 @@ unseen-again seen seen' n g m e = unseen_same seen seen' n (λ k l. go k (eqb k 
     go k true f = let same = eqb-true k g f in ap seen' same ∙ m.own ∙ sym e ∙ ap seen (sym same)
     go k false f = m.others k (eqb-false k g f)
 
--- what each row that is left keeps holds behind the last of count rows; n are left, and the first of them begins at `from`
-pub kept-to-end : (P : ℕ → Type 0) (count : ℕ) → ((at : ℕ) → at < count * waiting_wide → P at → P (at + waiting_wide)) → (n from : ℕ) → n * waiting_wide + from ≡ count * waiting_wide → P from → P (count * waiting_wide)
-kept-to-end P count keep zero from e p = subst P (omega (arith, e)) p
-kept-to-end P count keep (suc n) from e p = kept-to-end P count keep n (from + waiting_wide) (omega (arith, e)) (keep from (omega (arith, e)) p)
+-- what each row that is left keeps holds behind the last of count rows; n are left
+pub kept-to-end : (P : ℕ → Type 0) (count : ℕ) → ((row : ℕ) → row < count → P row → P (row + 1)) → (n row : ℕ) → n + row ≡ count → P row → P count
+kept-to-end P count keep zero row e p = subst P (omega (arith, e)) p
+kept-to-end P count keep (suc n) row e p = kept-to-end P count keep n (row + 1) (omega (arith, e)) (keep row (omega (arith, e)) p)

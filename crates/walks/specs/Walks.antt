@@ -1,5 +1,5 @@
 -- What the walks over the lent rows answer: the place of the request that the choice picks, and the place of a name in flight.
-use Rattle.std.specs.Prelude.{ℕ, ◌≤◌, ◌<◌, ◌/◌, min, ◌≡◌, Bool, true, false, List, ltb, eqb, length, if◌then◌else◌}
+use Rattle.std.specs.Prelude.{ℕ, ◌*◌, ◌≤◌, ◌<◌, ◌/◌, min, ◌≡◌, Bool, true, false, List, ltb, eqb, length, if◌then◌else◌, Some, None, Option}
 use Rattle.lists.specs.Words.{without}
 use Rattle.lists.specs.Tab.{remove_at}
 use Rattle.rules.specs.Numbers.{ceiling}
@@ -8,9 +8,7 @@ use Rattle.rules.specs.declared.Guest.{Guest}
 use Rattle.rules.specs.declared.Flight.{Flight}
 use Rattle.rules.specs.Choice.{Pick, nobody, picked, least}
 use Rattle.rules.specs.Chosen.{at}
-use Rattle.table.specs.Columns.{GUEST, RTAG, LTAG, STAG, waiting_wide, waiting_at}
-use Rattle.walks.specs.declared.Found.{Found}
-use Rattle.walks.specs.declared.Found.TheVariants.{At, Nothing}
+use Rattle.table.specs.Columns.{GUEST, RTAG, LTAG, STAG, guest_wide, waiting_wide, most_guests, most_capacity, waiting_at}
 
 -- every waiting request's guest is one of the first n
 abbrev pub Owned : List ℕ → (count n : ℕ) → Type 0
@@ -28,6 +26,18 @@ SharesFit ws count = (k : ℕ) → k < count → waiting_at ws k STAG ≤ ceilin
 -- every limit tag is at most the ceiling
 abbrev pub LimitsFit : List ℕ → (count : ℕ) → Type 0
 LimitsFit ws count = (k : ℕ) → k < count → waiting_at ws k LTAG ≤ ceiling
+
+-- the first `count` rows of a waiting table, of the first `known` guests of a guest table, at a time, as a sound table has them
+pub record Queued (ws : List ℕ) (count : ℕ) (gs : List ℕ) (known time : ℕ) : Type 0 where
+  pub few : count ≤ most_capacity
+  pub room : count * waiting_wide ≤ length ws
+  pub few_guests : known ≤ most_guests
+  pub guest_room : known * guest_wide ≤ length gs
+  pub early : time ≤ ceiling
+  pub owned : Owned ws count known
+  pub rising : Rising ws count
+  pub shares_fit : SharesFit ws count
+  pub limits_fit : LimitsFit ws count
 
 -- the time from which a request could go under rule 1, by its guest's reservation and its tags, where an unlimited guest's limit tags are 0
 unfoldable pub ready_by : (reservation rtag ltag : ℕ) → ℕ
@@ -47,25 +57,25 @@ Counts true tag t = t ≡ tag
 Counts false tag t = ceiling < t
 
 -- the place of the row whose numbers begin at `at`, or none where the rows that are used end before it
-unfoldable pub place_in : (at used : ℕ) → Found
-place_in at used = if ltb at used then At (at / waiting_wide) else Nothing
+unfoldable pub place_in : (at used : ℕ) → Option ℕ
+place_in at used = if ltb at used then Some (at / waiting_wide) else None
 
 -- a place that is found is one of n
-abbrev pub Inside : Found → ℕ → Type 0
-Inside Nothing n = Unit {0}
-Inside (At i) n = i < n
+abbrev pub Inside : Option ℕ → ℕ → Type 0
+Inside None n = Unit {0}
+Inside (Some i) n = i < n
 
 -- the pick of a place: its request, and the others in their order
-abbrev pub pick_at : Found → List Request → Pick
-pick_at Nothing rows = nobody
-pick_at (At i) rows = picked (at rows i) (remove_at i rows)
+abbrev pub pick_at : Option ℕ → List Request → Pick
+pick_at None rows = nobody
+pick_at (Some i) rows = picked (at rows i) (remove_at i rows)
 
 -- f is the place of the request that `least` picks, or says that it picks nobody
-pub record Picks (ok : Request → Bool) (tag : Request → ℕ) (rows : List Request) (f : Found) : Type 0 where
+pub record Picks (ok : Request → Bool) (tag : Request → ℕ) (rows : List Request) (f : Option ℕ) : Type 0 where
   pub pick : least ok tag rows ≡ pick_at f rows
   pub inside : Inside f (length rows)
 
 -- f is the first place of the name a in l, the one that a completion takes out, or says that l lacks it
-abbrev pub Finds : Flight → List Flight → Found → Type 0
-Finds a l Nothing = lacks a l ≡ true
-Finds a l (At i) = (i < length l) × (lacks a l ≡ false) × (without (same a) l ≡ remove_at i l)
+abbrev pub Finds : Flight → List Flight → Option ℕ → Type 0
+Finds a l None = lacks a l ≡ true
+Finds a l (Some i) = (i < length l) × (lacks a l ≡ false) × (without (same a) l ≡ remove_at i l)

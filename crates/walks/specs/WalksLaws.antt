@@ -1,6 +1,6 @@
 -- A walk from the first row with a falling bound holds the row that stands foremost so far, and so ends at what `least` picks.
 -- Assumes nothing.
-use Rattle.std.specs.Prelude.{ℕ, ◌+◌, ◌*◌, ◌/◌, ◌≤◌, ◌<◌, ◌≡◌, Bool, List, ◌⊎◌, length, if◌then◌else◌}
+use Rattle.std.specs.Prelude.{ℕ, ◌+◌, ◌*◌, ◌/◌, ◌≤◌, ◌<◌, ◌≡◌, Bool, List, ◌⊎◌, length, if◌then◌else◌, Some, None}
 use Rattle.std.proofs.Math.Path.{refl}
 use Rattle.std.proofs.Common.{sym, inl, inr, ⊎_elim, arith, below_none, below_more}
 use Rattle.std.proofs.Math.Bool.{true, false}
@@ -11,7 +11,6 @@ use Rattle.rules.specs.Chosen.{at, Foremost}
 use Rattle.rules.proofs.Places.{least_at, least-none}
 use Rattle.table.specs.Columns.{waiting_wide}
 use Rattle.walks.specs.Walks.{Picks, place_in}
-use Rattle.walks.specs.declared.Found.TheVariants.{At, Nothing}
 
 -- of the first i rows that are ok, the one at `place` has the smallest tag, `bound`, and is the earliest of equal ones
 pub record Holds (ok : Request → Bool) (tag : Request → ℕ) (rows : List Request) (i place bound : ℕ) : Type 0 where
@@ -59,7 +58,7 @@ module _ {ok : Request → Bool} {tag : Request → ℕ} {rows : List Request} {
 
   module _ {place bound : ℕ} (size : length rows ≡ none) (w : Walk ok tag rows top none none place bound) where
     -- the end, with a place of a row
-    pub walk_found : place < none → Picks ok tag rows (At place)
+    pub walk_found : place < none → Picks ok tag rows (Some place)
     walk_found l = record { pick = least_at ok tag rows place (go w.held); inside = omega arith }
       where
         go : ((place ≡ none) × (bound ≡ top)) ⊎ Holds ok tag rows none place bound → Foremost ok tag rows place
@@ -73,7 +72,7 @@ module _ {ok : Request → Bool} {tag : Request → ℕ} {rows : List Request} {
             }
 
     -- the end, with no place, where every row that is ok has a tag below the first bound
-    pub walk_nothing : none ≤ place → ((j : ℕ) → j < none → ok (at rows j) ≡ true → tag (at rows j) < top) → Picks ok tag rows Nothing
+    pub walk_nothing : none ≤ place → ((j : ℕ) → j < none → ok (at rows j) ≡ true → tag (at rows j) < top) → Picks ok tag rows None
     walk_nothing l small = record { pick = least-none ok tag rows (λ j h. go w.held j (omega arith) (ok (at rows j)) refl); inside = tt }
       where
         go : ((place ≡ none) × (bound ≡ top)) ⊎ Holds ok tag rows none place bound → (j : ℕ) → j < none → (b : Bool) → ok (at rows j) ≡ b → b ≡ false
@@ -107,7 +106,7 @@ module _ {ok : Request → Bool} {tag : Request → ℕ} {rows : List Request} {
   unfolding place_in
   told_picks {from} {bound} size w small = go (ltb from (none * waiting_wide)) refl
     where
-      go : (b : Bool) → ltb from (none * waiting_wide) ≡ b → Picks ok tag rows (if b then At (from / waiting_wide) else Nothing)
+      go : (b : Bool) → ltb from (none * waiting_wide) ≡ b → Picks ok tag rows (if b then Some (from / waiting_wide) else None)
       go true e =
           let l : w.place < none = omega (arith, w.begins, ltb-true from (none * waiting_wide) e) in
           let p : from / waiting_wide ≡ w.place = omega (arith, w.begins) in

@@ -1,6 +1,6 @@
 -- What a row's numbers say of its request: whether it is due, whether it is open, and whether it has a name.
 -- Assumes nothing.
-use Rattle.std.specs.Prelude.{ℕ, ◌+◌, ◌*◌, ◌≤◌, ◌<◌, ◌≡◌, Bool, true, false, not, ◌&&◌, List, eqb, length, get_or}
+use Rattle.std.specs.Prelude.{ℕ, ◌+◌, ◌*◌, ◌≤◌, ◌<◌, ◌≡◌, Bool, true, false, not, ◌&&◌, List, eqb, length, get_or, Some, None}
 use Rattle.std.proofs.Common.{sym, ◌∙◌, arith, le-leb, leb-true, eq-eqb, ne_eqb}
 use Rattle.std.proofs.Math.Path.{ap}
 use Rattle.std.proofs.Math.Bool.{and-false}
@@ -14,7 +14,6 @@ use Rattle.rules.specs.Chosen.{at}
 use Rattle.table.specs.Columns.{RESERVATION, GUEST, ID, RTAG, LTAG, STAG, waiting_wide, guest_at, waiting_at, flight_at}
 use Rattle.table.specs.View.{guest_form, request_form, flight_form, guests_of, waiting_of, flights_of, name_is, nameless}
 use Rattle.walks.specs.Walks.{Owned, Rising, Finds}
-use Rattle.walks.specs.declared.Found.TheVariants.{At, Nothing}
 
 -- the test of the reservation phase, with the guests' settings read from the lent guest table and the latest limit tag that passes
 abbrev pub due_in : List ℕ → (known time latest : ℕ) → Request → Bool
@@ -116,7 +115,7 @@ module _ (fs : List ℕ) (count g i : ℕ) where
     not_id d = rw (same_at, ne_eqb i (flight_at fs k ID) (λ e. d (sym e))) (and-false (eqb g (flight_at fs k GUEST)))
 
     -- the first row of this name is found
-    pub finds-at : flight_at fs k GUEST ≡ g → flight_at fs k ID ≡ i → NoneBefore fs count g i k → Finds (name_is g i) (flights_of fs count) (At k)
+    pub finds-at : flight_at fs k GUEST ≡ g → flight_at fs k ID ≡ i → NoneBefore fs count g i k → Finds (name_is g i) (flights_of fs count) (Some k)
     finds-at e f before = (inside, place_not (λ b. not (same (name_is g i) b)) (flights_of fs count) nameless k inside (rw has), without_at (same (name_is g i)) (flights_of fs count) nameless k inside has before)
       where
         inside : k < length (flights_of fs count)
@@ -126,6 +125,6 @@ module _ (fs : List ℕ) (count g i : ℕ) where
         has = rw (same_at, eq-eqb g (flight_at fs k GUEST) (sym e), eq-eqb i (flight_at fs k ID) (sym f))
 
   -- no row has this name
-  pub finds_nothing : NoneBefore fs count g i count → Finds (name_is g i) (flights_of fs count) Nothing
+  pub finds_nothing : NoneBefore fs count g i count → Finds (name_is g i) (flights_of fs count) None
   finds_nothing before =
       places_all (λ b. not (same (name_is g i) b)) (flights_of fs count) nameless (λ j h. rw (before j (omega (arith, length-rows flight_form fs count))))

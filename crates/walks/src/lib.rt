@@ -2,11 +2,5 @@
 #![tactic(auto)]
 
 pub mod flight; // the place of a name in flight
+pub mod queue; // the requests that wait, as the walks are lent them
 pub mod survey; // what an arrival has to know of the waiting rows
-
-// What a walk answers: a place, counted from 0, or that there is none.
-#[derive(Drop)]
-pub enum Found {
-    At(usize),
-    Nothing,
-}

@@ -1,4 +1,3 @@
-pub mod Copied
 pub mod Longer
 pub mod Staged
 pub mod Windows

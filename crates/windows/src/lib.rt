@@ -1,5 +1,6 @@
 // A window over the waiting rows: a copy with room behind it, in which the table's start moves on by a row with each send, so that of a thousand rows only those before
 // the sent one are moved. Functions for this repository's own crates.
+// Each loop over a window has a step of its own: a closure for it would change what it borrows, of which nothing is known afterwards.
 #![tactic(auto)]
 
 ghost use Rattle.std.specs.Prelude.{◌≡◌, List, ◌++◌, ℕ, ◌*◌, ◌≤◌, ◌<◌, length, get_or, take, drop};
@@ -7,6 +8,7 @@ ghost use Rattle.table.specs.Columns.{waiting_wide, most_guests, most_capacity};
 ghost use Rattle.index.specs.Index.{index_wide, owner_of, Indexed};
 ghost use Rattle.windows.specs.Window.{spare, Window};
 
+use rules::Gate;
 use table::columns::{MOST_CAPACITY, WAITING_WIDE};
 
 // How many sends a window has room for before the table goes back to its front.
@@ -15,17 +17,18 @@ pub const SPARE: usize = 256;
 // The numbers of a window.
 pub const WINDOW_LONG: usize = (MOST_CAPACITY + SPARE) * WAITING_WIDE;
 
-// The numbers of `from` stand at the front of `to`.
-pub fn copy(from: &[u64], to: &mut [u64])
-    requires { length from.now ≤ length to.old }
-    ensures { to.new ≡ from.now ++ drop (length from.now) to.old }
-{
-    let n = from.len();
-    let mut i: usize = 0;
-    while i < n {
-        to[i] = from[i];
-        i += 1;
-    }
+// The gate after an event, and how many rows further back the waiting table stands.
+#[derive(Clone, Copy)]
+pub struct After {
+    pub gate: Gate,
+    pub gone: usize,
+}
+
+// The gate after a run of events, and the row of the window from which on the waiting table stands.
+#[derive(Clone, Copy)]
+pub struct Ended {
+    pub gate: Gate,
+    pub start: usize,
 }
 
 // Where the table stands once there is room for one more send: where it stood, or at the front again.
@@ -50,7 +53,7 @@ pub fn open(waiting: &[u64], size: usize, rows: usize, window: &mut [u64], index
     ensures window { Window size 0 window.new (take size waiting.now) }
     ensures indexed { Indexed (take size waiting.now) index.new rows }
 {
-    copy(&waiting[..size], window);
+    window[..size].copy_from_slice(&waiting[..size]);
     index::build(&waiting[..size], rows, index);
 }
 
@@ -61,5 +64,5 @@ pub fn close(window: &[u64], start: usize, size: usize, waiting: &mut [u64])
     ensures { (ws : List ℕ) → Window size start window.now ws → waiting.new ≡ ws ++ drop size waiting.old }
 {
     let first = start * WAITING_WIDE;
-    copy(&window[first..first + size], waiting);
+    waiting[..size].copy_from_slice(&window[first..first + size]);
 }

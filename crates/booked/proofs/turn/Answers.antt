@@ -9,16 +9,16 @@ use Rattle.booked.proofs.Turning.{refused-turn, refused_beside, entering, entere
 use borrow.Author.Rules.{rules}
 use Rattle.booked.proofs.turn.Goals as goal
 
-pub enter-entered-requires : goal.enter-entered-requires
-enter-entered-requires c = let p = c.requires in record {
+pub enter-requires : goal.enter-requires
+enter-requires c = let p = c.requires in record {
   known = p.known;
   beside = p.beside.0;
 }
 
 pub accepted-made-requires : goal.accepted-made-requires
 accepted-made-requires c =
-    let x = c.enter-entered in
-    let e = c.in-At.is in
+    let x = c.enter in
+    let e = c.in-Ok.is in
     let a = entered_at c.args.event c.args.gate c.args.guests.now c.args.waiting.now c.args.flight.now x.result _ _ _ x.ensures.enters _ e in record {
       known = a.known;
       entering = entering c.args.number c.args.gate c.args.guests.now c.args.waiting.now c.args.flight.now c.args.book.now c.args.figures.now c.requires.known c.requires.kept c.requires.number_bound c.args.event _ _ _ _ a;
@@ -28,10 +28,10 @@ accepted-made-requires c =
       );
     }
 
-pub returns-in-Refused : goal.returns-in-Refused
-returns-in-Refused c =
-    let x = c.enter-entered in
-    let e = c.in-Refused.is in
+pub returns-in-Err : goal.returns-in-Err
+returns-in-Err c =
+    let x = c.enter in
+    let e = c.in-Err.is in
     let r = refused-turn c.args.number c.args.gate c.args.guests.now c.args.waiting.now c.args.flight.now c.args.book.now c.args.figures.now c.requires.known c.requires.kept c.args.event _ x.result _ _ _ x.ensures.enters e in record {
       gone_bound = (omega arith, λ l. absurd (omega (arith, l)));
       figures_after = r.0;
@@ -40,24 +40,24 @@ returns-in-Refused c =
       beside_2 = refused_beside c.args.gate x.result _ e x.ensures.enters_beside;
     }
 
-pub shape_of-guests-in-At : goal.shape_of-guests-in-At
-shape_of-guests-in-At c = c.accepted-made.auto.guests ∙ c.enter-entered.auto.guests
+pub shape_of-guests-in-Ok : goal.shape_of-guests-in-Ok
+shape_of-guests-in-Ok c = c.accepted-made.auto.guests ∙ c.enter.auto.guests
 
-pub shape_of-waiting-in-At : goal.shape_of-waiting-in-At
-shape_of-waiting-in-At c = c.accepted-made.auto.waiting ∙ c.enter-entered.auto.waiting
+pub shape_of-waiting-in-Ok : goal.shape_of-waiting-in-Ok
+shape_of-waiting-in-Ok c = c.accepted-made.auto.waiting ∙ c.enter.auto.waiting
 
-pub shape_of-flight-in-At : goal.shape_of-flight-in-At
-shape_of-flight-in-At c = c.accepted-made.auto.flight ∙ c.enter-entered.auto.flight
+pub shape_of-flight-in-Ok : goal.shape_of-flight-in-Ok
+shape_of-flight-in-Ok c = c.accepted-made.auto.flight ∙ c.enter.auto.flight
 
-pub shape_of-index-in-At : goal.shape_of-index-in-At
-shape_of-index-in-At c = c.accepted-made.auto.index ∙ c.enter-entered.auto.index
+pub shape_of-index-in-Ok : goal.shape_of-index-in-Ok
+shape_of-index-in-Ok c = c.accepted-made.auto.index ∙ c.enter.auto.index
 
-pub returns-in-At : goal.returns-in-At
-returns-in-At c =
-    let x = c.enter-entered in
+pub returns-in-Ok : goal.returns-in-Ok
+returns-in-Ok c =
+    let x = c.enter in
     let m = c.accepted-made in
-    let g = c.gone_on-gone in
-    let a = entered_at c.args.event c.args.gate c.args.guests.now c.args.waiting.now c.args.flight.now x.result _ _ _ x.ensures.enters _ c.in-At.is in
+    let g = c.gone_on in
+    let a = entered_at c.args.event c.args.gate c.args.guests.now c.args.waiting.now c.args.flight.now x.result _ _ _ x.ensures.enters _ c.in-Ok.is in
     let low : (j : ℕ) → figure_at c.args.figures.now j LOWER < 2 ^ 64 = λ j. search rules in
     let r = entered_turn c.args.number c.args.gate c.args.guests.now c.args.waiting.now c.args.flight.now c.args.book.now c.args.figures.now c.requires.known c.requires.kept c.requires.number_bound low c.args.event _ _ _ _ a m.result _ _ _ _ _ m.ensures.leaves m.ensures.book_after m.ensures.figures_after in
     let q = sym (stands-kept x.new.index m.new.index m.new.waiting m.result.answer m.auto.index) ∙ g.ensures.by_index m.new.waiting in record {

@@ -19,36 +19,18 @@ feed-fed-requires c =
       bytes_bound = omega (arith, length-take-le a.have a.buffer.now p.have_in_bounds.0, p.have_in_bounds.1);
     }
 
-pub overflow_mul-events : goal.overflow_mul-events
-overflow_mul-events c =
-    let a = c.args in
-    omega (arith, c.feed-fed.ensures.taken, length-take-le a.have a.buffer.now c.requires.have_in_bounds.0, c.requires.have_in_bounds)
-
-pub shift-rest-requires : goal.shift-rest-requires
-shift-rest-requires c =
-    let a = c.args in
-    let p = c.requires in
-    omega (arith, c.feed-fed.ensures.taken, length-take-le a.have a.buffer.now p.have_in_bounds.0, p.have_in_bounds)
-
-pub overflow_add-result : goal.overflow_add-result
-overflow_add-result c =
-    let a = c.args in
-    let p = c.requires in
-    omega (arith, c.feed-fed.ensures.taken, length-take-le a.have a.buffer.now p.have_in_bounds.0, p.have_in_bounds)
-
 pub returns : goal.returns
 returns c =
     let a = c.args in
     let p = c.requires in
     let f = c.feed-fed in
-    let s = c.shift-rest in
+    let s = c.copy_within in
     let bs = take a.have a.buffer.now in
     let l = length-take-le a.have a.buffer.now p.have_in_bounds.0 in
     let n : f.result.events ≡ whole bs = omega (arith, f.ensures.taken, l, p.have_in_bounds.1) in
-    let front : take s.result s.new.buffer ≡ drop (whole bs * 14) bs = ap (λ (k : ℕ). take k s.new.buffer) s.ensures.0
-    ∙ ap (take (a.have - f.result.events * 14)) s.ensures.1
+    let front : take (a.have - f.result.events * 14) s.new.self ≡ drop (whole bs * 14) bs = ap (take (a.have - f.result.events * 14)) s.ensures.after
     ∙ shift_front a.buffer.now (f.result.events * 14) a.have (omega (arith, n, l)) p.have_in_bounds.0
     ∙ ap (λ (k : ℕ). drop (k * 14) bs) n in record {
-      turned = turned a.gate a.guests.now a.waiting.now a.flight.now p.known a.version bs a.number a.out.now _ _ _ _ _ f.result.events f.result.bytes f.ensures n _ front _ (ap (λ (k : ℕ). a.number + k) n);
-      rest_bound = (omega (arith, s.ensures.0, n, l), omega (arith, s.ensures.0, n, l, s.auto.buffer, p.have_in_bounds.0));
+      turned = turned a.tables.now p.known a.version bs a.number a.out.now _ _ f.result.events f.result.bytes f.ensures n _ front _ (ap (λ (k : ℕ). a.number + k) n);
+      rest_bound = (omega (arith, n, l), omega (arith, n, l, s.ensures.len, p.have_in_bounds.0));
     }

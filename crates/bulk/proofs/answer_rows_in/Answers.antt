@@ -13,7 +13,6 @@ use Rattle.bulk.proofs.answer_rows_in.Goals as goal
 pub loop-k-init : goal.loop-k-init
 loop-k-init c =
     let p = c.requires.by_index in (
-      omega arith,
       refl,
       refl,
       refl,
@@ -27,41 +26,37 @@ loop-k-init c =
 pub settle-start-requires : goal.settle-start-requires
 settle-start-requires c =
     let p = c.requires.by_index in
-    let st = c.loop-k.invariant.6 p.0 p.1 in (st.table, st.stands)
+    let st = c.loop-k.invariant.5 p.0 p.1 in (st.table, st.stands)
 
 pub answer_row_in-after-requires : goal.answer_row_in-after-requires
 answer_row_in-after-requires c =
     let l = c.loop-k in
     let p = c.requires.by_index in
-    let st = l.invariant.6 p.0 p.1 in record {
-      k_bound = (omega (arith, c.loop-k-test.true), omega (arith, l.invariant.4, c.requires.answer_wide_in_bounds));
+    let st = l.invariant.5 p.0 p.1 in record {
+      k_bound = (omega (arith, c.loop-k-test.true), omega (arith, l.invariant.3, c.requires.answer_wide_in_bounds));
       by_index = (st.table, c.settle-start.ensures.by_index st.table st.stands, st.holds.judged, st.beside, st.snug);
     }
 
 pub overflow_add-start : goal.overflow_add-start
 overflow_add-start c = omega (arith, c.settle-start.ensures.upper_bound, c.answer_row_in-after.ensures.gone_bound.0)
 
-pub loop-k-smaller : goal.loop-k-smaller
-loop-k-smaller c = omega (arith, c.loop-k-test.true)
-
 pub loop-k-preserved : goal.loop-k-preserved
 loop-k-preserved c =
     let l = c.loop-k in
     let t = c.settle-start in
     let o = c.answer_row_in-after in
-    let whole : length o.new.window ≡ length c.args.window.now = o.auto.window ∙ t.auto.window ∙ l.invariant.2 in (
-      omega (arith, c.loop-k-test.true),
-      o.auto.guests ∙ l.invariant.1,
+    let whole : length o.new.window ≡ length c.args.window.now = o.auto.window ∙ t.auto.window ∙ l.invariant.1 in (
+      o.auto.guests ∙ l.invariant.0,
       whole,
-      o.auto.flight ∙ l.invariant.3,
-      o.auto.answers ∙ l.invariant.4,
-      o.auto.index ∙ l.invariant.5,
+      o.auto.flight ∙ l.invariant.2,
+      o.auto.answers ∙ l.invariant.3,
+      o.auto.index ∙ l.invariant.4,
       λ ws w.
-          let x = l.invariant.6 ws w in
+          let x = l.invariant.5 ws w in
           stage_next c.args.events.now c.args.found c.args.first c.args.guests.now ws c.args.flight.now c.args.answers.now c.args.size
           l.start l.window l.k l.gate l.guests l.flight l.answers l.index x
           t.result o.result.gone _ _ _ _ _ _ (o.ensures.by_index_2 x.table (t.ensures.by_index x.table x.stands)) o.ensures.gone_bound.0
-          (λ some. omega (arith, t.ensures.upper_bound, whole, c.requires.size_in_bounds (omega (arith, o.ensures.gone_bound.1 some, l.invariant.5)))) o.auto.index,
+          (λ some. omega (arith, t.ensures.upper_bound, whole, c.requires.size_in_bounds (omega (arith, o.ensures.gone_bound.1 some, l.invariant.4)))) o.auto.index,
     )
 
 pub returns : goal.returns
@@ -69,5 +64,5 @@ returns c =
     let a = c.args in
     let l = c.loop-k in
     λ ws w.
-    let st = l.invariant.6 ws w in
-    (st.table, st.stands, going_all a.events.now a.found a.first a.guests.now ws a.flight.now a.answers.now l.k (omega (arith, c.loop-k-test.false, l.invariant.0)) c.requires.answer_wide_in_bounds l.gate l.guests st.table l.flight l.answers st.holds)
+    let st = l.invariant.5 ws w in
+    (st.table, st.stands, going_all a.events.now a.found a.first a.guests.now ws a.flight.now a.answers.now l.k (omega (arith, c.loop-k-test.false)) c.requires.answer_wide_in_bounds l.gate l.guests st.table l.flight l.answers st.holds)

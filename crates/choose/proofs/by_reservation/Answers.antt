@@ -1,21 +1,18 @@
 -- `by_reservation` meets its contract: what the walk found due goes, and else the weight phase chooses. Assumes nothing.
-use Rattle.sends.proofs.Phases.{line_asks, latest_asks}
+use mathlib.Core.Path.{refl}
 use Rattle.sends.proofs.Returns.{due-here, one-due, none-due}
+use Rattle.sends.proofs.Phases.{queued}
 use Rattle.choose.proofs.by_reservation.Goals as goal
 
-pub first_in_line-firsts-requires : goal.first_in_line-firsts-requires
-first_in_line-firsts-requires c =
-    let l = line_asks c.args.gate c.args.guests.now c.args.waiting.now c.args.flight.now c.requires.known in record {
-      count_le_most_capacity = l.0;
-      owned = l.1.0;
-      time_le_ceiling = (l.1.1, latest_asks c.args.gate c.args.guests.now c.args.waiting.now c.args.flight.now c.requires.known _ c.latest_limit-latest.ensures);
-      beside = c.requires.beside.0;
-    }
+pub invariant_of-queue : goal.invariant_of-queue
+invariant_of-queue c =
+    let a = c.args in
+    record { sound = queued a.gate a.guests.now a.waiting.now a.flight.now c.requires.known }
 
 pub send_by_reservation-requires : goal.send_by_reservation-requires
 send_by_reservation-requires c =
     let w = c.first_in_line-firsts in
-    let h = due-here c.args.gate c.args.guests.now c.args.waiting.now c.args.flight.now c.requires.known c.requires.flight_lt_depth _ c.latest_limit-latest.ensures w.result.due c.in-At.place w.ensures.picks c.in-At.is in record {
+    let h = due-here c.args.gate c.args.guests.now c.args.waiting.now c.args.flight.now c.requires.known c.requires.flight_lt_depth _ refl w.result.due c.in-Some.place w.ensures.picks c.in-Some.is in record {
       known = c.requires.known;
       flight_lt_depth = (c.requires.flight_lt_depth, h.0);
       first_of = h.1;
@@ -31,18 +28,18 @@ by_weight-requires c =
       beside = c.requires.beside;
     }
 
-pub returns-in-At : goal.returns-in-At
-returns-in-At c =
+pub returns-in-Some : goal.returns-in-Some
+returns-in-Some c =
     let w = c.first_in_line-firsts in
     let e = c.send_by_reservation.ensures in record {
-      leaves = one-due c.args.gate c.args.guests.now c.args.waiting.now c.args.flight.now c.requires.known c.requires.flight_lt_depth _ c.latest_limit-latest.ensures w.result.due c.in-At.place w.ensures.picks c.in-At.is e.leaves;
+      leaves = one-due c.args.gate c.args.guests.now c.args.waiting.now c.args.flight.now c.requires.known c.requires.flight_lt_depth _ refl w.result.due c.in-Some.place w.ensures.picks c.in-Some.is e.leaves;
       beside_2 = e.beside_2;
     }
 
-pub returns-in-Nothing : goal.returns-in-Nothing
-returns-in-Nothing c =
+pub returns-in-None : goal.returns-in-None
+returns-in-None c =
     let w = c.first_in_line-firsts in
     let e = c.by_weight.ensures in record {
-      leaves = none-due c.args.gate c.args.guests.now c.args.waiting.now c.args.flight.now c.requires.known c.requires.flight_lt_depth _ c.latest_limit-latest.ensures w.result.due w.ensures.picks c.in-Nothing.is e.leaves;
+      leaves = none-due c.args.gate c.args.guests.now c.args.waiting.now c.args.flight.now c.requires.known c.requires.flight_lt_depth _ refl w.result.due w.ensures.picks c.in-None.is e.leaves;
       beside_2 = e.beside_2;
     }

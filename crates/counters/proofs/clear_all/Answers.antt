@@ -1,30 +1,19 @@
--- The guests up to the one looked at begin anew. Assumes nothing.
-use native.Mathlib.Omega.{arith}
-use mathlib.Core.Path.{◌≡◌, refl, ◌∙◌}
-use Rattle.arrays.proofs.Rows.{cleared_none, cleared_next}
+use Rattle.std.proofs.Common.{◌≡◌, ap, ◌∙◌, ℕ, length, ◌++◌, ◌+◌, ◌-◌, ◌*◌, take, drop, replicate, arith, rules}
+use Rattle.std.proofs.lemmas.List.{length-replicate}
+use Rattle.lists.specs.Sets.{sets_part}
+use Rattle.lists.specs.Parts.{part_length}
+use Rattle.counters.proofs.Clearing.{cleared_is}
 use Rattle.counters.proofs.clear_all.Goals as goal
-
-pub loop-guest-init : goal.loop-guest-init
-loop-guest-init c = (omega arith, refl, cleared_none _ _ _)
-
-pub set_row-requires : goal.set_row-requires
-set_row-requires c = omega (arith, c.loop-guest.invariant.1)
-
-pub loop-guest-preserved : goal.loop-guest-preserved
-loop-guest-preserved c =
-    let a = c.args in
-    let l = c.loop-guest in (
-      omega (arith, c.loop-guest-test.true),
-      c.set_row.auto.counters ∙ l.invariant.1,
-      cleared_next a.guests a.array l.guest a.counters.now l.counters _ l.invariant.2 c.set_row.ensures,
-    )
-
-pub shape_of-counters : goal.shape_of-counters
-shape_of-counters c = c.loop-guest.invariant.1
 
 pub returns : goal.returns
 returns c =
     let a = c.args in
-    let l = c.loop-guest in
-    let all : l.guest ≡ a.guests = omega (arith, c.loop-guest-test.false, l.invariant.0) in
-    rw all at l.invariant.2
+    let from = a.array * a.guests * 2 in
+    let to = from + a.guests * 2 in
+    let cs = a.counters.now in
+    let long = part_length from to cs (omega arith) (omega (arith, c.requires)) in
+    let most : to - from ≡ a.guests * 2 = omega arith in
+    let zeros : length (replicate {A = ℕ} (a.guests * 2) 0) ≡ a.guests * 2 = length-replicate (a.guests * 2) 0 in
+    ap (λ l. take from cs ++ (l ++ drop (to - from) (drop from cs))) (c.fill.ensures.after (search rules) ∙ ap (λ n. replicate n 0) (long ∙ most))
+    ∙ sets_part cs from (to - from) (replicate (a.guests * 2) 0) (omega (arith, zeros)) (omega (arith, zeros))
+    ∙ cleared_is a.guests a.array a.guests cs

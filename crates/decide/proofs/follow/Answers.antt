@@ -1,6 +1,6 @@
 use native.Mathlib.Omega.{arith}
 use Prim.Native.Nat.{ℕ}
-use mathlib.Core.Path.{◌≡◌, ap, ◌∙◌}
+use mathlib.Core.Path.{◌≡◌, ap}
 use lib.Dec.{ltb}
 use lib.ListN.{length, take}
 use lib.Seq.{length-take-le}
@@ -11,21 +11,18 @@ use Rattle.stream.proofs.Outcomes.{next_unwritten}
 use Rattle.decide.proofs.Heading.{title_next, title_standing}
 use Rattle.decide.proofs.follow.Goals as goal
 
-pub begin-begun-requires : goal.begin-begun-requires
-begin-begun-requires c =
+pub begin-rest-requires : goal.begin-rest-requires
+begin-rest-requires c =
     let p = c.requires in record {
-      have_in_bounds = omega (arith, p.buffer_len);
+      have_in_bounds = omega (arith, p.have_in_bounds);
       buffer_value = p.buffer_value;
-      largest = p.largest;
     }
 
 pub title-requires : goal.title-requires
 title-requires c =
     let a = c.args in
-    let p = c.requires in record {
-      out_len = p.buffer_len.2;
-      next = title_next a.log.now (take a.have a.buffer.now) a.version a.depth a.known a.capacity a.rule p.first p.buffer_value;
-    }
+    let p = c.requires in
+    title_next a.log.now (take a.have a.buffer.now) a.opened p.first p.buffer_value
 
 pub returns-then-not-title : goal.returns-then-not-title
 returns-then-not-title c =
@@ -33,21 +30,21 @@ returns-then-not-title c =
     let p = c.requires in
     let t = c.title in
     next_unwritten printed MOST a.log.now t.new.log title_line t.result t.ensures
-    (title_next a.log.now (take a.have a.buffer.now) a.version a.depth a.known a.capacity a.rule p.first p.buffer_value)
+    (title_next a.log.now (take a.have a.buffer.now) a.opened p.first p.buffer_value)
     c.if-not-title.true
 
 pub run-requires : goal.run-requires
 run-requires c =
     let a = c.args in
     let p = c.requires in
-    let b = c.begin-begun in
+    let b = c.begin-rest in
     let t = c.title in
     let bs = take a.have a.buffer.now in
-    let l : length bs ≡ a.have = length-take-le a.have a.buffer.now (omega (arith, p.buffer_len)) in record {
-      buffer_len = (b.auto.buffer ∙ p.buffer_len.0, omega (arith, b.ensures.rest_le_have, p.buffer_len.1), t.auto.out ∙ p.buffer_len.2);
+    let l : length bs ≡ a.have = length-take-le a.have a.buffer.now (omega (arith, p.have_in_bounds)) in record {
+      first_in_bounds = omega (arith, b.ensures.rest_le_have, p.have_in_bounds);
       known = b.ensures.begins.known;
-      standing = title_standing a.log.now bs a.version a.depth a.known a.capacity a.rule p.first p.buffer_value t.new.log t.result _ _ t.ensures
+      standing = title_standing a.log.now bs a.opened p.first p.buffer_value t.new.log t.result _ _ t.ensures
           c.if-not-title.false
           (ap (λ (k : ℕ). ltb k 4096) l)
-          (λ i. record { version = a.version; bytes = b.ensures.begins.bytes i; table = b.ensures.begins.table i; number = 0 });
+          (λ i. record { version = a.opened.version; bytes = b.ensures.begins.bytes i; table = b.ensures.begins.table i; number = 0 });
     }

@@ -1,29 +1,20 @@
-use native.Mathlib.Omega.{arith}
 use mathlib.Core.Path.{sym, ◌∙◌}
 use lib.ListN.{take}
-use lib.Seq.{length-take-le}
 use Rattle.trace.proofs.Shown.{header_shown_once}
 use Rattle.decide.proofs.Heading.{refused_last}
 use Rattle.decide.proofs.judge.Goals as goal
 
-pub slice_bounds-read_header-end-2 : goal.slice_bounds-read_header-end-2
-slice_bounds-read_header-end-2 c = let a = c.args in sym (length-take-le a.have a.buffer.now (omega (arith, c.requires.buffer_len)))
-
 pub refuse-requires : goal.refuse-requires
 refuse-requires c =
     let a = c.args in
-    let p = c.requires in
-    let h = c.read_header-header in record {
-      out_len = p.buffer_len.2;
-      last = refused_last a.log.now (take a.have a.buffer.now) _ p.first (sym (header_shown_once h.result _ h.ensures) ∙ c.in-Refused.is);
-    }
+    let h = c.read_header in
+    refused_last a.log.now (take a.have a.buffer.now) _ c.requires.first (sym (header_shown_once h.result _ h.ensures) ∙ c.in-Err.is)
 
 pub follow-requires : goal.follow-requires
 follow-requires c =
     let p = c.requires in
-    let h = c.read_header-header in record {
-      buffer_len = p.buffer_len;
-      buffer_value = sym (header_shown_once h.result _ h.ensures) ∙ c.in-Opened.is;
-      largest = p.largest;
+    let h = c.read_header in record {
+      have_in_bounds = p.have_in_bounds;
+      buffer_value = sym (header_shown_once h.result _ h.ensures) ∙ c.in-Ok.is;
       first = p.first;
     }

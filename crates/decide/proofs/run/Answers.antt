@@ -1,4 +1,4 @@
-use mathlib.Core.Path.{◌∙◌}
+use native.Mathlib.Omega.{arith}
 use Rattle.trace.specs.Printed.{printed}
 use Rattle.stream.specs.Outcome.{MOST}
 use Rattle.stream.proofs.Firsts.{filled-first, unfilled}
@@ -6,16 +6,13 @@ use Rattle.decide.proofs.run.Goals as goal
 
 pub judge-requires : goal.judge-requires
 judge-requires c =
-    let a = c.args in
-    let p = c.requires in
-    let f = c.fill-filled in
-    let x = filled-first a.log.now f.new.log f.new.buffer f.result f.ensures p.holds _ c.in-Upto.is (f.auto.buffer ∙ p.buffer_len.0) in record {
-      buffer_len = (f.auto.buffer ∙ p.buffer_len.0, x.0, p.buffer_len.1);
-      largest = p.largest;
+    let f = c.fill in
+    let x = filled-first c.args.log.now f.new.log f.new.buffer f.result f.ensures c.requires _ c.in-Ok.is (omega arith) in record {
+      have_in_bounds = x.0;
       first = x.1;
     }
 
-pub returns-in-Failed : goal.returns-in-Failed
-returns-in-Failed c =
-    let f = c.fill-filled in
-    unfilled c.args.log.now f.new.log f.new.buffer f.result f.ensures c.requires.holds printed MOST c.in-Failed.is
+pub returns-in-Err : goal.returns-in-Err
+returns-in-Err c =
+    let f = c.fill in
+    unfilled c.args.log.now f.new.log f.new.buffer f.result f.ensures c.requires printed MOST _ c.in-Err.is

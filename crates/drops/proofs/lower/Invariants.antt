@@ -1,12 +1,7 @@
-use Prim.Native.Nat.{◌≤◌, ◌-◌}
-use mathlib.Core.Path.{◌≡◌}
-use lib.ListN.{length}
+-- The tags of the rows before `i` have dropped, and `after` follows the last of the guest's.
+use Rattle.std.proofs.Common.{◌≡◌}
 use Rattle.moves.specs.Moves.{tags_dropped, last_past}
 use Rattle.drops.proofs.lower.Given as goal
 
 abbrev pub invariant-loop-i : goal.invariant-loop-i
-invariant-loop-i l =
-    (l.i ≤ l.count) × (length l.waiting ≡ length l.initial.waiting) × (l.waiting ≡ tags_dropped l.guest l.d l.initial.waiting l.i) × (l.after ≡ last_past l.guest l.d l.spacing l.next l.initial.waiting l.i)
-
-abbrev pub decreases-loop-i : goal.decreases-loop-i
-decreases-loop-i l = l.count - l.i
+invariant-loop-i l = (l.waiting ≡ tags_dropped l.guest l.fall.by l.initial.waiting l.i) × (l.after ≡ last_past l.guest l.fall.by l.fall.spacing l.fall.next l.initial.waiting l.i)

@@ -6,6 +6,6 @@ pub returns-then-version-eq2 : goal.returns-then-version-eq2
 unfolding body
 returns-then-version-eq2 c = simp (eq-eqb _ _ c.if-version-eq2.true)
 
-pub returns : goal.returns
+pub returns-else-version-eq2 : goal.returns-else-version-eq2
 unfolding body
-returns c = simp (ne_eqb _ _ c.if-version-eq2.false)
+returns-else-version-eq2 c = simp (ne_eqb _ _ c.if-version-eq2.false)

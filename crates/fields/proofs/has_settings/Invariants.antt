@@ -1,4 +1,3 @@
-use Prim.Native.Nat.{◌≤◌, ◌-◌}
 use mathlib.Core.Path.{◌≡◌}
 use mathlib.Core.Bool.{true}
 use Rattle.lists.specs.Words.{all}
@@ -8,7 +7,4 @@ use Rattle.trace.specs.Header.{settings_at}
 use Rattle.fields.proofs.has_settings.Given as goal
 
 abbrev pub invariant-loop-k : goal.invariant-loop-k
-invariant-loop-k l = (l.k ≤ l.guests) × (all settled (tab l.k (settings_at l.version l.bytes)) ≡ true)
-
-abbrev pub decreases-loop-k : goal.decreases-loop-k
-decreases-loop-k l = l.guests - l.k
+invariant-loop-k l = all settled (tab l.k (settings_at l.version l.bytes)) ≡ true

@@ -1,11 +1,12 @@
-use native.Mathlib.Omega.{arith}
-use mathlib.Core.Path.{sym}
-use lib.Seq.{length-take-le}
+use mathlib.Core.Path.{sym, ◌∙◌}
+use lib.ListN.{take}
+use lib.Pointwise.{bytes_decides}
+use Rattle.trace.specs.Header.{mark}
 use Rattle.trace.proofs.HeaderLaws.{is_same}
 use Rattle.fields.proofs.is_marked.Goals as goal
 
-pub slice_bounds-same-end : goal.slice_bounds-same-end
-slice_bounds-same-end c = sym (length-take-le _ c.args.bytes.now (omega arith))
-
 pub returns : goal.returns
-returns c = is_same _ _ _ c.same.ensures.0 c.same.ensures.1
+returns c =
+    let e = c.starts_with.ensures.value in
+    let d = bytes_decides mark (take 3 c.args.bytes.now) in
+    is_same _ _ _ (λ t. sym (d.0 (sym e ∙ t))) (λ p. e ∙ d.1 (sym p))

@@ -9,8 +9,8 @@ bounds-bytes-9 c = omega (arith, c.requires, body-two c.args.version 0 c.if-vers
 
 pub returns-then-version-eq2 : goal.returns-then-version-eq2
 unfolding rule_in
-returns-then-version-eq2 c = rw (eq-eqb _ _ c.if-version-eq2.true) c.wide.ensures
+returns-then-version-eq2 c = rw (eq-eqb _ _ c.if-version-eq2.true) c.from.ensures
 
-pub returns : goal.returns
+pub returns-else-version-eq2 : goal.returns-else-version-eq2
 unfolding rule_in
-returns c = rw (ne_eqb _ _ c.if-version-eq2.false)
+returns-else-version-eq2 c = rw (ne_eqb _ _ c.if-version-eq2.false)

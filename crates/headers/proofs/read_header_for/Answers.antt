@@ -92,4 +92,4 @@ returns c =
     let whole : body (version_of bs) (guests_of bs) ≤ length bs = omega (arith, rw (v, g) at c.body-2.ensures, c.if-bytes-body-2.false) in
     let settings = sym (rw (v, g) at c.has_settings.ensures) ∙ not-false _ (ap not c.if-not-has_settings.false) in
     let good : judged (header_tests_for c.args.from c.args.to bs) ≡ accept = simp (long, marked, taken, le-ltb _ _ front, counts, le-ltb _ _ whole, settings) in
-    rw (good, rw v at c.rule_in-rule.ensures, v, c.depth_in-depth.ensures, g, c.capacity_in-capacity.ensures)
+    rw (good, rw v at c.rule_in.ensures, v, c.depth_in.ensures, g, c.capacity_in.ensures)

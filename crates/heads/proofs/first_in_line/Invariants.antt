@@ -1,5 +1,4 @@
 -- `first_in_line` meets its contract. After some guests the loop holds for each phase the row of theirs that goes first. Assumes nothing.
-use Prim.Native.Nat.{◌-◌, ◌≤◌}
 use Rattle.rules.specs.Numbers.{ceiling}
 use Rattle.rules.specs.Tables.{Request}
 use Rattle.walks.specs.WalksRows.{due_in, open_in}
@@ -8,7 +7,5 @@ use Rattle.heads.proofs.first_in_line.Given as goal
 
 abbrev pub invariant-loop-g : goal.invariant-loop-g
 invariant-loop-g l =
-    (l.g ≤ l.known) × Leading (due_in l.guests l.known l.time l.latest) Request.rtag l.waiting l.count l.time l.g l.due × Leading (open_in l.time) Request.stag l.waiting l.count ceiling l.g l.spare
-
-abbrev pub decreases-loop-g : goal.decreases-loop-g
-decreases-loop-g l = l.known - l.g
+    let q = l.queue in
+    Leading (due_in q.guests.now q.known q.time l.latest) Request.rtag q.waiting.now q.count q.time l.g l.due × Leading (open_in q.time) Request.stag q.waiting.now q.count ceiling l.g l.spare

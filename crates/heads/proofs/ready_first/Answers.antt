@@ -17,34 +17,19 @@ pub overflow_cast-number : goal.overflow_cast-number
 overflow_cast-number c = omega (arith, c.type_inv.index c.args.guest)
 
 pub overflow_mul-at : goal.overflow_mul-at
-overflow_mul-at c = omega (arith, (row_here (c.requires.by_index.3.first c.args.guest c.requires.guest_lt_most_guests.0) (omega (arith, c.if-number-eq0.false))).0)
+overflow_mul-at c = omega (arith, (row_here (c.requires.indexed.first c.args.guest (omega arith)) (omega (arith, c.if-number-eq0.false))).0)
 
-pub overflow_add-at : goal.overflow_add-at
-overflow_add-at c = omega (arith, (row_here (c.requires.by_index.3.first c.args.guest c.requires.guest_lt_most_guests.0) (omega (arith, c.if-number-eq0.false))).0)
+pub bounds-queue-at : goal.bounds-queue-at
+bounds-queue-at c = omega (arith, (row_here (c.requires.indexed.first c.args.guest (omega arith)) (omega (arith, c.if-number-eq0.false))).0)
 
-pub offset_bounds-waiting-at : goal.offset_bounds-waiting-at
-offset_bounds-waiting-at c = omega (arith, (row_here (c.requires.by_index.3.first c.args.guest c.requires.guest_lt_most_guests.0) (omega (arith, c.if-number-eq0.false))).0)
-
-pub bounds-waiting-at : goal.bounds-waiting-at
-bounds-waiting-at c = omega (arith, (row_here (c.requires.by_index.3.first c.args.guest c.requires.guest_lt_most_guests.0) (omega (arith, c.if-number-eq0.false))).0)
-
-pub overflow_add-at-2 : goal.overflow_add-at-2
-overflow_add-at-2 c = omega (arith, (row_here (c.requires.by_index.3.first c.args.guest c.requires.guest_lt_most_guests.0) (omega (arith, c.if-number-eq0.false))).0)
-
-pub offset_bounds-waiting-at-2 : goal.offset_bounds-waiting-at-2
-offset_bounds-waiting-at-2 c = omega (arith, (row_here (c.requires.by_index.3.first c.args.guest c.requires.guest_lt_most_guests.0) (omega (arith, c.if-number-eq0.false))).0)
-
-pub bounds-waiting-at-2 : goal.bounds-waiting-at-2
-bounds-waiting-at-2 c = omega (arith, (row_here (c.requires.by_index.3.first c.args.guest c.requires.guest_lt_most_guests.0) (omega (arith, c.if-number-eq0.false))).0)
-
-pub returns-then-time-waiting : goal.returns-then-time-waiting
-returns-then-time-waiting c = record {
+pub returns-then-queue-at-2 : goal.returns-then-queue-at-2
+returns-then-queue-at-2 c = record {
   value = search rules;
-  barred = λ e j f. barred c.args.guests.now c.args.waiting.now f c.if-waiting-at.false (λ h. c.if-time-waiting.true);
+  barred = λ e j f. barred c.args.queue.guests.now c.args.queue.waiting.now f c.if-queue-at.false (λ h. c.if-queue-at-2.true);
 }
 
-pub returns-then-guests-guest-eq0 : goal.returns-then-guests-guest-eq0
-returns-then-guests-guest-eq0 c = record {
+pub returns-then-queue-guest-eq0 : goal.returns-then-queue-guest-eq0
+returns-then-queue-guest-eq0 c = record {
   value = search rules;
-  barred = λ e j f. barred c.args.guests.now c.args.waiting.now f c.if-waiting-at.false (λ h. absurd (omega (arith, h, c.if-guests-guest-eq0.true)));
+  barred = λ e j f. barred c.args.queue.guests.now c.args.queue.waiting.now f c.if-queue-at.false (λ h. absurd (omega (arith, h, c.if-queue-guest-eq0.true)));
 }

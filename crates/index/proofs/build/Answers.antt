@@ -1,32 +1,22 @@
 -- Before row `k` the index is that of the first `k` rows.
-use mathlib.Core.Path.{◌≡◌, refl, ◌∙◌}
-use native.Mathlib.Omega.{arith}
+use Rattle.std.proofs.Common.{◌≡◌, ℕ, List, refl, sym, ap, ◌∙◌, arith, length, length-append, length-drop, length-take-le, get_or}
+use Rattle.std.proofs.Math.ListN.{get_or-append, get_or-replicate}
+use Rattle.index.specs.Index.{NEXTS}
 use Rattle.index.proofs.Linked.{indexed_none}
 use Rattle.index.proofs.build.Goals as goal
 
+pub slice_bounds-fill-end-2 : goal.slice_bounds-fill-end-2
+slice_bounds-fill-end-2 c = sym (length-take-le _ c.args.index.now (omega arith))
+
 pub loop-k-init : goal.loop-k-init
 loop-k-init c =
-    let r = c.clear in
-    (omega arith, indexed_none c.args.waiting.now r.new.index (r.auto.index ∙ c.requires.count_le_most_capacity.2) (λ j h. r.ensures.done j (omega arith) h))
-
-pub link-requires : goal.link-requires
-link-requires c =
-    let s = c.loop-k in record {
-      count_lt_most_capacity = (omega arith, c.requires.by_index s.k (omega arith));
-      by_index = (c.args.waiting.now, s.invariant.1);
-    }
+    let ix = c.args.index.now in
+    let front = c.fill.new.self in
+    let even : length front ≡ NEXTS = c.fill.ensures.len ∙ length-take-le _ ix (omega arith) in
+    indexed_none c.args.waiting.now _ (simp (length-append, length-drop) (omega (arith, even)))
+    (λ j h. get_or-append front _ 0 j (omega (arith, even, h)) ∙ ap (λ (xs : List ℕ). get_or xs j 0) (c.fill.ensures.after (λ y e. e)) ∙ get_or-replicate _ j 0 0 (omega (arith, c.fill.ensures.len, even, h)))
 
 pub loop-k-preserved : goal.loop-k-preserved
 loop-k-preserved c =
     let ws = c.args.waiting.now in
-    let s = c.loop-k in
-    (omega arith, c.link.ensures ws ws s.invariant.1 (record { same = λ k h. refl; own = refl }))
-
-pub shape_of-index : goal.shape_of-index
-shape_of-index c = omega (arith, c.loop-k.invariant.1.long)
-
-pub returns : goal.returns
-returns c =
-    let s = c.loop-k in
-    let q : s.k ≡ c.args.count = omega arith in
-    rw q at s.invariant.1
+    c.link.ensures ws ws c.loop-k.invariant (record { same = λ k h. refl; own = refl })

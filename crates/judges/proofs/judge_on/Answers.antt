@@ -5,15 +5,8 @@ use Rattle.judges.proofs.judge_on.Goals as goal
 
 pub judge_refused-requires : goal.judge_refused-requires
 judge_refused-requires c =
-    let r = c.read_header-header in record {
-      in_bounds = c.requires.in_bounds;
-      trace_value = sym (header_shown_once r.result _ r.ensures) ∙ c.in-Refused.is;
-    }
+    let r = c.read_header in sym (header_shown_once r.result _ r.ensures) ∙ c.in-Err.is
 
 pub judge_opened-requires : goal.judge_opened-requires
 judge_opened-requires c =
-    let r = c.read_header-header in record {
-      in_bounds = c.requires.in_bounds;
-      trace_value = sym (header_shown_once r.result _ r.ensures) ∙ c.in-Opened.is;
-      largest = c.requires.largest;
-    }
+    let r = c.read_header in sym (header_shown_once r.result _ r.ensures) ∙ c.in-Ok.is

@@ -5,4 +5,4 @@ use Rattle.table.specs.Does.{refusing}
 use Rattle.opens.proofs.not_opened.Goals as goal
 
 pub returns : goal.returns
-returns c = c.refused.ensures ∙ ap (λ (g : Gate). refusing c.args.why g) c.fresh_gate.ensures
+returns c = c.refused.ensures ∙ ap (λ (g : Gate). refusing c.args.why g) c.gate_at.ensures

@@ -1,4 +1,4 @@
-use Rattle.std.proofs.Common.{◌-◌, ◌≡◌, ◌≤◌}
+use Rattle.std.proofs.Common.{◌≡◌}
 use Rattle.table.specs.View.{guest_form}
 use Rattle.table.specs.ViewLaws.{guest_exact}
 use Rattle.packs.specs.Records.{blank}
@@ -7,7 +7,4 @@ use Rattle.packs.proofs.pack.Given as goal
 
 -- i records are back
 abbrev pub invariant-loop-i : goal.invariant-loop-i
-invariant-loop-i l = record { counted : l.i ≤ l.count; guests : l.guests ≡ packed guest_form guest_exact blank l.rows l.initial.guests l.i }
-
-abbrev pub decreases-loop-i : goal.decreases-loop-i
-decreases-loop-i l = l.count - l.i
+invariant-loop-i l = l.guest-items ≡ packed guest_form guest_exact blank l.rows l.initial.guest-items l.i

@@ -1,4 +1,4 @@
-use Prim.Native.Nat.{◌-◌, ◌*◌, ◌≤◌}
+use Prim.Native.Nat.{◌*◌, ◌≤◌}
 use mathlib.Core.Path.{◌≡◌}
 use lib.ListN.{length}
 use Rattle.lines.specs.Put.{Put}
@@ -7,7 +7,4 @@ use Rattle.pages.specs.Sheet.{figures_lines}
 use Rattle.pages.proofs.put_guests.Given as goal
 
 abbrev pub invariant-loop-k : goal.invariant-loop-k
-invariant-loop-k l = (l.k ≤ l.known) × (l.at ≤ l.k * 231) × (length l.out ≡ length l.initial.out) × Put 0 (figures_lines 0 (figures_of l.figures l.k)) l.initial.out l.at l.out
-
-abbrev pub decreases-loop-k : goal.decreases-loop-k
-decreases-loop-k l = l.known - l.k
+invariant-loop-k l = (l.at ≤ l.k * 231) × (length l.out ≡ length l.initial.out) × Put 0 (figures_lines 0 (figures_of l.figures l.k)) l.initial.out l.at l.out

@@ -1,5 +1,4 @@
 -- The places passed have another name.
-use Prim.Native.Nat.{◌≤◌, ◌-◌}
 use mathlib.Core.Path.{◌≡◌}
 use mathlib.Core.Bool.{true}
 use Rattle.lists.specs.Words.{below}
@@ -7,7 +6,4 @@ use Rattle.pairs.specs.Names.{other_at}
 use Rattle.pairs.proofs.is_new.Given as goal
 
 abbrev pub invariant-loop-j : goal.invariant-loop-j
-invariant-loop-j l = (l.j ≤ l.k) × (below l.j (other_at l.waiting l.count l.flight l.k) ≡ true)
-
-abbrev pub decreases-loop-j : goal.decreases-loop-j
-decreases-loop-j l = l.k - l.j
+invariant-loop-j l = below l.j (other_at l.waiting l.count l.flight l.k) ≡ true

@@ -9,4 +9,4 @@ pub bounds-guests-from-6 : goal.bounds-guests-from-6
 bounds-guests-from-6 c = simp length-set (omega arith)
 
 pub returns : goal.returns
-returns c = simp (c.gap_down-r.ensures.0, c.gap_up-l.ensures.0, c.gap_down-s.ensures.0)
+returns c = simp (c.gap-r.ensures.0, c.gap-l.ensures.0, c.gap-s.ensures.0)

@@ -1,14 +1,9 @@
-use Rattle.port.proofs.Moving.{bytes-brought, none-brought, read_failed}
+use Rattle.port.proofs.Moving.{goes-brought, read_failed}
 use Rattle.port.proofs.get.Goals as goal
 
-pub returns-then-got-eq0-clause-goes : goal.returns-then-got-eq0-clause-goes
-returns-then-got-eq0-clause-goes c = none-brought c.loop-tries.buffer _ _ c.loop-tries.invariant.1
-
-pub returns-in-Ok-clause-goes : goal.returns-in-Ok-clause-goes
-returns-in-Ok-clause-goes c = bytes-brought _ _ _ _ _ c.in-Ok.ensures.bound.0 c.loop-tries.invariant.1 c.wrapping_add_u64.ensures.value
-
-pub returns-then-not-again-clause-goes : goal.returns-then-not-again-clause-goes
-returns-then-not-again-clause-goes c = read_failed c.loop-tries.buffer _ _ c.loop-tries.invariant.1
+pub returns-in-Some-clause-goes : goal.returns-in-Some-clause-goes
+returns-in-Some-clause-goes c =
+    goes-brought c.read-came.new.buf _ _ _ c.read-came.result _ c.read-came.ensures.bound (λ k h. h.0) c.loop.invariant c.in-Some.moved c.in-Some.ensures.moved.0 c.in-Some.ensures.moved.1
 
 pub returns-clause-goes : goal.returns-clause-goes
-returns-clause-goes c = read_failed c.loop-tries.buffer _ _ c.loop-tries.invariant.1
+returns-clause-goes c = read_failed c.loop.buffer _ _ c.loop.invariant

@@ -8,11 +8,9 @@ use Rattle.stream.specs.Outcome.{Last}
 use Rattle.lines.proofs.PutLaws.{put_front}
 use Rattle.prints.proofs.finish.Goals as goal
 
-pub last-requires : goal.last-requires
-last-requires c =
+pub finish-requires : goal.finish-requires
+finish-requires c =
     let a = c.args in
     let p = c.put_cut-n in
-    let room : p.result ≤ length a.out.now = omega (arith, p.ensures.upper_bound, c.requires.out_len.0) in record {
-      n_in_bounds = omega (arith, room, p.auto.out);
-      last = subst (λ (l : List ℕ). Last printed a.log.now l) (sym (put_front p.ensures.put room)) c.requires.last;
-    }
+    let room : p.result ≤ length a.out.now = omega (arith, p.ensures.upper_bound) in
+    subst (λ (l : List ℕ). Last printed a.log.now l) (sym (put_front p.ensures.put room)) c.requires.last

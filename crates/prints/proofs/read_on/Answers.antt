@@ -12,23 +12,20 @@ use Rattle.stream.proofs.Emitting.{within}
 use Rattle.prints.proofs.Pumping.{standing_last, read_none, read_failed}
 use Rattle.prints.proofs.read_on.Goals as goal
 
-pub slice_bounds-finish-end-in-Nothing : goal.slice_bounds-finish-end-in-Nothing
-slice_bounds-finish-end-in-Nothing c = let r = c.refill-came in sym (length-take-le c.args.have r.new.buffer (omega (arith, c.requires.have_bound, r.auto.buffer)))
-
-pub finish-end-requires : goal.finish-end-requires
-finish-end-requires c =
+pub finish-requires : goal.finish-requires
+finish-requires c =
     let a = c.args in
     let p = c.requires in
-    let r = c.refill-came in
+    let r = c.refill in
     let few = length-take-le a.have a.buffer.now (omega (arith, p.have_bound)) in record {
-      out_len = (p.have_bound.3, p.have_bound.1);
+      number_bound = p.have_bound.1;
       last = subst (λ (l : List ℕ). Last printed r.new.log (cut a.number l)) (sym r.ensures.buffer_unchanged)
           (standing_last _ _ (read_none _ _ _ r.result (drop a.have r.new.buffer) r.ensures.goes p.rests.2 c.in-Nothing.is) (omega (arith, few, p.have_bound)));
     }
 
 pub returns-in-Bytes : goal.returns-in-Bytes
 returns-in-Bytes c =
-    let r = c.refill-came in
+    let r = c.refill in
     let w = within c.in-Bytes.is r.ensures.within in record {
       follows = (w.0, omega (arith, w.1, length-drop c.args.have r.new.buffer, r.auto.buffer), subst (λ (x : Moved). Goes (brought x (drop c.args.have r.new.buffer)) c.args.log.now r.new.log) c.in-Bytes.is r.ensures.goes);
       buffer_unchanged = r.ensures.buffer_unchanged;
@@ -36,7 +33,7 @@ returns-in-Bytes c =
 
 pub returns-in-Failed : goal.returns-in-Failed
 returns-in-Failed c =
-    let r = c.refill-came in record {
+    let r = c.refill in record {
       follows = read_failed _ _ _ r.result (drop c.args.have r.new.buffer) r.ensures.goes c.requires.rests.2 c.in-Failed.is;
       buffer_unchanged = r.ensures.buffer_unchanged;
     }

@@ -1,5 +1,4 @@
 use native.Mathlib.Omega.{arith}
-use mathlib.Core.Path.{sym, ◌∙◌}
 use mathlib.Core.Bool.{true}
 use lib.Seq.{length-take-le}
 use Rattle.trace.specs.Printed.{printed}
@@ -11,13 +10,10 @@ use Rattle.pumps.proofs.close.Goals as goal
 pub turn-stand-requires : goal.turn-stand-requires
 turn-stand-requires c =
     let p = c.requires in record {
-      have_in_bounds = (omega (arith, p.buffer_len), omega (arith, p.buffer_len), omega (arith, p.buffer_len));
+      have_in_bounds = (p.have_in_bounds, omega (arith, p.have_in_bounds));
       known = p.known;
       next = standing-next p.standing;
     }
-
-pub slice_bounds-finish-end-then-stand : goal.slice_bounds-finish-end-then-stand
-slice_bounds-finish-end-then-stand c = let t = c.turn-stand in sym (length-take-le t.result.rest t.new.buffer t.ensures.rest_bound.1)
 
 pub finish-requires : goal.finish-requires
 finish-requires c =
@@ -25,9 +21,9 @@ finish-requires c =
     let p = c.requires in
     let t = c.turn-stand in
     let w = t.ensures.went in
-    let l = length-take-le a.have a.buffer.now (omega (arith, p.buffer_len)) in
+    let l = length-take-le a.have a.buffer.now (omega (arith, p.have_in_bounds)) in
     let few = length-take-le t.result.rest t.new.buffer t.ensures.rest_bound.1 in record {
-      out_len = (t.auto.out ∙ p.buffer_len.2, omega (arith, went_number w, l, p.buffer_len));
+      number_bound = omega (arith, went_number w, l, p.have_in_bounds);
       last = standing_last _ _ (turned _ _ _ _ t.result.written w c.if-stand.true true p.standing) (omega (arith, few, t.ensures.rest_bound.0));
     }
 

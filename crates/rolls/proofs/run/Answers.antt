@@ -6,7 +6,7 @@ pub close-requires : goal.close-requires
 close-requires c =
     let p = c.requires in
     let s = p.standing in record {
-      buffer_len = p.buffer_len;
+      have_in_bounds = p.first_in_bounds;
       firm = p.firm;
       standing = record { tape = s.tape; held = s.held; mark = s.mark ∙ c.if-ended.true; wrote = s.wrote; stands = s.stands; fair = s.fair };
     }
@@ -15,7 +15,7 @@ pub pump-requires : goal.pump-requires
 pump-requires c =
     let p = c.requires in
     let s = p.standing in record {
-      buffer_len = p.buffer_len;
+      first_in_bounds = p.first_in_bounds;
       firm = p.firm;
       standing = record { tape = s.tape; held = s.held; mark = s.mark ∙ c.if-ended.false; wrote = s.wrote; stands = s.stands; fair = s.fair };
     }

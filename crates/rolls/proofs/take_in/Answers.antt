@@ -6,22 +6,16 @@ use lib.Seq.{length-take-le}
 use Rattle.buffers.proofs.Shifts.{shift_front}
 use Rattle.trace.specs.Event.{whole}
 use Rattle.pages.specs.Sheet.{onward}
-use Rattle.pages.specs.Standing.{Firm}
+use Rattle.rolls.specs.Ledger.{IsFirm}
 use Rattle.rolls.proofs.take_in.Goals as goal
 
-pub slice_bounds-turn_all-end-2 : goal.slice_bounds-turn_all-end-2
-slice_bounds-turn_all-end-2 c = sym (length-take-le c.args.have c.args.buffer.now c.requires.have_in_bounds.0)
-
-pub turn_all-after-requires : goal.turn_all-after-requires
-turn_all-after-requires c =
+pub turn_all-requires : goal.turn_all-requires
+turn_all-requires c =
     let a = c.args in
     let p = c.requires in record {
-      bytes_bound = omega (arith, length-take-le a.have a.buffer.now p.have_in_bounds.0, p.have_in_bounds.1);
+      bytes_bound = omega (arith, length-take-le a.have a.buffer.now (omega (arith, p.have_in_bounds.0)), p.have_in_bounds.1);
       firm = p.firm;
     }
-
-pub overflow_add-result : goal.overflow_add-result
-overflow_add-result c = omega (arith, c.requires.have_in_bounds.1)
 
 pub returns : goal.returns
 unfolding onward
@@ -29,15 +23,14 @@ returns c =
     let a = c.args in
     let p = c.requires in
     let bs = take a.have a.buffer.now in
-    let l = length-take-le a.have a.buffer.now p.have_in_bounds.0 in
+    let l = length-take-le a.have a.buffer.now (omega (arith, p.have_in_bounds.0)) in
     let w : a.have / 14 ≡ whole bs = omega (arith, l) in
-    let s = c.shift-rest in
-    let t = c.turn_all-after in
-    let front : take s.result s.new.buffer ≡ drop (whole bs * 14) bs = ap (λ (k : ℕ). take k s.new.buffer) s.ensures.0
-    ∙ ap (take (a.have - a.have / 14 * 14)) s.ensures.1
-    ∙ shift_front a.buffer.now (a.have / 14 * 14) a.have (omega arith) p.have_in_bounds.0
+    let s = c.copy_within in
+    let t = c.turn_all in
+    let front : take (a.have - a.have / 14 * 14) s.new.self ≡ drop (whole bs * 14) bs = ap (take (a.have - a.have / 14 * 14)) s.ensures.after
+    ∙ shift_front a.buffer.now (a.have / 14 * 14) a.have (omega arith) (omega (arith, p.have_in_bounds.0))
     ∙ ap (λ (k : ℕ). drop (k * 14) bs) w in record {
-      figures_after = λ i. record { version = a.version; bytes = front i; page = t.ensures.figures_after i };
-      firm_2 = subst (λ (k : ℕ). Firm (a.number + k) t.result t.new.guests t.new.waiting t.new.flight t.new.book t.new.figures) (sym w) t.ensures.firm_2;
-      rest_bound = (omega (arith, s.ensures.0), omega arith);
+      stand_after = λ i. record { version = a.version; bytes = front i; page = t.ensures.page_after i };
+      firm_2 = subst (λ (k : ℕ). IsFirm (a.number + k) t.new.ledger) (sym w) t.ensures.firm_2;
+      rest_bound = (omega arith, omega arith);
     }

@@ -1,9 +1,6 @@
--- `turn_in` meets its contract. The loop's invariant: the events so far have turned the page, and the table stands in the window with its index beside it. The measure
--- is what is left of the events. Assumes nothing.
-use Prim.Native.Nat.{ℕ, ◌-◌, ◌≤◌}
-use mathlib.Core.Path.{◌≡◌}
+-- `turn_in` meets its contract. The loop's invariant: the events so far have turned the page, and the table stands in the window with its index beside it. Assumes nothing.
+use Prim.Native.Nat.{ℕ}
 use mathlib.Core.List.{List}
-use lib.ListN.{length}
 use Rattle.windows.specs.Window.{Window}
 use Rattle.tally.specs.Kept.{page_of}
 use Rattle.rolls.proofs.Staged.{Stage}
@@ -11,8 +8,4 @@ use Rattle.rolls.proofs.turn_in.Given as goal
 
 abbrev pub invariant-loop-i : goal.invariant-loop-i
 invariant-loop-i l =
-    (l.i ≤ l.n) × (length l.guests ≡ length l.initial.guests) × (length l.window ≡ length l.initial.window) × (length l.flight ≡ length l.initial.flight) × (length l.book ≡ length l.initial.book) × (length l.figures ≡ length l.initial.figures) × (length l.index ≡ length l.initial.index)
-    × ((ws : List ℕ) → Window l.size 0 l.initial.window ws → Stage l.version (page_of l.initial.gate l.initial.guests ws l.initial.flight l.initial.book l.initial.figures) l.bytes l.number l.size l.start l.window l.i l.gate l.guests l.flight l.book l.figures l.index)
-
-abbrev pub decreases-loop-i : goal.decreases-loop-i
-decreases-loop-i l = l.n - l.i
+    (ws : List ℕ) → Window l.size 0 l.initial.window ws → Stage l.version (page_of l.initial.gate l.initial.guests ws l.initial.flight l.initial.book l.initial.figures) l.bytes l.number l.size l.start l.window l.i l.gate l.guests l.flight l.book l.figures l.index

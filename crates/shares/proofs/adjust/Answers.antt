@@ -2,13 +2,12 @@
 use mathlib.Core.Path.{sym, ◌∙◌}
 use native.Mathlib.Omega.{arith}
 use Rattle.shares.specs.SharesLaws.{marked_idle, nexts_marked}
-use borrow.Author.Rules.{rules}
 use Rattle.shares.proofs.adjust.Goals as goal
 
 pub move_tags-requires : goal.move_tags-requires
 move_tags-requires c =
     let p = c.requires in record {
-      count_le_most_capacity = (omega arith, omega arith, omega arith);
+      count_le_most_capacity = (omega arith, omega arith);
       by_index = λ k l. omega (arith, p.by_index k l);
       tags_move = p.tags_move.0;
     }

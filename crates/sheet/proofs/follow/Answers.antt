@@ -2,26 +2,25 @@ use native.Mathlib.Omega.{arith}
 use Prim.Native.Nat.{ℕ}
 use mathlib.Core.Path.{◌≡◌, ap, ◌∙◌}
 use lib.Dec.{ltb}
-use lib.ListN.{length, take}
+use lib.ListN.{length, take, replicate}
+use Rattle.tally.specs.Columns.{figures_long}
+use Rattle.rolls.specs.declared.ledger.Ledger.{Ledger}
 use lib.Seq.{length-take-le}
 use Rattle.sheet.proofs.Opening.{begun-stands, begun-firm}
 use Rattle.sheet.proofs.Heading.{opened-standing}
 use Rattle.sheet.proofs.follow.Goals as goal
 
-pub clear-requires : goal.clear-requires
-clear-requires c = omega (arith, c.requires.roomy.figures)
-
 pub run-requires : goal.run-requires
 run-requires c =
     let a = c.args in
     let p = c.requires in
-    let b = c.begin-begun in
-    let z = c.clear in
+    let b = c.begin-rest in
+    let now : Ledger = record { tables = b.new.tables; book = a.ledger.now.book; figures = c.fill.new.self } in
     let bs = take a.have a.buffer.now in
-    let l : length bs ≡ a.have = length-take-le a.have a.buffer.now (omega (arith, p.buffer_len)) in record {
-      buffer_len = (b.auto.buffer ∙ p.buffer_len.0, omega (arith, b.ensures.rest_le_have, p.buffer_len.1));
-      firm = begun-firm a.version a.depth a.known a.capacity a.rule bs _ b.result.gate _ _ _ a.book.now a.figures.now z.new.xs b.ensures.begins p.roomy z.ensures;
-      standing = opened-standing a.log.now bs p.first a.version a.depth a.known a.capacity a.rule p.buffer_value _
-          (ap (λ (k : ℕ). ltb k 4096) l) _
-          (begun-stands a.version a.depth a.known a.capacity a.rule bs _ b.result.gate _ _ _ a.book.now a.figures.now z.new.xs b.ensures.begins p.roomy z.ensures);
+    let l : length bs ≡ a.have = length-take-le a.have a.buffer.now (omega (arith, p.have_in_bounds)) in
+    let long : length a.ledger.now.figures ≡ figures_long = omega arith in
+    let cleared : now.figures ≡ replicate figures_long 0 = c.fill.ensures.after (λ y e. e) ∙ ap (λ (n : ℕ). replicate n 0) long in record {
+      first_in_bounds = omega (arith, b.ensures.rest_le_have, p.have_in_bounds);
+      firm = begun-firm a.opened bs _ now b.ensures.begins (omega arith) cleared;
+      standing = opened-standing a.log.now bs p.first a.opened p.buffer_value _ (ap (λ (k : ℕ). ltb k 4096) l) _ (begun-stands a.opened bs _ now b.ensures.begins (omega arith) cleared);
     }

@@ -1,4 +1,4 @@
-use mathlib.Core.Path.{◌∙◌}
+use native.Mathlib.Omega.{arith}
 use Rattle.stream.specs.Outcome.{MOST}
 use Rattle.stream.proofs.Firsts.{filled-first, unfilled}
 use Rattle.pages.specs.Sheet.{sheet_of}
@@ -6,17 +6,13 @@ use Rattle.sheet.proofs.run.Goals as goal
 
 pub judge-requires : goal.judge-requires
 judge-requires c =
-    let a = c.args in
-    let p = c.requires in
-    let f = c.fill-filled in
-    let x = filled-first a.log.now f.new.log f.new.buffer f.result f.ensures p.holds _ c.in-Upto.is (f.auto.buffer ∙ p.buffer_len) in record {
-      buffer_len = (f.auto.buffer ∙ p.buffer_len, x.0);
-      largest = p.largest;
-      roomy = p.roomy;
+    let f = c.fill in
+    let x = filled-first c.args.log.now f.new.log f.new.buffer f.result f.ensures c.requires _ c.in-Ok.is (omega arith) in record {
+      have_in_bounds = x.0;
       first = x.1;
     }
 
-pub returns-in-Failed : goal.returns-in-Failed
-returns-in-Failed c =
-    let f = c.fill-filled in
-    unfilled c.args.log.now f.new.log f.new.buffer f.result f.ensures c.requires.holds sheet_of MOST c.in-Failed.is
+pub returns-in-Err : goal.returns-in-Err
+returns-in-Err c =
+    let f = c.fill in
+    unfilled c.args.log.now f.new.log f.new.buffer f.result f.ensures c.requires sheet_of MOST _ c.in-Err.is

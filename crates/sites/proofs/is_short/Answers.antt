@@ -13,5 +13,5 @@ overflow_mul-arrays-2 c = omega (arith, few_rows c.args.arrays c.args.guests c.r
 pub returns-then-counters-arrays : goal.returns-then-counters-arrays
 returns-then-counters-arrays c = simp (lt-ltb _ _ c.if-counters-arrays.true)
 
-pub returns : goal.returns
-returns c = simp (le-ltb _ _ c.if-counters-arrays.false)
+pub returns-else-counters-arrays : goal.returns-else-counters-arrays
+returns-else-counters-arrays c = simp (le-ltb _ _ c.if-counters-arrays.false)

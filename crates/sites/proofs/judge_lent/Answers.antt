@@ -4,6 +4,7 @@ use Rattle.arrays.proofs.Found.{few_rows, arrays_bad, few_arrays, counts_bad, fe
 use mathlib.Core.Bool.{not}
 use mathlib.Core.Path.{ap}
 use Rattle.sites.proofs.judge_lent.Goals as goal
+use Rattle.sites.proofs.judge_lent.Goals.{then-not-is_good-via-then-not-is_good, then-not-is_good-via-else-not-is_good+then-not-is_in_step}
 
 pub returns-then-not-is_several : goal.returns-then-not-is_several
 returns-then-not-is_several c =
@@ -43,17 +44,15 @@ is_good-requires c =
 pub returns-then-not-is_good : goal.returns-then-not-is_good
 returns-then-not-is_good c =
     let a = c.args in
-    counters_bad a.site a.gate a.counters.now a.phases.now _ c.is_several.ensures (ap not c.if-not-is_several.false) _ c.is_counted.ensures (ap not c.if-not-is_counted.false) _ c.is_short.ensures c.if-is_short.false _ c.is_good.ensures (ap not c.if-not-is_good.true)
+    elim c.then-not-is_good.branch [
+      | then-not-is_good-via-then-not-is_good w ↦ counters_bad a.site a.gate a.counters.now a.phases.now _ c.is_several.ensures (ap not c.if-not-is_several.false) _ c.is_counted.ensures (ap not c.if-not-is_counted.false) _ c.is_short.ensures c.if-is_short.false _ c.is_good.ensures (ap not w.if-not-is_good.true)
+      | then-not-is_good-via-else-not-is_good+then-not-is_in_step w ↦ phases_bad a.site a.gate a.counters.now a.phases.now _ c.is_several.ensures (ap not c.if-not-is_several.false) _ c.is_counted.ensures (ap not c.if-not-is_counted.false) _ c.is_short.ensures c.if-is_short.false _ c.is_good.ensures (ap not w.if-not-is_good.false) _ w.is_in_step.ensures (ap not w.if-not-is_in_step.true)
+    ]
 
 pub is_in_step-requires : goal.is_in_step-requires
 is_in_step-requires c =
     let a = c.args in
     phases_long a.site a.gate a.counters.now a.phases.now _ c.is_several.ensures (ap not c.if-not-is_several.false) _ c.is_counted.ensures (ap not c.if-not-is_counted.false) _ c.is_short.ensures c.if-is_short.false
-
-pub returns-then-not-is_in_step : goal.returns-then-not-is_in_step
-returns-then-not-is_in_step c =
-    let a = c.args in
-    phases_bad a.site a.gate a.counters.now a.phases.now _ c.is_several.ensures (ap not c.if-not-is_several.false) _ c.is_counted.ensures (ap not c.if-not-is_counted.false) _ c.is_short.ensures c.if-is_short.false _ c.is_good.ensures (ap not c.if-not-is_good.false) _ c.is_in_step.ensures (ap not c.if-not-is_in_step.true)
 
 pub returns : goal.returns
 returns c =

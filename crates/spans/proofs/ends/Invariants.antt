@@ -1,10 +1,6 @@
 -- After some guests the loop holds two share tags between which those of their rows lie.
-use Prim.Native.Nat.{◌-◌, ◌≤◌}
 use Rattle.spans.specs.Spanned.{Spanned}
 use Rattle.spans.proofs.ends.Given as goal
 
 abbrev pub invariant-loop-g : goal.invariant-loop-g
-invariant-loop-g l = (l.g ≤ l.known) × Spanned l.waiting l.count l.g l.least l.most
-
-abbrev pub decreases-loop-g : goal.decreases-loop-g
-decreases-loop-g l = l.known - l.g
+invariant-loop-g l = Spanned l.queue.waiting.now l.queue.count l.g l.least l.most

@@ -6,30 +6,12 @@ use Rattle.table.specs.Columns.{guest_wide}
 use Rattle.table.specs.View.{guest_form}
 use Rattle.stamps.proofs.tags_of.Goals as goal
 
-pub raised_down-r-requires : goal.raised_down-r-requires
-raised_down-r-requires c =
-    let p = c.requires in
-    (p.rho, p.reservation)
-
-pub raised_up-l-requires : goal.raised_up-l-requires
-raised_up-l-requires c =
-    let p = c.requires in
-    (p.delta, p.limits, p.limit)
-
-pub raised_down-s-requires : goal.raised_down-s-requires
-raised_down-s-requires c =
-    let p = c.requires in
-    (p.delta, p.share)
-
-pub share_tag-stag-requires : goal.share_tag-stag-requires
-share_tag-stag-requires c = c.requires.credits
-
 pub returns : goal.returns
 unfolding raised
 returns c =
     let s = c.args in
     let h = guest_form.read (line_at guest_wide s.guests.now s.what.guest) in
-    let a = c.tag_if-rtag.ensures ∙ ap (tag_if (reserved h.settings) s.time) c.raised_down-r.ensures in
-    let b = c.tag_if-ltag.ensures ∙ ap (tag_if (limited h.settings) s.time) c.raised_up-l.ensures in
-    let d = c.share_tag-stag.ensures (raised s.what h) (sym c.raised_down-s.ensures) refl refl in
+    let a = c.tag_if-rtag.ensures ∙ ap (tag_if (reserved h.settings) s.time) c.raised-r.ensures in
+    let b = c.tag_if-ltag.ensures ∙ ap (tag_if (limited h.settings) s.time) c.raised-l.ensures in
+    let d = c.share_tag-stag.ensures (raised s.what h) (sym c.raised-s.ensures) refl refl in
     λ i. record { rtag = a i; ltag = b i; stag = d i }

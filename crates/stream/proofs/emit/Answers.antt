@@ -1,7 +1,7 @@
 use native.Mathlib.Omega.{arith}
 use Prim.Native.Nat.{◌+◌, ◌-◌, ◌≤◌, ◌<◌}
 use lib.ListN.{length, drop, length-take, length-drop}
-use Rattle.stream.proofs.Emitting.{within, emits_none, emits_more, emits_stops, emits_fails, emits_all}
+use Rattle.stream.proofs.Emitting.{within, emits_none, emits_more, emits_stops, emits_all}
 use Rattle.stream.proofs.emit.Goals as goal
 
 pub loop-done-init : goal.loop-done-init
@@ -14,7 +14,7 @@ record Room (c : goal.In-Bytes) : Type 0 where
 
 room : (c : goal.In-Bytes) → Room c
 room c =
-    let w = within c.in-Bytes.is c.put-went.ensures.within in
+    let w = within c.in-Bytes.is c.put.ensures.within in
     record { some = w.0; most = omega (arith, w.1, length-take (length c.args.bytes.now - c.loop-done.done) (drop c.loop-done.done c.args.bytes.now), length-drop c.loop-done.done c.args.bytes.now) }
 
 pub overflow_add-done : goal.overflow_add-done
@@ -26,17 +26,12 @@ loop-done-smaller c = omega (arith, (room c).some, (room c).most)
 pub loop-done-preserved : goal.loop-done-preserved
 loop-done-preserved c =
     let l = c.loop-done in
-    ((room c).most, emits_more l.done c.args.log.now l.log c.put-went.new.log c.args.bytes.now c.put-went.result l.invariant.1 c.put-went.ensures.goes _ c.in-Bytes.is)
+    ((room c).most, emits_more l.done c.args.log.now l.log c.put.new.log c.args.bytes.now c.put.result l.invariant.1 c.put.ensures.goes _ c.in-Bytes.is)
 
 pub returns-in-Nothing : goal.returns-in-Nothing
 returns-in-Nothing c =
     let l = c.loop-done in
-    emits_stops l.done c.args.log.now l.log c.put-went.new.log c.args.bytes.now c.put-went.result l.invariant.1 c.put-went.ensures.goes c.in-Nothing.is
-
-pub returns-in-Failed : goal.returns-in-Failed
-returns-in-Failed c =
-    let l = c.loop-done in
-    emits_fails l.done c.args.log.now l.log c.put-went.new.log c.args.bytes.now c.put-went.result l.invariant.1 c.put-went.ensures.goes c.in-Failed.is
+    emits_stops l.done c.args.log.now l.log c.put.new.log c.args.bytes.now c.put.result l.invariant.1 c.put.ensures.goes c.in-Nothing.is
 
 pub returns : goal.returns
 returns c = let l = c.loop-done in emits_all l.done _ l.log c.args.bytes.now (omega arith) l.invariant.1

@@ -15,18 +15,18 @@ record Room (c : goal.In-Bytes) : Type 0 where
   most : c.loop-have.have + c.in-Bytes.more ≤ length c.loop-have.buffer
 
 room : (c : goal.In-Bytes) → Room c
-room c = let w = within c.in-Bytes.is c.refill-came.ensures.within in record { some = w.0; most = omega (arith, w.1, c.loop-have.invariant.1) }
+room c = let w = within c.in-Bytes.is c.refill.ensures.within in record { some = w.0; most = omega (arith, w.1, c.loop-have.invariant.1) }
 
 pub overflow_add-have : goal.overflow_add-have
 overflow_add-have c = omega (arith, (room c).most)
 
 pub loop-have-smaller : goal.loop-have-smaller
-loop-have-smaller c = omega (arith, (room c).some, (room c).most, c.refill-came.auto.buffer)
+loop-have-smaller c = omega (arith, (room c).some, (room c).most, c.refill.auto.buffer)
 
 pub loop-have-preserved : goal.loop-have-preserved
 loop-have-preserved c =
     let l = c.loop-have in
-    let f = c.refill-came in (
+    let f = c.refill in (
       f.auto.buffer ∙ l.invariant.0,
       omega (arith, (room c).most, f.auto.buffer),
       fills_more l.have c.args.log.now l.log f.new.log l.buffer f.new.buffer f.result l.invariant.2 f.ensures.buffer_unchanged f.ensures.goes _ c.in-Bytes.is,
@@ -35,14 +35,14 @@ loop-have-preserved c =
 pub returns-in-Nothing : goal.returns-in-Nothing
 returns-in-Nothing c =
     let l = c.loop-have in
-    let f = c.refill-came in
+    let f = c.refill in
     fills_upto l.have c.args.log.now l.log f.new.log l.buffer f.new.buffer f.result l.invariant.2 f.ensures.buffer_unchanged f.ensures.goes c.in-Nothing.is (omega (arith, f.auto.buffer, c.loop-have-test.true))
 
 pub returns-in-Failed : goal.returns-in-Failed
 returns-in-Failed c =
     let l = c.loop-have in
-    let f = c.refill-came in
-    fills_failed l.have c.args.log.now l.log f.new.log l.buffer f.new.buffer f.result l.invariant.2 f.ensures.buffer_unchanged f.ensures.goes c.in-Failed.is
+    let f = c.refill in
+    fills_failed l.have c.args.log.now l.log f.new.log l.buffer f.new.buffer f.result l.invariant.2 f.ensures.buffer_unchanged f.ensures.goes _ c.in-Failed.is
 
 pub returns : goal.returns
 returns c = let l = c.loop-have in fills_all l.have _ l.log l.buffer l.invariant.1 (omega arith) l.invariant.2

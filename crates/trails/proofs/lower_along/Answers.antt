@@ -16,21 +16,21 @@ overflow_cast-number c = omega (arith, c.type_inv.index c.args.guest)
 pub loop-number-init : goal.loop-number-init
 loop-number-init c =
     let a = c.args in
-    (refl, trail_start a.guest a.d a.spacing a.next c.requires.indexed c.requires.waiting_wide_in_bounds.2)
+    (refl, trail_start a.guest a.fall.by a.fall.spacing a.fall.next c.requires.indexed c.requires.waiting_wide_in_bounds.2)
 
 pub overflow_mul-after : goal.overflow_mul-after
 overflow_mul-after c =
     let s = c.loop-number in
     let a = c.args in
-    let f = trail_fits a.guest a.d a.spacing a.next c.requires.indexed s.invariant.1 c.loop-number-test.true c.requires.waiting_wide_in_bounds.3 in
-    record { fits = omega (arith, cost_le (waiting_at s.waiting (s.number - 1) COST) a.spacing f.1 c.requires.waiting_wide_in_bounds.1) }
+    let f = trail_fits a.guest a.fall.by a.fall.spacing a.fall.next c.requires.indexed s.invariant.1 c.loop-number-test.true c.requires.waiting_wide_in_bounds.3 in
+    record { fits = omega (arith, cost_le (waiting_at s.waiting (s.number - 1) COST) a.fall.spacing f.1 c.requires.waiting_wide_in_bounds.1) }
 
 pub overflow_add-after-in-loop-number : goal.overflow_add-after-in-loop-number
 overflow_add-after-in-loop-number c =
     let s = c.loop-number in
     let a = c.args in
-    let f = trail_fits a.guest a.d a.spacing a.next c.requires.indexed s.invariant.1 c.loop-number-test.true c.requires.waiting_wide_in_bounds.3 in
-    record { fits = omega (arith, f.0, c.cut-q.ensures, cost_le (waiting_at s.waiting (s.number - 1) COST) a.spacing f.1 c.requires.waiting_wide_in_bounds.1) }
+    let f = trail_fits a.guest a.fall.by a.fall.spacing a.fall.next c.requires.indexed s.invariant.1 c.loop-number-test.true c.requires.waiting_wide_in_bounds.3 in
+    record { fits = omega (arith, f.0, c.saturating_sub-q.ensures, cost_le (waiting_at s.waiting (s.number - 1) COST) a.fall.spacing f.1 c.requires.waiting_wide_in_bounds.1) }
 
 pub overflow_cast-number-in-loop-number : goal.overflow_cast-number-in-loop-number
 overflow_cast-number-in-loop-number c = omega (arith, c.type_inv.index (NEXTS + (c.loop-number.number - 1)))
@@ -43,9 +43,9 @@ pub loop-number-preserved : goal.loop-number-preserved
 loop-number-preserved c =
     let s = c.loop-number in
     let a = c.args in
-    let cut = c.cut-q in (
+    let cut = c.saturating_sub-q in (
       length-set s.waiting ((s.number - 1) * waiting_wide + RTAG) cut.result ∙ s.invariant.0,
-      trail_next a.guest a.d a.spacing a.next c.requires.indexed s.invariant.1 c.loop-number-test.true cut.ensures,
+      trail_next a.guest a.fall.by a.fall.spacing a.fall.next c.requires.indexed s.invariant.1 c.loop-number-test.true cut.ensures,
     )
 
 pub shape_of-waiting : goal.shape_of-waiting
@@ -54,4 +54,4 @@ shape_of-waiting c = c.loop-number.invariant.0
 pub returns : goal.returns
 returns c =
     let a = c.args in
-    let e = trail_end a.guest a.d a.spacing a.next c.requires.indexed c.loop-number.invariant.1 c.loop-number-test.false in record { waiting_after = e.0; value = e.1 }
+    let e = trail_end a.guest a.fall.by a.fall.spacing a.fall.next c.requires.indexed c.loop-number.invariant.1 c.loop-number-test.false in record { waiting_after = e.0; value = e.1 }

@@ -7,7 +7,7 @@ use Rattle.trails.proofs.lower_along.Given as goal
 
 abbrev pub invariant-loop-number : goal.invariant-loop-number
 invariant-loop-number l =
-    (length l.waiting ≡ length l.initial.waiting) × Trail l.guest l.d l.spacing l.next l.initial.waiting l.count l.waiting l.after l.number
+    (length l.waiting ≡ length l.initial.waiting) × Trail l.guest l.fall.by l.fall.spacing l.fall.next l.initial.waiting l.count l.waiting l.after l.number
 
 abbrev pub decreases-loop-number : goal.decreases-loop-number
 decreases-loop-number l = ahead l.count l.number

@@ -1,35 +1,40 @@
--- The walk goes by blocks from the last number to the first: every number behind it is zero. Assumes nothing.
-use Prim.Native.Nat.{◌≤◌, ◌-◌}
-use mathlib.Core.Path.{◌≡◌, sym, ◌∙◌}
-use mathlib.Core.Bool.{true}
+-- Each block that the walk gives is the next 32 numbers, and what is left behind the blocks is the rest.
+use Prim.Native.Nat.{ℕ, ◌-◌, ◌*◌, ◌/◌, ◌%◌, ◌<◌}
+use mathlib.Core.Path.{◌≡◌, sym, ap, ◌∙◌}
+use mathlib.Core.Bool.{Bool, true, false, ◌&&◌}
 use native.Mathlib.Omega.{arith}
-use lib.Dec.{eqb}
-use lib.ListN.{length, drop}
-use borrow.Author.Tests.{eq-eqb, ne_eqb}
+use lib.ListN.{length, take, drop}
+use borrow.Author.Rules.{rules}
+use Rattle.std.specs.Prelude.{IfSome, IsSomeAnd}
+use Rattle.std.proofs.lemmas.Option.{IfSome_then}
+use Rattle.std.proofs.iter.runs.Made.{chains}
 use Rattle.lists.specs.Words.{all}
-use Rattle.lists.specs.Walks.{all_start}
-use Rattle.unused.proofs.Blocks.{block_next, block_fails}
+use Rattle.unused.proofs.Blocks.{none, split_none, blocks_pass, block_fails, item_passes, item_fails}
 use Rattle.unused.proofs.is_blank.Goals as goal
 
-pub loop-i-init : goal.loop-i-init
-loop-i-init c = let a = c.args in (omega arith, all_start (λ x. eqb x 0) a.part.now 0 (length a.part.now) (omega arith))
+pub returns-then-all : goal.returns-then-all
+returns-then-all c =
+    let xs = c.args.part.now in
+    let p = c.if-all.ensures.runs.0 in
+    let run = (simp (c.if-all.ensures.runs.1, c.chunks_exact-blocks.ensures.size, c.chunks_exact-blocks.ensures.rest) at (c.chunks_exact-blocks.ensures.runs p)) p.seen (omega arith) in
+    let passed : (k : ℕ) → IfSome (p.at k) (λ x. all none x.now ≡ true) = search (rules, chains) in
+    let long : p.len ≡ length xs / 32 = search (rules, chains) in
+    let blocks : all none (take (length xs / 32 * 32) xs) ≡ true =
+    blocks_pass 32 (length xs / 32) xs
+    (λ k l.
+    item_passes (p.at k) _ (take 32 (drop (k * 32) xs)) (p.reads k c.args.part (omega (arith, long))) (passed k)
+    (IfSome_then (p.at k) (run.2 k) (λ x q. q.2.0)))
+    in
+    let behind : length xs - length xs % 32 ≡ length xs / 32 * 32 = omega arith in
+    let rest = c.remainder-rest.ensures ∙ c.chunks_exact-blocks.ensures.remainder ∙ ap (λ (m : ℕ). drop m xs) behind in
+    c.is_zero.ensures ∙ ap (all none) rest
+    ∙ sym (split_none (length xs / 32 * 32) xs ∙ ap (λ (b : Bool). b && all none (drop (length xs / 32 * 32) xs)) blocks)
 
-pub returns-then-block_at-ne0 : goal.returns-then-block_at-ne0
-returns-then-block_at-ne0 c =
-    let a = c.args in
-    let s = c.loop-i in
-    sym (block_fails 32 a.part.now (s.i - 32) (sym c.block_at.ensures ∙ ne_eqb _ _ c.if-block_at-ne0.true))
-
-pub loop-i-preserved : goal.loop-i-preserved
-loop-i-preserved c =
-    let a = c.args in
-    let s = c.loop-i in (
-      omega arith,
-      block_next 32 a.part.now s.i c.loop-i-test.true (sym c.block_at.ensures ∙ eq-eqb _ _ c.if-block_at-ne0.false) s.invariant.1,
-    )
-
-pub is_blank_before-requires : goal.is_blank_before-requires
-is_blank_before-requires c = c.loop-i.invariant
-
-pub returns : goal.returns
-returns c = c.is_blank_before.ensures
+pub returns-else-all : goal.returns-else-all
+returns-else-all c =
+    let xs = c.args.part.now in
+    let p = c.if-all.ensures.runs.0 in
+    let run = (simp (c.if-all.ensures.runs.1, c.chunks_exact-blocks.ensures.size, c.chunks_exact-blocks.ensures.rest) at (c.chunks_exact-blocks.ensures.runs p)) p.seen (omega arith) in
+    let failed : (k : ℕ) × (k < p.len) × IsSomeAnd (p.at k) (λ x. all none x.now ≡ false) = search (rules, chains) in
+    c.if-all.false
+    ∙ sym (block_fails 32 xs (failed.0 * 32) (item_fails (p.at failed.0) (take 32 (drop (failed.0 * 32) xs)) failed.2 (IfSome_then (p.at failed.0) (run.2 failed.0) (λ x q. q.2.0))))

@@ -1,19 +1,13 @@
 -- `open` meets its contract: what is copied to the front of zeros stands in the window. Assumes nothing.
 use Prim.Native.Nat.{ℕ}
 use mathlib.Core.Path.{sym, subst}
-use mathlib.Core.List.{List}
+use mathlib.Core.List.{List, ◌++◌}
 use native.Mathlib.Omega.{arith}
-use lib.ListN.{take}
+use lib.ListN.{take, drop}
 use lib.Seq.{length-take-le}
 use Rattle.windows.specs.Window.{Window}
 use Rattle.windows.proofs.Windows.{window_opens}
 use Rattle.windows.proofs.open.Goals as goal
-
-pub slice_bounds-copy-end : goal.slice_bounds-copy-end
-slice_bounds-copy-end c = sym (length-take-le c.args.size c.args.waiting.now c.requires.size_in_bounds.0)
-
-pub copy-requires : goal.copy-requires
-copy-requires c = omega (arith, length-take-le c.args.size c.args.waiting.now c.requires.size_in_bounds.0, c.requires.size_in_bounds.1)
 
 pub slice_bounds-build-end : goal.slice_bounds-build-end
 slice_bounds-build-end c = sym (length-take-le c.args.size c.args.waiting.now c.requires.size_in_bounds.0)
@@ -30,8 +24,10 @@ pub returns : goal.returns
 returns c =
     let a = c.args in
     let s = c.requires.size_in_bounds in
+    let t = take a.size a.waiting.now in
+    let zs = a.window.now in
     let e = length-take-le a.size a.waiting.now s.0 in record {
-      window = subst (λ (xs : List ℕ). Window a.size 0 xs (take a.size a.waiting.now)) (sym c.copy.ensures)
-          (window_opens a.size (take a.size a.waiting.now) a.window.now e s.1 s.2);
+      window = subst (λ (xs : List ℕ). Window a.size 0 (xs ++ drop a.size zs) t) (sym c.copy_from_slice.ensures.after)
+          (subst (λ (n : ℕ). Window a.size 0 (t ++ drop n zs) t) e (window_opens a.size t zs e s.1 s.2));
       indexed = c.build.ensures;
     }

@@ -4,21 +4,21 @@ use Rattle.calling.proofs.numbers.follow.Goals as goal
 
 pub step_and_wake-requires : goal.step_and_wake-requires
 step_and_wake-requires c = record {
-  known = good-known c.args.gate c.args.guests.now c.args.waiting.now c.args.flight.now c.args.found c.requires.judges c.in-Good.is;
+  known = good-known c.args.gate c.args.guests.now c.args.waiting.now c.args.flight.now c.args.found c.requires.judges c.in-Ok.is;
   beside = c.requires.beside;
 }
 
-pub returns-in-Bad : goal.returns-in-Bad
-returns-in-Bad c =
+pub returns-in-Err : goal.returns-in-Err
+returns-in-Err c =
     rw (bad_stands c.args.gate c.args.guests.now c.args.waiting.now c.args.flight.now _ _ c.refused.ensures c.args.index.now) (record {
-      flight_after = bad_returns c.args.gate c.args.guests.now c.args.waiting.now c.args.flight.now c.args.found c.requires.judges c.args.event _ c.in-Bad.is _ c.refused.ensures;
+      flight_after = bad_returns c.args.gate c.args.guests.now c.args.waiting.now c.args.flight.now c.args.found c.requires.judges c.args.event _ c.in-Err.is _ c.refused.ensures;
       judges_2 = bad_stays c.args.gate c.args.guests.now c.args.waiting.now c.args.flight.now c.args.found c.requires.judges _ _ c.refused.ensures;
       beside_2 = bad_beside c.args.gate c.args.guests.now c.args.waiting.now c.args.flight.now _ _ c.refused.ensures _ c.requires.beside.0;
     })
 
-pub returns-in-Good : goal.returns-in-Good
-returns-in-Good c =
-    let e = c.in-Good.is in
+pub returns-in-Ok : goal.returns-in-Ok
+returns-in-Ok c =
+    let e = c.in-Ok.is in
     let o = c.step_and_wake.ensures in record {
       flight_after = good_returns c.args.gate c.args.guests.now c.args.waiting.now c.args.flight.now c.args.found c.requires.judges c.args.event e _ o.flight_after;
       judges_2 = good_stays c.args.gate c.args.guests.now c.args.waiting.now c.args.flight.now c.args.found c.requires.judges e _ _ _ _ o.known_2;

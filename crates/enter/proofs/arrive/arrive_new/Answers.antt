@@ -11,7 +11,7 @@ find_flight-found-requires c =
 pub returns-then-gate : goal.returns-then-gate
 returns-then-gate c =
     let w = c.find_flight-found in record {
-      enters = (full-refused c.args.gate c.args.guests.now c.args.waiting.now c.args.flight.now c.requires.known c.args.what c.args.time c.requires.timely w.result w.ensures c.in-Nothing.is c.requires.waiting_value c.if-gate.true, refl, refl, refl);
+      enters = (full-refused c.args.gate c.args.guests.now c.args.waiting.now c.args.flight.now c.requires.known c.args.what c.args.time c.requires.timely w.result w.ensures c.in-None.is c.requires.waiting_value c.if-gate.true, refl, refl, refl);
       enters_beside = c.requires.beside;
     }
 
@@ -19,7 +19,7 @@ pub arrive_idle-requires : goal.arrive_idle-requires
 arrive_idle-requires c =
     let w = c.find_flight-found in record {
       known = c.requires.known;
-      ready = is_ready c.args.gate c.args.guests.now c.args.waiting.now c.args.flight.now c.requires.known c.args.what c.args.time c.requires.timely w.result w.ensures c.in-Nothing.is c.requires.waiting_value c.if-gate.false;
+      ready = is_ready c.args.gate c.args.guests.now c.args.waiting.now c.args.flight.now c.requires.known c.args.what c.args.time c.requires.timely w.result w.ensures c.in-None.is c.requires.waiting_value c.if-gate.false;
       guest_value = c.requires.guest_value ∙ c.if-idle.true;
       beside = c.requires.beside;
     }
@@ -28,16 +28,16 @@ pub arrive_busy-requires : goal.arrive_busy-requires
 arrive_busy-requires c =
     let w = c.find_flight-found in record {
       known = c.requires.known;
-      ready = is_ready c.args.gate c.args.guests.now c.args.waiting.now c.args.flight.now c.requires.known c.args.what c.args.time c.requires.timely w.result w.ensures c.in-Nothing.is c.requires.waiting_value c.if-gate.false;
+      ready = is_ready c.args.gate c.args.guests.now c.args.waiting.now c.args.flight.now c.requires.known c.args.what c.args.time c.requires.timely w.result w.ensures c.in-None.is c.requires.waiting_value c.if-gate.false;
       guest_value = c.requires.guest_value ∙ c.if-idle.false;
       beside = c.requires.beside;
     }
 
-pub returns-in-At : goal.returns-in-At
-returns-in-At c =
+pub returns-in-Some : goal.returns-in-Some
+returns-in-Some c =
     let w = c.find_flight-found in
     record {
-      enters = (flies-refused c.args.gate c.args.guests.now c.args.waiting.now c.args.flight.now c.requires.known c.args.what c.args.time c.requires.timely w.result w.ensures c.in-At.field-0 c.in-At.is, refl, refl, refl);
+      enters = (flies-refused c.args.gate c.args.guests.now c.args.waiting.now c.args.flight.now c.requires.known c.args.what c.args.time c.requires.timely w.result w.ensures c.in-Some.field-0 c.in-Some.is, refl, refl, refl);
       enters_beside = c.requires.beside;
     }
 

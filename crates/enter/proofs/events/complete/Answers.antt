@@ -26,19 +26,19 @@ find_flight-found-requires c =
 pub take_out-requires : goal.take_out-requires
 take_out-requires c =
     let f = c.find_flight-found in
-    out_asks c.args.gate c.args.guests.now c.args.waiting.now c.args.flight.now c.requires c.args.time c.if-time-gt-CEILING.false c.if-time-gate.false c.args.which c.if-gate-which.false f.result f.ensures _ c.in-At.is
+    out_asks c.args.gate c.args.guests.now c.args.waiting.now c.args.flight.now c.requires c.args.time c.if-time-gt-CEILING.false c.if-time-gate.false c.args.which c.if-gate-which.false f.result f.ensures _ c.in-Some.is
 
 pub freed-requires : goal.freed-requires
 freed-requires c =
     let f = c.find_flight-found in
-    omega (arith, (out_asks c.args.gate c.args.guests.now c.args.waiting.now c.args.flight.now c.requires c.args.time c.if-time-gt-CEILING.false c.if-time-gate.false c.args.which c.if-gate-which.false f.result f.ensures _ c.in-At.is).0)
+    omega (arith, (out_asks c.args.gate c.args.guests.now c.args.waiting.now c.args.flight.now c.requires c.args.time c.if-time-gt-CEILING.false c.if-time-gate.false c.args.which c.if-gate-which.false f.result f.ensures _ c.in-Some.is).0)
 
-pub returns-in-At : goal.returns-in-At
-returns-in-At c =
+pub returns-in-Some : goal.returns-in-Some
+returns-in-Some c =
     let f = c.find_flight-found in
-    out_returns c.args.gate c.args.guests.now c.args.waiting.now c.args.flight.now c.requires c.args.time c.if-time-gt-CEILING.false c.if-time-gate.false c.args.which c.if-gate-which.false f.result f.ensures _ c.in-At.is _ c.take_out.ensures _ c.freed.ensures
+    out_returns c.args.gate c.args.guests.now c.args.waiting.now c.args.flight.now c.requires c.args.time c.if-time-gt-CEILING.false c.if-time-gate.false c.args.which c.if-gate-which.false f.result f.ensures _ c.in-Some.is _ c.take_out.ensures _ c.freed.ensures
 
-pub returns-in-Nothing : goal.returns-in-Nothing
-returns-in-Nothing c =
+pub returns-in-None : goal.returns-in-None
+returns-in-None c =
     let f = c.find_flight-found in
-    (absent_is c.args.gate c.args.guests.now c.args.waiting.now c.args.flight.now c.requires c.args.time c.if-time-gt-CEILING.false c.if-time-gate.false c.args.which c.if-gate-which.false f.result f.ensures c.in-Nothing.is, refl, refl, refl)
+    (absent_is c.args.gate c.args.guests.now c.args.waiting.now c.args.flight.now c.requires c.args.time c.if-time-gt-CEILING.false c.if-time-gate.false c.args.which c.if-gate-which.false f.result f.ensures c.in-None.is, refl, refl, refl)

@@ -16,5 +16,5 @@ pub returns : goal.returns
 returns c =
     let p = c.place-after.ensures in record {
       placed = p;
-      beside = beside_placed c.args.gate c.args.guests.now c.args.waiting.now _ _ c.args.index.now _ c.args.what c.args.time c.args.tags _ c.requires.placeable p c.requires.waiting_lt_most_capacity.2 c.keep_placed.ensures;
+      beside = beside_placed c.args.gate c.args.guests.now c.args.waiting.now _ _ c.args.index.now _ c.args.what c.args.time c.args.stamp _ c.requires.placeable p c.requires.waiting_lt_most_capacity.2 c.keep_placed.ensures;
     }

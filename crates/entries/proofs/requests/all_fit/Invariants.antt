@@ -5,7 +5,4 @@ use Rattle.entries.proofs.AllRows.{Passed}
 use Rattle.entries.proofs.requests.all_fit.Given as goal
 
 abbrev pub invariant-loop-i : goal.invariant-loop-i
-invariant-loop-i l = Passed request_form fits l.waiting l.count l.i
-
-abbrev pub decreases-loop-i : goal.decreases-loop-i
-decreases-loop-i l = l.i
+invariant-loop-i l = Passed request_form.wide (λ v. fits (request_form.read v)) l.waiting l.count l.i

@@ -1,30 +1,9 @@
--- The walk goes from the last row to the first: every row behind it has passed.
-use mathlib.Core.Path.{sym, ◌∙◌}
-use borrow.Author.Tests.{not-true, not-false}
+-- The entries pass exactly where their rows do.
+use mathlib.Core.Path.{◌∙◌}
 use Rattle.table.specs.View.{flight_form}
 use Rattle.entries.specs.Tests.{named}
-use Rattle.entries.proofs.AllRows.{rows_start, rows_next, rows_fail, rows_end}
-use mathlib.Core.Bool.{not}
-use mathlib.Core.Path.{ap}
+use Rattle.entries.proofs.AllRows.{entries_are}
 use Rattle.entries.proofs.requests.all_flown.Goals as goal
 
-pub loop-i-init : goal.loop-i-init
-loop-i-init c = let a = c.args in rows_start flight_form (named a.known) a.flight.now a.count
-
-pub returns-then-not-is_named : goal.returns-then-not-is_named
-returns-then-not-is_named c =
-    let a = c.args in
-    let s = c.loop-i in
-    rows_fail flight_form (named a.known) a.flight.now a.count s.i s.invariant c.loop-i-test.true (sym c.is_named.ensures ∙ not-true _ (ap not c.if-not-is_named.true))
-
-pub loop-i-preserved : goal.loop-i-preserved
-loop-i-preserved c =
-    let a = c.args in
-    let s = c.loop-i in
-    rows_next flight_form (named a.known) a.flight.now a.count s.i s.invariant c.loop-i-test.true (sym c.is_named.ensures ∙ not-false _ (ap not c.if-not-is_named.false))
-
 pub returns : goal.returns
-returns c =
-    let a = c.args in
-    let s = c.loop-i in
-    rows_end flight_form (named a.known) a.flight.now a.count s.i s.invariant c.loop-i-test.false
+returns c = c.are_named.ensures ∙ entries_are flight_form (named c.args.known) c.args.flight.now c.args.count

@@ -1,7 +1,6 @@
--- `events::feed_in` meets its contract. The loop's invariant: the events so far were judged, and the table stands in the window with its index beside it. The measure is
--- what is left of the events. Assumes nothing.
+-- `events::feed_in` meets its contract. The loop's invariant: the events so far were judged, and the table stands in the window with its index beside it. Assumes nothing.
 use Prim.Native.Nat.{ℕ}
-use mathlib.Core.Path.{◌≡◌, refl, subst, ◌∙◌, sym}
+use mathlib.Core.Path.{◌≡◌, subst, ◌∙◌, sym}
 use mathlib.Core.List.{List}
 use native.Mathlib.Omega.{arith}
 use lib.ListN.{length}
@@ -15,12 +14,6 @@ loop-i-init c =
     let p = c.requires.by_index in (
       omega arith,
       omega arith,
-      omega arith,
-      refl,
-      refl,
-      refl,
-      refl,
-      refl,
       λ ws w.
           let e = sym p.1.shows ∙ w.shows in
           subst (λ (xs : List ℕ). Stage c.args.version c.args.first c.args.guests.now xs c.args.flight.now c.args.bytes.now c.args.number c.args.out.now c.args.size 0 c.args.window.now 0 c.args.first c.args.guests.now c.args.flight.now c.args.out.now 0 c.args.index.now) e
@@ -30,27 +23,21 @@ loop-i-init c =
 pub settle-start-requires : goal.settle-start-requires
 settle-start-requires c =
     let p = c.requires.by_index in
-    let st = c.loop-i.invariant.8 p.0 p.1 in (st.table, st.stands)
+    let st = c.loop-i.invariant.2 p.0 p.1 in (st.table, st.stands)
 
 pub one_in-after-requires : goal.one_in-after-requires
 one_in-after-requires c =
     let l = c.loop-i in
-    let n = c.least-n.ensures in
+    let n = c.min-n.ensures in
     let p = c.requires.by_index in
-    let st = l.invariant.8 p.0 p.1 in record {
-      from_in_bounds = omega (arith, l.invariant.0, n);
-      at_in_bounds = omega (arith, l.invariant.1, l.invariant.6, n);
+    let st = l.invariant.2 p.0 p.1 in record {
+      from_in_bounds = omega (arith, c.loop-i-test.true, n);
+      at_in_bounds = omega (arith, c.loop-i-test.true, l.invariant.0, l.auto.out, n);
       by_index = (st.table, c.settle-start.ensures.by_index st.table st.stands, st.holds.became.known, st.beside, st.snug);
     }
 
 pub overflow_add-start : goal.overflow_add-start
 overflow_add-start c = omega (arith, c.settle-start.ensures.upper_bound, c.one_in-after.ensures.gone_bound.0)
-
-pub overflow_add-i : goal.overflow_add-i
-overflow_add-i c = omega (arith, c.loop-i-test.true, c.least-n.ensures, c.requires.bytes_bound)
-
-pub loop-i-smaller : goal.loop-i-smaller
-loop-i-smaller c = omega (arith, c.loop-i-test.true)
 
 pub loop-i-preserved : goal.loop-i-preserved
 loop-i-preserved c =
@@ -59,49 +46,28 @@ loop-i-preserved c =
     let o = c.one_in-after in
     let k = o.auto in
     let p = c.requires.by_index in
-    let st = l.invariant.8 p.0 p.1 in
+    let st = l.invariant.2 p.0 p.1 in
     let j = o.ensures.by_index_2 st.table (t.ensures.by_index st.table st.stands) in
-    let whole : length o.new.window ≡ length c.args.window.now = k.window ∙ t.auto.window ∙ l.invariant.4 in (
-      omega (arith, c.loop-i-test.true),
-      omega (arith, j.2.short, l.invariant.1),
+    let whole : length o.new.window ≡ length c.args.window.now = k.window ∙ t.auto.window ∙ l.auto.window in (
+      omega (arith, j.2.short, l.invariant.0),
       omega (arith, t.ensures.upper_bound, o.ensures.gone_bound.0),
-      k.guests ∙ l.invariant.3,
-      whole,
-      k.flight ∙ l.invariant.5,
-      k.out ∙ l.invariant.6,
-      k.index ∙ l.invariant.7,
       λ ws w.
           let e = sym p.1.shows ∙ w.shows in
-          let x = l.invariant.8 ws w in
+          let x = l.invariant.2 ws w in
           let known = subst (λ (xs : List ℕ). Known c.args.first c.args.guests.now xs c.args.flight.now) e p.2 in
           stage_next c.args.version c.args.first c.args.guests.now ws c.args.flight.now known c.args.bytes.now c.args.number c.args.out.now c.args.size
           l.start l.window l.i l.gate l.guests l.flight l.out l.at l.index x
           t.result o.result.gone _ _ _ _ _ _ _ (o.ensures.by_index_2 x.table (t.ensures.by_index x.table x.stands)) o.ensures.gone_bound.0
-          (λ some. omega (arith, t.ensures.upper_bound, whole, c.requires.size_in_bounds (omega (arith, o.ensures.gone_bound.1 some, l.invariant.7)))) k.index,
+          (λ some. omega (arith, t.ensures.upper_bound, whole, c.requires.size_in_bounds (omega (arith, o.ensures.gone_bound.1 some, l.auto.index)))) k.index,
     )
-
-pub shape_of-guests : goal.shape_of-guests
-shape_of-guests c = c.loop-i.invariant.3
-
-pub shape_of-window : goal.shape_of-window
-shape_of-window c = c.loop-i.invariant.4
-
-pub shape_of-flight : goal.shape_of-flight
-shape_of-flight c = c.loop-i.invariant.5
-
-pub shape_of-out : goal.shape_of-out
-shape_of-out c = c.loop-i.invariant.6
-
-pub shape_of-index : goal.shape_of-index
-shape_of-index c = c.loop-i.invariant.7
 
 pub returns : goal.returns
 returns c =
     let s = c.loop-i in
     let a = c.args in
-    let n = c.least-n in
-    let e : s.i ≡ n.result = omega (arith, c.loop-i-test.false, s.invariant.0) in
+    let n = c.min-n in
+    let e : s.i ≡ n.result = omega (arith, c.loop-i-test.false, s.auto.i-end) in
     λ ws w.
-    let st = s.invariant.8 ws w in
+    let st = s.invariant.2 ws w in
     let g = subst (λ (k : ℕ). Going a.version a.first a.guests.now ws a.flight.now a.bytes.now a.number a.out.now k s.gate s.guests st.table s.flight s.out s.at) e st.holds in
-    (st.table, st.stands, record { taken = n.ensures; became = g.became; lines = g.lines; room = omega (arith, n.ensures, s.invariant.1, e) })
+    (st.table, st.stands, record { taken = n.ensures; became = g.became; lines = g.lines; room = omega (arith, n.ensures, s.invariant.0, e) })

@@ -12,25 +12,27 @@ use Rattle.judges.proofs.events.judge_events.Goals as goal
 
 pub open-requires : goal.open-requires
 open-requires c =
-    let a = open_asks c.args.first c.args.guests.now c.args.waiting.now c.args.flight.now c.requires.known in
-    let f = front_fits c.args.first c.args.guests.now c.args.waiting.now c.args.flight.now c.requires.known in record {
-      size_in_bounds = (c.requires.known.waiting_room, omega (arith, f), window_blank 7680);
+    let t = c.args.tables.now in
+    let a = open_asks t.gate t.guests t.waiting t.flight c.requires in
+    let f = front_fits t.gate t.guests t.waiting t.flight c.requires in record {
+      size_in_bounds = (c.requires.waiting_room, omega (arith, f), window_blank 7680);
       rows_le_most_capacity = (a.0, a.1, refl);
       by_index = a.2;
     }
 
 pub judge_beside-requires : goal.judge_beside-requires
 judge_beside-requires c =
+    let t = c.args.tables.now in
     let o = c.open in
-    let f = front_fits c.args.first c.args.guests.now c.args.waiting.now c.args.flight.now c.requires.known in
-    let known = front-known c.args.first c.args.guests.now c.args.waiting.now c.args.flight.now c.requires.known in
-    let long = front_long c.args.first c.args.guests.now c.args.waiting.now c.args.flight.now c.requires.known in record {
-      in_bounds = c.requires.in_bounds;
+    let f = front_fits t.gate t.guests t.waiting t.flight c.requires in
+    let known = front-known t.gate t.guests t.waiting t.flight c.requires in
+    let long = front_long t.gate t.guests t.waiting t.flight c.requires in record {
       size_in_bounds = omega (arith, f, o.auto.window);
-      by_index = (take (c.args.first.setup.capacity * 6) c.args.waiting.now, o.ensures.window, known, (λ some. o.ensures.indexed), (λ some. long));
+      by_index = (take (t.gate.setup.capacity * 6) t.waiting, o.ensures.window, known, (λ some. o.ensures.indexed), (λ some. long));
     }
 
 pub returns : goal.returns
 returns c =
-    c.judge_beside.ensures (take (c.args.first.setup.capacity * 6) c.args.waiting.now) c.open.ensures.window
-    ∙ ap (λ (t : Table). judged_from 0 t (asked_from c.args.version c.args.bytes.now) c.args.said.now) (front-shown c.args.first c.args.guests.now c.args.waiting.now c.args.flight.now c.requires.known)
+    let t = c.args.tables.now in
+    c.judge_beside.ensures (take (t.gate.setup.capacity * 6) t.waiting) c.open.ensures.window
+    ∙ ap (λ (u : Table). judged_from 0 u (asked_from c.args.version c.args.bytes.now) c.args.said.now) (front-shown t.gate t.guests t.waiting t.flight c.requires)

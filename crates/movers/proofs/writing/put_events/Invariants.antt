@@ -1,11 +1,8 @@
-use Prim.Native.Nat.{◌+◌, ◌-◌, ◌*◌, ◌≤◌}
+use Prim.Native.Nat.{◌+◌, ◌*◌}
 use mathlib.Core.Path.{◌≡◌}
-use lib.ListN.{length, take}
+use lib.ListN.{take}
 use Rattle.lines.specs.Put.{Put}
 use Rattle.movers.proofs.writing.put_events.Given as goal
 
 abbrev pub invariant-loop-i : goal.invariant-loop-i
-invariant-loop-i l = (l.i ≤ l.n) × (length l.room ≡ length l.initial.room) × (l.at ≡ l.first + l.i * 14) × Put l.first (take (l.i * 14) l.bytes) l.initial.room l.at l.room
-
-abbrev pub decreases-loop-i : goal.decreases-loop-i
-decreases-loop-i l = l.n - l.i
+invariant-loop-i l = (l.at ≡ l.first + l.i * 14) × Put l.first (take (l.i * 14) l.bytes) l.initial.room l.at l.room

@@ -11,7 +11,7 @@ use Rattle.movers.proofs.writing.put_records.Goals as goal
 
 pub loop-k-init : goal.loop-k-init
 unfolding records_to
-loop-k-init c = (omega arith, refl, c.requires.3, record { next = sym (add-zero c.args.first); bytes = refl })
+loop-k-init c = (c.requires.3, record { next = sym (add-zero c.args.first); bytes = refl })
 
 pub put_record-at-requires : goal.put_record-at-requires
 put_record-at-requires c =
@@ -21,8 +21,8 @@ put_record-at-requires c =
     let here = body_grows a.version (l.k + 1) a.guests (omega arith) in
     let there = body_grows a.to (l.k + 1) a.guests (omega arith) in (
       omega (arith, c.body.ensures, record_fits a.version l.k, here, p.1),
-      omega (arith, l.invariant.1, l.invariant.2, record_fits a.to l.k, there, p.2),
-      λ e. omega (arith, l.invariant.1, l.invariant.2, credit_fits a.to l.k e, there, p.2),
+      omega (arith, l.auto.room, l.invariant.0, record_fits a.to l.k, there, p.2),
+      λ e. omega (arith, l.auto.room, l.invariant.0, credit_fits a.to l.k e, there, p.2),
     )
 
 pub loop-k-preserved : goal.loop-k-preserved
@@ -34,19 +34,14 @@ loop-k-preserved c =
     let b = c.body in
     let here = body_grows a.version (l.k + 1) a.guests (omega arith) in
     let long = length_record a.to l.k a.trace.now b.result (omega (arith, b.ensures, record_fits a.version l.k, here, p.1)) in (
-      omega arith,
-      r.auto.room ∙ l.invariant.1,
-      omega (arith, r.ensures.next, long, l.invariant.2),
+      omega (arith, r.ensures.next, long, l.invariant.0),
       put_as (records-more a.to a.version a.trace.now l.k ∙ ap (λ (j : ℕ). records_to a.to a.version a.trace.now 0 l.k ++ record_to a.to a.trace.now j) (sym b.ensures))
-          (puts l.invariant.3 r.ensures),
+          (puts l.invariant.1 r.ensures),
     )
-
-pub shape_of-room : goal.shape_of-room
-shape_of-room c = c.loop-k.invariant.1
 
 pub returns : goal.returns
 returns c =
     let l = c.loop-k in
     let a = c.args in
     let e : a.guests ≡ l.k = omega arith in
-    put_as (ap (records_to a.to a.version a.trace.now 0) e) l.invariant.3
+    put_as (ap (records_to a.to a.version a.trace.now 0) e) l.invariant.1

@@ -1,25 +1,14 @@
-use Prim.Native.Nat.{◌≤◌, ◌-◌}
-use mathlib.Core.Path.{◌≡◌, refl, ap, ◌∙◌}
-use native.Mathlib.Omega.{arith}
-use lib.ListN.{length, length-set}
-use Rattle.lists.specs.Stores.{stores}
-use Rattle.lists.specs.Parts.{closed_by, front, front-next}
-use borrow.Author.Rules.{rules}
+use Rattle.std.proofs.Common.{ℕ, ◌-◌, ◌∙◌, ap, arith, get_or, length, replicate}
+use Rattle.lists.specs.Parts.{part_length}
+use Rattle.moves.proofs.Closing.{closed_is}
 use Rattle.moves.proofs.rows.close_up.Goals as goal
-
-pub loop-i-init : goal.loop-i-init
-loop-i-init c = (omega arith, refl, unfold stores in refl)
-
-pub loop-i-preserved : goal.loop-i-preserved
-loop-i-preserved c =
-    let s = c.loop-i in
-    (omega arith, simp length-set (omega arith), front-next c.args.wide c.args.tail.now s.tail s.i c.requires.0 s.invariant.2)
 
 pub returns : goal.returns
 returns c =
-    let r = c.loop-i in
     let a = c.args in
     let t = a.tail.now in
-    closed_by a.wide (length t - a.wide) t r.tail _ (omega arith)
-    (r.invariant.2 ∙ ap (front a.wide t) (omega arith))
-    c.clear.ensures
+    let ys = c.copy_within.new.self in
+    let same = c.copy_within.ensures.len in
+    closed_is a.wide t ys c.fill.new.self c.requires.1 same
+    (λ k l. c.copy_within.ensures.by_index.0 k 0 (omega arith) (omega (arith, l)) ∙ ap (λ (j : ℕ). get_or t j 0) (omega arith))
+    (c.fill.ensures.after (λ y e. e) ∙ ap (λ (n : ℕ). replicate n 0) (part_length (length t - a.wide) (length ys) ys (omega (arith, same)) (omega arith) ∙ omega (arith, same, c.requires.1)))

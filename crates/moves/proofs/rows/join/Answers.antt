@@ -2,7 +2,6 @@ use mathlib.Core.Path.{refl}
 use native.Mathlib.Omega.{arith}
 use lib.ListN.{length-set}
 use Rattle.lists.specs.Stores.{stores}
-use borrow.Author.Rules.{rules}
 use Rattle.moves.proofs.rows.join.Goals as goal
 
 pub bounds-flight-end-2 : goal.bounds-flight-end-2

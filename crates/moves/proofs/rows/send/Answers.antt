@@ -3,7 +3,6 @@ use mathlib.Core.Path.{ap}
 use mathlib.Core.List.{List}
 use Rattle.lists.specs.Parts.{back}
 use Rattle.table.specs.Columns.{waiting_wide}
-use borrow.Author.Rules.{rules}
 use Rattle.moves.proofs.rows.send.Goals as goal
 
 pub returns : goal.returns

@@ -4,7 +4,6 @@ use native.Mathlib.Omega.{arith}
 use lib.Seq.{length-take-le}
 use Rattle.table.specs.Columns.{waiting_wide}
 use Rattle.moves.specs.SlideLaws.{slid}
-use borrow.Author.Rules.{rules}
 use Rattle.moves.proofs.rows.slide.Goals as goal
 
 pub slice_bounds-open_up-end-2 : goal.slice_bounds-open_up-end-2

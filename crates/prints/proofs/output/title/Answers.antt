@@ -13,9 +13,9 @@ pub emit-requires : goal.emit-requires
 emit-requires c =
     let a = c.args in
     let p = c.put_title-n in
-    let room : p.result ≤ length a.out.now = omega (arith, p.ensures.upper_bound, c.requires.out_len) in record {
+    let room : p.result ≤ length a.out.now = omega (arith, p.ensures.upper_bound) in record {
       n_in_bounds = omega (arith, room, p.auto.out);
-      next = subst (λ (l : List ℕ). Next printed a.log.now l) (sym (put_front p.ensures.put room)) c.requires.next;
+      next = subst (λ (l : List ℕ). Next printed a.log.now l) (sym (put_front p.ensures.put room)) c.requires;
     }
 
 pub returns : goal.returns
@@ -23,5 +23,5 @@ returns c =
     let a = c.args in
     let p = c.put_title-n in
     let e = c.emit in
-    let room : p.result ≤ length a.out.now = omega (arith, p.ensures.upper_bound, c.requires.out_len) in
+    let room : p.result ≤ length a.out.now = omega (arith, p.ensures.upper_bound) in
     subst (λ (l : List ℕ). Emits e.result l a.log.now e.new.log) (put_front p.ensures.put room) e.ensures

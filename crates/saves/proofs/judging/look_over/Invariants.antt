@@ -1,5 +1,4 @@
 -- The tally after i events is that of the first i. Assumes nothing.
-use Prim.Native.Nat.{◌-◌, ◌≤◌}
 use mathlib.Core.Path.{◌≡◌}
 use lib.ListN.{length}
 use Rattle.salvage.specs.Fates.{last_at}
@@ -7,8 +6,4 @@ use Rattle.salvage.specs.Result.{kept_of, rows_of}
 use Rattle.saves.proofs.judging.look_over.Given as goal
 
 abbrev pub invariant-loop-i : goal.invariant-loop-i
-invariant-loop-i l =
-    (l.i ≤ l.n) × (l.last ≡ last_at l.version l.bytes l.i) × (l.kept ≡ length (kept_of l.version l.bytes l.i)) × (l.rows ≡ length (rows_of l.version l.bytes l.i))
-
-abbrev pub decreases-loop-i : goal.decreases-loop-i
-decreases-loop-i l = l.n - l.i
+invariant-loop-i l = (l.last ≡ last_at l.version l.bytes l.i) × (l.kept ≡ length (kept_of l.version l.bytes l.i)) × (l.rows ≡ length (rows_of l.version l.bytes l.i))
