@@ -2,10 +2,12 @@
 // crates.
 #![tactic(auto)]
 
-ghost use Rattle.std.specs.Prelude.{◌≡◌, map, ◌<◌, max};
+ghost use Rattle.std.specs.Prelude.{◌≡◌, map, ◌*◌, ◌≤◌, ◌<◌, max, length};
 ghost use Rattle.lists.specs.Words.{lowest};
+ghost use Rattle.rules.specs.Numbers.{ceiling};
+ghost use Rattle.table.specs.Columns.{guest_wide, waiting_wide, most_guests, most_capacity};
 ghost use Rattle.table.specs.View.{guests_of, waiting_of};
-ghost use Rattle.walks.specs.Walks.{ready_by_tag};
+ghost use Rattle.walks.specs.Walks.{Owned, Rising, LimitsFit, ready_by_tag};
 ghost use Rattle.index.specs.Index.{Indexed};
 
 use table::columns::WAITING_WIDE;
@@ -16,7 +18,9 @@ use walks::queue::Queue;
 // The time, now or later, from which the first of the waiting requests could go: wakes::soonest, with a look at the first row of each guest, which the index
 // tells. Where one could go now, no further guest is looked at.
 pub fn soonest(queue: Queue, rule: u64, index: &[u16]) -> u64
-    requires count_nonzero { 0 < queue.count }
+    requires count_nonzero { (0 < queue.count) × (queue.count ≤ most_capacity) × (queue.count * waiting_wide ≤ length queue.waiting.now) × (queue.known ≤ most_guests) × (queue.known * guest_wide ≤ length queue.guests.now) }
+    requires owned { Owned queue.waiting.now queue.count queue.known × Rising queue.waiting.now queue.count × LimitsFit queue.waiting.now queue.count }
+    requires time_le_ceiling { queue.time ≤ ceiling }
     requires indexed { Indexed queue.waiting.now index.now queue.count }
     ensures { result ≡ max queue.entry.time (lowest (map (ready_by_tag rule (guests_of queue.entry.guests.now queue.entry.known)) (waiting_of queue.entry.waiting.now queue.entry.count))) }
 {

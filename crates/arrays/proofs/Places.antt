@@ -16,6 +16,7 @@ use Rattle.lists.specs.WordsLaws.{both, below_at}
 use Rattle.lists.specs.Lines.{whether}
 use Rattle.lists.specs.RowsLaws.{length-rows, row-at}
 use Rattle.lists.specs.Stores.{stores, length-stores, stores_other, stores_at}
+use Rattle.lists.specs.Parts.{zeros}
 use Rattle.lists.specs.Tab.{length-tab, get_or-tab, is_tab, lt_or_le, remove_at, length-remove_at, get_or-remove_at-below, get_or-remove_at_from}
 use Rattle.rules.specs.Tables.{same}
 use Rattle.rules.specs.declared.Flight.{Flight}
@@ -81,17 +82,25 @@ unfolding phases_over
 length_over d l ps = length-tab (length ps) (λ i. whether (ltb i d) (get_or l i 0) (get_or ps i 0))
 
 -- zeros
-pub cleared_is : (d : ℕ) (ps : List ℕ) → d ≤ length ps → replicate d 0 ++ drop d ps ≡ phases_over d [] ps
-cleared_is d ps h =
-    let zeros : List ℕ = replicate d 0 in
-    let long : length zeros ≡ d = length-replicate d 0 in
+pub cleared_is : (d : ℕ) (ps : List ℕ) → zeros ps d ≡ phases_over d [] ps
+cleared_is d ps =
     sym
-    (over_is d [] ps (zeros ++ drop d ps) (omega (arith, length-append zeros (drop d ps), length-drop d ps, long, h))
-    (λ k m b. sym (get_or-append zeros (drop d ps) 0 k (omega (arith, long, b)) ∙ get_or-replicate d k 0 0 b))
+    (over_is d [] ps (zeros ps d) (length-stores (λ k. k) (λ k. 0) ps d)
+    (λ k m b. sym (stores_at (λ k. k) (λ k. 0) ps (λ i j h f. omega arith) d k b m))
+    (λ k m b. sym (stores_other (λ k. k) (λ k. 0) ps d k (λ j h f. omega arith))))
+
+-- zeros in place of the first d
+pub filled_is : (d : ℕ) (ps : List ℕ) → d ≤ length ps → replicate d 0 ++ drop d ps ≡ phases_over d [] ps
+filled_is d ps h =
+    let front : List ℕ = replicate d 0 in
+    let long : length front ≡ d = length-replicate d 0 in
+    sym
+    (over_is d [] ps (front ++ drop d ps) (omega (arith, length-append front (drop d ps), length-drop d ps, long, h))
+    (λ k m b. sym (get_or-append front (drop d ps) 0 k (omega (arith, long, b)) ∙ get_or-replicate d k 0 0 b))
     (λ k m b.
-    let e : k ≡ length zeros + (k - d) = omega (arith, long, b) in
+    let e : k ≡ length front + (k - d) = omega (arith, long, b) in
     let f : d + (k - d) ≡ k = omega (arith, b) in
-    ap (λ j. get_or ps j 0) (sym f) ∙ sym (get_or-drop d ps (k - d) 0) ∙ sym (get_or-append-add zeros (drop d ps) (k - d) 0) ∙ ap (λ j. get_or (zeros ++ drop d ps) j 0) (sym e)))
+    ap (λ j. get_or ps j 0) (sym f) ∙ sym (get_or-drop d ps (k - d) 0) ∙ sym (get_or-append-add front (drop d ps) (k - d) 0) ∙ ap (λ j. get_or (front ++ drop d ps) j 0) (sym e)))
 
 -- one more at the end
 pub put_is : (d p : ℕ) (l ps ws : List ℕ) → ws ≡ phases_over d l ps → d ≤ length ps → length l < d → set ws (length l) p ≡ phases_over d (l ++ (p ∷ [])) ps

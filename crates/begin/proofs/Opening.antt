@@ -1,6 +1,6 @@
 -- A header that opens is an opening that the gate accepts: with room for the largest settings the tables become the fresh one, and are known.
 -- Assumes nothing.
-use Prim.Native.Nat.{ℕ, ◌*◌, ◌≤◌}
+use Prim.Native.Nat.{ℕ, ◌*◌}
 use mathlib.Core.Path.{◌≡◌, refl, sym, ap, ◌∙◌, subst}
 use mathlib.Core.Bool.{true, false}
 use mathlib.Core.List.{List}
@@ -16,7 +16,7 @@ use Rattle.rules.specs.Refusals.{Verdict, accept, open_tests}
 use Rattle.rules.specs.Run.{fresh}
 use Rattle.rules.specs.declared.Outcome.{Outcome}
 use Rattle.rules.specs.declared.Answer.TheVariants.{Nothing}
-use Rattle.table.specs.Columns.{guest_wide, waiting_wide, flight_wide, settings_wide, guests_long, settings_long, waiting_long, flight_long}
+use Rattle.table.specs.Columns.{guest_wide, waiting_wide, flight_wide, settings_wide}
 use Rattle.table.specs.View.{settings_form, table_of, Handed, handed, Known}
 use Rattle.gate.specs.Promise.{numbers, handed_in, Seen, seen, open_short_in, opened_by_in, opening_in, opened_in, opened}
 use Rattle.gate.specs.Calls.{taken}
@@ -27,16 +27,10 @@ use Rattle.trace.specs.Header.{first_version, last_version, settings_at, setting
 use Rattle.trace.proofs.HeaderLaws.{Opens, opened as header-opens}
 use Rattle.headers.proofs.SettingsRows.{filled, length-filled, settings-rows}
 use Rattle.feed.specs.Promise.{Became}
+use Rattle.begin.specs.Begin.{Largest}
 use Rattle.begin.proofs.Begins.{Sizes, sizes}
 use Rattle.std.specs.Prelude.{Ok}
 use Rattle.trace.specs.declared.Opened.{Opened}
-
--- room for the largest settings: 64 guests, capacity 1,024, depth 64
-pub record Largest (ss gs ws fs : List ℕ) : Type 0 where
-  pub settings : settings_long ≤ length ss
-  pub guests : guests_long ≤ length gs
-  pub waiting : waiting_long ≤ length ws
-  pub flight : flight_long ≤ length fs
 
 module _ (bs old gs ws fs : List ℕ) (h : Opened) (e : header_of bs ≡ Ok h) (large : Largest old gs ws fs) where
   -- the settings as they were read from the header

@@ -3,15 +3,14 @@
 #![tactic(auto)]
 
 ghost use Rattle.std.specs.Prelude.{◌≡◌, ◌+◌, ◌*◌, ◌≤◌, ◌<◌, ◌^◌, length, take};
-ghost use Rattle.tables.specs.Tables.{AreKnown};
+ghost use Rattle.table.specs.View.{Known};
 ghost use Rattle.lines.specs.Line.{LINE};
 ghost use Rattle.lines.specs.Put.{Put};
 ghost use Rattle.trace.specs.Printed.{cut};
 ghost use Rattle.feed.specs.Promise.{Turned};
 
 use feed::events::feed;
-use rules::{Answer, Refusal};
-use tables::Tables;
+use rules::{Answer, Gate, Refusal};
 
 // The bytes of the buffer that is read into.
 pub const BUFFER_LONG: usize = 4096;
@@ -22,9 +21,10 @@ pub const LINES_LONG: usize = 5 * BUFFER_LONG;
 // More turns of a buffer than any run uses up, 2^48: nothing says that an input ends.
 pub const TURNS: u64 = 1 << 48;
 
-// How many bytes are left at the front after a turn, the number of the last event, and how many bytes of lines there are.
+// The gate after a turn, how many bytes are left at the front, the number of the last event, and how many bytes of lines there are.
 #[derive(Drop)]
 pub struct Turn {
+    pub gate: Gate,
     pub rest: usize,
     pub number: u64,
     pub bytes: usize,
@@ -36,18 +36,31 @@ pub fn take_in(
     buffer: &mut [u8],
     have: usize,
     number: u64,
-    tables: &mut Tables,
+    gate: Gate,
+    guests: &mut [u64],
+    waiting: &mut [u64],
+    flight: &mut [u64],
     out: &mut [u8],
 ) -> Turn
     requires have_in_bounds { (have ≤ length buffer.old) × (number + have < 2 ^ 64) × (5 * have ≤ length out.old) }
-    requires known { AreKnown tables.old }
-    ensures turned { Turned version (take have buffer.old) number tables.old (take result.rest buffer.new) result.number tables.new out.old result.bytes out.new }
+    requires known { Known gate guests.old waiting.old flight.old }
+    ensures turned { Turned version (take have buffer.old) number gate guests.old waiting.old flight.old (take result.rest buffer.new) result.number result.gate guests.new waiting.new flight.new out.old result.bytes out.new }
     ensures rest_bound { (result.rest < 14) × (result.rest ≤ length buffer.new) }
 {
-    let fed = feed(version, &buffer[..have], number, tables, out);
+    let fed = feed(
+        version,
+        &buffer[..have],
+        number,
+        gate,
+        guests,
+        waiting,
+        flight,
+        out,
+    );
     let taken = fed.events * 14;
     buffer.copy_within(taken..have, 0);
     Turn {
+        gate: fed.gate,
         rest: have - taken,
         number: number + fed.events as u64,
         bytes: fed.bytes,

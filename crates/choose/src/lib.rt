@@ -3,12 +3,13 @@
 // Gate and tables stay side by side for the reason that stands at the head of sends.
 #![tactic(auto)]
 
-ghost use Rattle.std.specs.Prelude.{◌&&◌, List, ℕ, ◌<◌, eqb, leb, if◌then◌else◌};
+ghost use Rattle.std.specs.Prelude.{◌&&◌, ◌*◌, ◌≤◌, ◌<◌, leb, length};
 ghost use Rattle.rules.specs.Numbers.{ceiling};
 ghost use Rattle.rules.specs.Tables.{Request, settings_of};
 ghost use Rattle.rules.specs.Choice.{due_at, choice};
+ghost use Rattle.table.specs.Columns.{guest_wide, waiting_wide, most_guests, most_capacity};
 ghost use Rattle.table.specs.View.{guests_of, waiting_of, Known};
-ghost use Rattle.walks.specs.Walks.{Picks};
+ghost use Rattle.walks.specs.Walks.{Picks, Owned, Rising, SharesFit};
 ghost use Rattle.index.specs.Index.{Beside, stands, Snug};
 ghost use Rattle.table.specs.Does.{Leaves, weight_phase, reservation_phase};
 
@@ -19,13 +20,15 @@ use table::gates;
 use table::gates::Decision;
 use walks::queue::Queue;
 
-// What each phase would send under a rule for limits: by the first rows of the guests where there is an index, and more rows than are as well walked.
-pub fn first_in_line(queue: Queue, rule: u64, index: &[u16]) -> Firsts
-    requires { Beside queue.waiting.now index.now queue.count }
-    ensures picks { let q = queue.entry in Picks (λ r. due_at (settings_of (guests_of q.guests.now q.known) r) q.time r && leb r.ltag (if eqb rule 2 then q.time else ceiling)) Request.rtag (waiting_of q.waiting.now q.count) result.due }
+// What each phase would send: by the first rows of the guests where there is an index, and more rows than are as well walked.
+pub fn first_in_line(queue: Queue, latest: u64, index: &[u16]) -> Firsts
+    requires count_le_most_capacity { (queue.count ≤ most_capacity) × (queue.count * waiting_wide ≤ length queue.waiting.now) × (queue.known ≤ most_guests) × (queue.known * guest_wide ≤ length queue.guests.now) }
+    requires owned { Owned queue.waiting.now queue.count queue.known × Rising queue.waiting.now queue.count × SharesFit queue.waiting.now queue.count }
+    requires time_le_ceiling { (queue.time ≤ ceiling) × (latest ≤ ceiling) }
+    requires beside { Beside queue.waiting.now index.now queue.count }
+    ensures picks { let q = queue.entry in Picks (λ r. due_at (settings_of (guests_of q.guests.now q.known) r) q.time r && leb r.ltag latest) Request.rtag (waiting_of q.waiting.now q.count) result.due }
     ensures picks_2 { let q = queue.entry in Picks (λ r. leb r.ltag q.time) Request.stag (waiting_of q.waiting.now q.count) result.open }
 {
-    let latest = latest_limit(rule, queue.time);
     if index::is_walked(index, queue.count) {
         return picks::first_in_line(queue, latest);
     }
@@ -75,7 +78,8 @@ fn by_reservation(
         known: gate.guests as usize,
         time: gate.time,
     };
-    let firsts = first_in_line(queue, gate.setup.rule, &index[..]);
+    let latest = latest_limit(gate.setup.rule, gate.time);
+    let firsts = first_in_line(queue, latest, &index[..]);
     let found = firsts.due;
     let spare = firsts.open;
     match found {

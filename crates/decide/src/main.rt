@@ -15,6 +15,7 @@ use headers::read_header;
 use port::Streams;
 use rules::Refusal;
 use stream::{End, ReadFailed};
+use table::columns::SETTINGS_LONG;
 use tables::Tables;
 use trace::Opened;
 
@@ -89,7 +90,17 @@ fn follow(
     requires first { First log.old (take have buffer.old) }
     ensures { Decided result log.new }
 {
-    let rest = begin::begin(buffer, have, opened, tables);
+    let mut settings = [0u64; SETTINGS_LONG];
+    let begun = begin::begin(
+        buffer,
+        have,
+        opened,
+        &mut settings,
+        &mut tables.guests,
+        &mut tables.waiting,
+        &mut tables.flight,
+    );
+    tables.gate = begun.gate;
     if !prints::output::title(out, streams, log) {
         return End::Unwritten;
     }
@@ -98,8 +109,11 @@ fn follow(
         ended,
         opened.version,
         buffer,
-        rest,
-        tables,
+        begun.rest,
+        tables.gate,
+        &mut tables.guests,
+        &mut tables.waiting,
+        &mut tables.flight,
         out,
         streams,
         log,

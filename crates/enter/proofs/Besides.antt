@@ -22,8 +22,10 @@ use Rattle.table.specs.View.{request_form, table_of, Known}
 use Rattle.table.specs.ViewLaws.{request_exact}
 use Rattle.table.specs.Does.{Lent}
 use Rattle.table.proofs.Facts.{facts, rows_ask}
+use Rattle.walks.specs.Walks.{Owned, Rising}
 use Rattle.walks.specs.Survey.{tag_of}
 use Rattle.shares.specs.Shares.{moved_tags}
+use Rattle.sends.proofs.Rising.{rising-rows}
 use Rattle.tags.specs.declared.Stamp.{Stamp}
 use Rattle.stamps.specs.Arrive.{request_of, Ready, Placeable, Placed}
 use Rattle.index.specs.Index.{Beside, Gains, Snug}
@@ -51,6 +53,14 @@ module _ (g : Gate) (gs ws fs : List ℕ) (k : Known g gs ws fs) where
       let r = rows_ask g gs ws fs k in
       let most = (facts g gs ws fs k).counts.guest-count.1 in
       ((r.0, r.1, omega arith), b)
+
+  -- what the look for the ends of the share tags asks
+  pub ends_ask : {ix : List ℕ} → Beside ws ix g.waiting
+      → ((g.waiting ≤ most_capacity) × (g.waiting * waiting_wide ≤ length ws) × (g.guests ≤ most_guests)) × ((Owned ws g.waiting g.guests × Rising ws g.waiting) × Beside ws ix g.waiting)
+  ends_ask b =
+      let r = rows_ask g gs ws fs k in
+      let f = facts g gs ws fs k in
+      ((r.0, r.1, f.counts.guest-count.1), ((f.owners, rising-rows g gs ws fs k), b))
 
   -- what the placing asks of a request that is ready
   pub last_asks : {vs ix : List ℕ} (a : Arriving) (now : ℕ) → Ready g gs ws fs a now → Beside vs ix g.waiting → (g.waiting < most_capacity) × (a.guest < most_guests) × Beside vs ix g.waiting

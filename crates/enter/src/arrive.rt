@@ -63,7 +63,7 @@ fn arrive_idle(
     if !stamp.fits() {
         return Err(Refusal::TagAboveCeiling);
     }
-    let span = ends(gate, &guests[..], &waiting[..], &index[..]);
+    let span = ends(&waiting[..], count, known, &index[..]);
     let least = span.least;
     let most = span.most;
     if CEILING < most + time - least {

@@ -1,9 +1,10 @@
 // What an arrival asks of the waiting rows, and the placing, with their index beside them. One of no numbers is none: then the rows are walked.
-ghost use Rattle.std.specs.Prelude.{◌≡◌, List, map, ℕ, ◌*◌, ◌≤◌, ◌<◌, length};
+ghost use Rattle.std.specs.Prelude.{◌≡◌, map, ◌*◌, ◌≤◌, ◌<◌, length};
 ghost use Rattle.lists.specs.Words.{lowest};
 ghost use Rattle.rules.specs.Tables.{Request};
 ghost use Rattle.table.specs.Columns.{waiting_wide, most_guests, most_capacity};
-ghost use Rattle.table.specs.View.{waiting_of, Known};
+ghost use Rattle.table.specs.View.{waiting_of};
+ghost use Rattle.walks.specs.Walks.{Owned, Rising};
 ghost use Rattle.walks.specs.Survey.{own_of, highest};
 ghost use Rattle.stamps.specs.Arrive.{Placeable, Placed};
 ghost use Rattle.index.specs.Index.{Beside};
@@ -11,7 +12,6 @@ ghost use Rattle.index.specs.Index.{Beside};
 use rules::{Arriving, Gate};
 use stamps::place;
 use tags::Stamp;
-use walks::queue::Queue;
 use walks::survey::{Own, Span};
 
 // What waits of a guest, beside a request of this id: along its own rows where there is an index.
@@ -27,22 +27,16 @@ pub fn own_rows(waiting: &[u64], count: usize, guest: u64, id: u64, index: &[u16
 }
 
 // The ends of the share tags waiting: by the first and the last row of each guest where there is an index, and more rows than are as well walked.
-pub fn ends(gate: Gate, guests: &[u64], waiting: &[u64], index: &[u16]) -> Span
-    requires known { (fs : List ℕ) × Known gate guests.now waiting.now fs }
-    requires beside { Beside waiting.now index.now gate.waiting }
-    ensures { let w = waiting_of waiting.now gate.waiting in (result.least ≡ lowest (map Request.stag w)) × (result.most ≡ highest (map Request.stag w)) }
+pub fn ends(waiting: &[u64], count: usize, known: usize, index: &[u16]) -> Span
+    requires count_le_most_capacity { (count ≤ most_capacity) × (count * waiting_wide ≤ length waiting.now) × (known ≤ most_guests) }
+    requires owned { Owned waiting.now count known × Rising waiting.now count }
+    requires beside { Beside waiting.now index.now count }
+    ensures { (result.least ≡ lowest (map Request.stag (waiting_of waiting.now count))) × (result.most ≡ highest (map Request.stag (waiting_of waiting.now count))) }
 {
-    let queue = Queue {
-        waiting,
-        count: gate.waiting as usize,
-        guests,
-        known: gate.guests as usize,
-        time: gate.time,
-    };
-    if index::is_walked(index, queue.count) {
-        return walks::survey::ends(queue);
+    if index::is_walked(index, count) {
+        return walks::survey::ends(waiting, count);
     }
-    spans::ends(queue, index)
+    spans::ends(waiting, count, known, index)
 }
 
 // The request is placed last among the waiting, and the index follows.

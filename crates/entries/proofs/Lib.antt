@@ -1,2 +1,3 @@
 pub mod AllRows
+pub mod ByForm
 pub mod RowTests

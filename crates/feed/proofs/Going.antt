@@ -19,9 +19,7 @@ use Rattle.trace.specs.Event.{event_of, events_of, whole, Read}
 use Rattle.trace.specs.Printed.{answered, answers_to, table_after, lines_from, lines, left}
 use Rattle.trace.proofs.RunLaws.{table_more, lines_more}
 use Rattle.trace.proofs.Runs.{run, table-run}
-use Rattle.tables.specs.Tables.{table_in, AreKnown}
-use Rattle.tables.specs.declared.Tables.{Tables}
-use Rattle.feed.specs.Promise.{Became, Becomes, Judged, Feeds, Turned}
+use Rattle.feed.specs.Promise.{Became, Judged, FedBy, Turned}
 
 -- the loop of `feed` after i events
 pub record Going (v : ℕ) (g₀ : Gate) (gs₀ ws₀ fs₀ bs : List ℕ) (number : ℕ) (out₀ : List ℕ) (i : ℕ) (g : Gate) (gs ws fs out : List ℕ) (at : ℕ) : Type 0 where
@@ -95,17 +93,17 @@ module _ (g₀ : Gate) (gs₀ ws₀ fs₀ : List ℕ) (k : Known g₀ gs₀ ws�
               (puts w.lines j.line);
         }
 
--- all whole events were judged, and what is left of the bytes stands apart
-pub turned : (t : Tables) → AreKnown t → (v : ℕ) (bs : List ℕ) (number : ℕ) (out : List ℕ) (t' : Tables) (out' : List ℕ) (events bytes : ℕ) → Feeds v bs number t t' out out' events bytes
-    → events ≡ whole bs → (rest : List ℕ) → rest ≡ drop (whole bs * 14) bs → (number' : ℕ) → number' ≡ number + whole bs
-    → Turned v bs number t rest number' t' out bytes out'
-unfolding lines left
-turned t known v bs number out t' out' events bytes f n rest p number' q =
-    let b = subst (λ (k : ℕ). Becomes (table_after (table_in t) (events_of v k bs)) t t') n f.became in
-    let s = run-shown t.gate t.guests t.waiting t.flight known (events_of v (whole bs) bs) t'.gate t'.guests t'.waiting t'.flight b.tables in
-    record {
-      place = λ i. record { version = v; bytes = p i; table = s i; number = q i };
-      became = b;
-      lines = subst (λ (k : ℕ). Put 0 (lines_from number (answers_to (table_in t) (events_of v k bs))) out bytes out') n f.lines;
-      room = f.room;
-    }
+    -- all whole events were judged, and what is left of the bytes stands apart
+    pub turned : (g : Gate) (gs ws fs out : List ℕ) (events bytes : ℕ) → FedBy v bs number g₀ gs₀ ws₀ fs₀ g gs ws fs out₀ out events bytes
+        → events ≡ whole bs → (rest : List ℕ) → rest ≡ drop (whole bs * 14) bs → (number' : ℕ) → number' ≡ number + whole bs
+        → Turned v bs number g₀ gs₀ ws₀ fs₀ rest number' g gs ws fs out₀ bytes out
+    unfolding lines left
+    turned g gs ws fs out events bytes f n rest p number' q =
+        let b = subst (λ (k : ℕ). Became (table_after t₀ (events_of v k bs)) gs₀ ws₀ fs₀ g gs ws fs) n f.became in
+        let s = run-shown (events_of v (whole bs) bs) g gs ws fs b.tables in
+        record {
+          place = λ i. record { version = v; bytes = p i; table = s i; number = q i };
+          became = b;
+          lines = subst (λ (k : ℕ). Put 0 (lines_from number (answers_to t₀ (events_of v k bs))) out₀ bytes out) n f.lines;
+          room = f.room;
+        }

@@ -4,25 +4,19 @@ use Rattle.rules.specs.Tables.{Table}
 use Rattle.rules.specs.declared.Gate.{Gate}
 use Rattle.table.specs.View.{table_of, Known}
 use Rattle.table.specs.Does.{written}
-use Rattle.tables.specs.declared.Tables.{Tables}
-use Rattle.tables.specs.Tables.{table_in}
 use Rattle.lines.specs.Line.{line_of, LINE}
 use Rattle.lines.specs.Put.{Put}
 use Rattle.trace.specs.Event.{events_of, whole, Read}
 use Rattle.trace.specs.Printed.{answered, answers_to, table_after, lines_from, Place, lines, left}
 
--- where the reading stands: the trace's version, the bytes that are left, the number of the last event, and the table that the program's tables show
-abbrev pub place_of : (version : ℕ) → List ℕ → (number : ℕ) → Tables → Place
-place_of v bs number t = record { version = v; bytes = bs; table = table_in t; number = number }
+-- where the reading stands: the trace's version, the bytes that are left, the table that the lent numbers show, and the number of the last event
+abbrev pub place_of : (version : ℕ) → List ℕ → ℕ → Gate → (gs ws fs : List ℕ) → Place
+place_of v bs number g gs ws fs = record { version = v; bytes = bs; table = table_of g gs ws fs; number = number }
 
 -- the lent numbers show the table u now, written over what they were, and are known again
 pub record Became (u : Table) (gs ws fs : List ℕ) (g' : Gate) (gs' ws' fs' : List ℕ) : Type 0 where
   pub tables : (g', gs', ws', fs') ≡ written gs ws fs u
   pub known : Known g' gs' ws' fs'
-
--- the same of the tables t that a program keeps, which are t' now
-abbrev pub Becomes : Table → (t t' : Tables) → Type 0
-Becomes u t t' = Became u t.guests t.waiting t.flight t'.gate t'.guests t'.waiting t'.flight
 
 -- one event e was judged, and its line stands in the buffer from `at` on
 pub record Judged (e : Read) (number : ℕ) (g : Gate) (gs ws fs : List ℕ) (g' : Gate) (gs' ws' fs' : List ℕ) (at : ℕ) (out : List ℕ) (next : ℕ) (out' : List ℕ) : Type 0 where
@@ -37,13 +31,9 @@ pub record FedBy (v : ℕ) (bs : List ℕ) (number : ℕ) (g : Gate) (gs ws fs :
   pub lines : Put 0 (lines_from number (answers_to (table_of g gs ws fs) (events_of v events bs))) out bytes out'
   pub room : bytes ≤ length out
 
--- the same of the tables t that a program keeps, which are t' now
-abbrev pub Feeds : (v : ℕ) (bs : List ℕ) (number : ℕ) (t t' : Tables) (out out' : List ℕ) (events bytes : ℕ) → Type 0
-Feeds v bs number t t' = FedBy v bs number t.gate t.guests t.waiting t.flight t'.gate t'.guests t'.waiting t'.flight
-
 -- all whole events of the bytes were judged: the lines are those of where the reading stood, and it stands where they leave it
-pub record Turned (v : ℕ) (bs : List ℕ) (number : ℕ) (t : Tables) (rest : List ℕ) (number' : ℕ) (t' : Tables) (out : List ℕ) (bytes : ℕ) (out' : List ℕ) : Type 0 where
-  pub place : place_of v rest number' t' ≡ left (place_of v bs number t)
-  pub became : Becomes (left (place_of v bs number t)).table t t'
-  pub lines : Put 0 (lines (place_of v bs number t)) out bytes out'
+pub record Turned (v : ℕ) (bs : List ℕ) (number : ℕ) (g : Gate) (gs ws fs : List ℕ) (rest : List ℕ) (number' : ℕ) (g' : Gate) (gs' ws' fs' out : List ℕ) (bytes : ℕ) (out' : List ℕ) : Type 0 where
+  pub place : place_of v rest number' g' gs' ws' fs' ≡ left (place_of v bs number g gs ws fs)
+  pub became : Became (left (place_of v bs number g gs ws fs)).table gs ws fs g' gs' ws' fs'
+  pub lines : Put 0 (lines (place_of v bs number g gs ws fs)) out bytes out'
   pub room : bytes ≤ length out

@@ -8,15 +8,13 @@ ghost use Rattle.windows.specs.Window.{spare, Window};
 ghost use Rattle.lines.specs.Line.{LINE};
 ghost use Rattle.trace.specs.Event.{event_of};
 ghost use Rattle.trace.specs.Printed.{answered};
-ghost use Rattle.tables.specs.Tables.{AreKnown};
-ghost use Rattle.feed.specs.Promise.{Judged, FedBy, Feeds};
+ghost use Rattle.feed.specs.Promise.{Judged, FedBy};
 
 use index::{INDEX_WIDE, MOST_WALKED};
 use rules::{Answer, Event, Gate, Refusal};
-use table::columns::{WAITING_LONG, WAITING_WIDE};
+use table::columns::WAITING_WIDE;
 use table::gates;
 use table::gates::Decision;
-use tables::Tables;
 use windows::WINDOW_LONG;
 
 // One event as it was read is entered into the tables and answered; a bad one is refused 14 and changes nothing. No line tells when to wake the gate,
@@ -121,18 +119,18 @@ fn one_in(
     )
 }
 
-// How many events a run had, and how many bytes of lines they gave.
+// The gate after a run of events, how many they were, and how many bytes of lines they gave.
 #[derive(Drop)]
 pub struct Fed {
+    pub gate: Gate,
     pub events: usize,
     pub bytes: usize,
 }
 
-// The same, with the gate after them, and where the table of the waiting requests stands in its window.
+// The same, and where the table of the waiting requests stands in its window.
 #[derive(Drop)]
 pub struct FedIn {
     pub fed: Fed,
-    pub gate: Gate,
     pub start: usize,
 }
 
@@ -153,7 +151,7 @@ fn feed_in(
     requires bytes_bound { number + length bytes.now < 2 ^ 64 }
     requires size_in_bounds { 0 < length index.old → spare * waiting_wide + size ≤ length window.old }
     requires by_index { (ws : List ℕ) × Window size 0 window.old ws × Known first guests.old ws flight.old × Beside ws index.old first.waiting × Snug first ws index.old }
-    ensures { (ws : List ℕ) → Window size 0 window.old ws → (vs : List ℕ) × Window size result.start window.new vs × FedBy version bytes.now number first guests.old ws flight.old result.gate guests.new vs flight.new out.old out.new result.fed.events result.fed.bytes }
+    ensures { (ws : List ℕ) → Window size 0 window.old ws → (vs : List ℕ) × Window size result.start window.new vs × FedBy version bytes.now number first guests.old ws flight.old result.fed.gate guests.new vs flight.new out.old out.new result.fed.events result.fed.bytes }
 {
     let n = (bytes.len() / 14).min(out.len() / 65);
     let mut gate = first;
@@ -181,71 +179,98 @@ fn feed_in(
         start += after.gone;
     }
     let fed = Fed {
+        gate,
         events: n,
         bytes: at,
     };
-    FedIn { fed, gate, start }
+    FedIn { fed, start }
 }
 
 // The same with no index, on the table as it is lent: so few wait that each event walks them.
-fn feed_walked(version: u64, bytes: &[u8], number: u64, tables: &mut Tables, out: &mut [u8]) -> Fed
-    requires known { AreKnown tables.old }
+fn feed_walked(
+    version: u64,
+    bytes: &[u8],
+    number: u64,
+    first: Gate,
+    guests: &mut [u64],
+    waiting: &mut [u64],
+    flight: &mut [u64],
+    out: &mut [u8],
+) -> Fed
+    requires known { Known first guests.old waiting.old flight.old }
     requires bytes_bound { number + length bytes.now < 2 ^ 64 }
-    ensures { Feeds version bytes.now number tables.old tables.new out.old out.new result.events result.bytes }
+    ensures { FedBy version bytes.now number first guests.old waiting.old flight.old result.gate guests.new waiting.new flight.new out.old out.new result.events result.bytes }
 {
+    let size = waiting.len();
     let made = feed_in(
         version,
         bytes,
         number,
-        tables.gate,
-        &mut tables.guests,
-        &mut tables.waiting,
-        WAITING_LONG,
-        &mut tables.flight,
+        first,
+        guests,
+        waiting,
+        size,
+        flight,
         out,
         &mut [],
     );
-    tables.gate = made.gate;
     made.fed
 }
 
 // The same with an index, on a copy of the table in a window; one walk of the rows builds it for all events.
-fn feed_beside(version: u64, bytes: &[u8], number: u64, tables: &mut Tables, out: &mut [u8]) -> Fed
-    requires known { AreKnown tables.old }
+fn feed_beside(
+    version: u64,
+    bytes: &[u8],
+    number: u64,
+    first: Gate,
+    guests: &mut [u64],
+    waiting: &mut [u64],
+    flight: &mut [u64],
+    out: &mut [u8],
+) -> Fed
+    requires known { Known first guests.old waiting.old flight.old }
     requires bytes_bound { number + length bytes.now < 2 ^ 64 }
-    ensures { Feeds version bytes.now number tables.old tables.new out.old out.new result.events result.bytes }
+    ensures { FedBy version bytes.now number first guests.old waiting.old flight.old result.gate guests.new waiting.new flight.new out.old out.new result.events result.bytes }
 {
-    let size = tables.gate.setup.capacity as usize * WAITING_WIDE;
-    let rows = tables.gate.waiting as usize;
+    let size = first.setup.capacity as usize * WAITING_WIDE;
+    let rows = first.waiting as usize;
     let mut window = [0u64; WINDOW_LONG];
     let mut index = [0u16; INDEX_WIDE];
-    windows::open(&tables.waiting, size, rows, &mut window, &mut index);
+    windows::open(waiting, size, rows, &mut window, &mut index);
     let made = feed_in(
         version,
         bytes,
         number,
-        tables.gate,
-        &mut tables.guests,
+        first,
+        guests,
         &mut window,
         size,
-        &mut tables.flight,
+        flight,
         out,
         &mut index,
     );
-    windows::close(&window, made.start, size, &mut tables.waiting);
-    tables.gate = made.gate;
+    windows::close(&window, made.start, size, waiting);
     made.fed
 }
 
 // Judges as many whole events of the bytes of a trace of this version as `out` has room for, the first of which has the number after `number`: with an index
 // of the waiting rows, unless so few wait that they are as well walked.
-pub fn feed(version: u64, bytes: &[u8], number: u64, tables: &mut Tables, out: &mut [u8]) -> Fed
-    requires known { AreKnown tables.old }
+pub fn feed(
+    version: u64,
+    bytes: &[u8],
+    number: u64,
+    first: Gate,
+    guests: &mut [u64],
+    waiting: &mut [u64],
+    flight: &mut [u64],
+    out: &mut [u8],
+) -> Fed
+    requires known { Known first guests.old waiting.old flight.old }
     requires bytes_bound { number + length bytes.now < 2 ^ 64 }
-    ensures { Feeds version bytes.now number tables.old tables.new out.old out.new result.events result.bytes }
+    ensures { FedBy version bytes.now number first guests.old waiting.old flight.old result.gate guests.new waiting.new flight.new out.old out.new result.events result.bytes }
 {
-    if tables.gate.waiting as usize <= MOST_WALKED {
-        return feed_walked(version, bytes, number, tables, out);
+    if first.waiting as usize <= MOST_WALKED {
+        return feed_walked(version, bytes, number, first, guests, waiting, flight, out);
     }
-    feed_beside(version, bytes, number, tables, out)
+    feed_beside(version, bytes, number, first, guests, waiting, flight, out)
 }

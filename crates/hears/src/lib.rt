@@ -22,7 +22,7 @@ use choose::first_in_line;
 use judge::Said;
 use lines::LINE_LONG;
 use rules::{Answer, Event, Gate, Phase, Refusal};
-use sends::{send_by_reservation, send_by_weight};
+use sends::{latest_limit, send_by_reservation, send_by_weight};
 use table::columns::WAITING_WIDE;
 use ties::{find_send, hear_plain, send_of};
 use walks::queue::Queue;
@@ -129,7 +129,8 @@ fn hear_choice(
         known: gate.guests as usize,
         time: gate.time,
     };
-    let firsts = first_in_line(queue, gate.setup.rule, &index[..]);
+    let latest = latest_limit(gate.setup.rule, gate.time);
+    let firsts = first_in_line(queue, latest, &index[..]);
     match (firsts.due, firsts.open) {
         (Some(place), _) => hear_send(
             gate,

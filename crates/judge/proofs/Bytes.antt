@@ -60,6 +60,11 @@ begins-short xs ls h = go (begins xs ls) refl
 
 -- A PRINTED LINE
 
+-- is not empty
+pub line_long : (n : ℕ) (a : Answer) → 0 < length (line_of n a)
+unfolding line_of
+line_long n a = rw (length-append (decimal_of n) (32 ∷ (answer_of a ++ (10 ∷ [])))) (omega arith)
+
 -- no byte of xs is b
 abbrev pub free : ℕ → List ℕ → Bool
 free b xs = all (λ x. not (eqb x b)) xs

@@ -1,9 +1,10 @@
 -- The header line, and what follows it: what the functions over a whole trace know at their ends. Assumes nothing.
-use Prim.Native.Nat.{ℕ}
+use Prim.Native.Nat.{ℕ, ◌≤◌}
 use mathlib.Core.Path.{◌≡◌, sym, ap, ◌∙◌}
 use mathlib.Core.Bool.{true, false}
 use mathlib.Core.List.{List}
-use lib.ListN.{length, drop}
+use native.Mathlib.Omega.{arith}
+use lib.ListN.{length, drop, length-append}
 use Rattle.lists.specs.Words.{if◌then◌else◌}
 use Rattle.rules.specs.Tables.{Table}
 use Rattle.rules.specs.Run.{fresh}
@@ -17,9 +18,13 @@ use Rattle.trace.proofs.HeaderLaws.{opened}
 use Rattle.judge.specs.Acceptable.{asked_from, asked_by, head_by, head_due}
 use Rattle.judge.specs.Judging.{begins, wrong_at, ended, judged_from, judged_of}
 use Rattle.judge.specs.declared.Judged.{Judged}
-use Rattle.judge.proofs.Bytes.{part, part-rest}
+use Rattle.judge.proofs.Bytes.{part, part-rest, begins_is}
 use Rattle.std.specs.Prelude.{Ok, Err}
 use Rattle.trace.specs.declared.Opened.{Opened}
+
+-- what begins with xs is at least as long
+pub begins_long : (xs ls : List ℕ) → begins xs ls ≡ true → length xs ≤ length ls
+begins_long xs ls e = omega (arith, ap length (begins_is xs ls e) ∙ length-append xs (drop (length xs) ls))
 
 module _ (bs ls : List ℕ) where
   -- what is judged, by the header

@@ -81,6 +81,11 @@ module _ (number : ℕ) (ls : List ℕ) (p : Phase) (t : Table) (place : ℕ) wh
   finds-first r tells true e = (tells, sym e)
   finds-first r tells false e = ap (sent_in p t) tells.one ∙ rw (sym e)
 
+  -- it is not
+  pub finds-later : (r : Told) → Tells number ls p t place (Some r) → leads t.waiting r.place ≡ false → Finds number ls p t place None
+  unfolding heard_in
+  finds-later r tells h = ap (sent_in p t) tells.one ∙ rw h
+
 module _ (g : Gate) (gs ws fs : List ℕ) (k : Known g gs ws fs) (place : ℕ) (p : Phase) (picks : Picks (ok_in p (table_of g gs ws fs)) (tag_in p) (table_of g gs ws fs).waiting (Some place))
     (number : ℕ) (ls : List ℕ) where
   abbrev t : Table

@@ -10,7 +10,7 @@ use Rattle.lists.specs.Words.{if◌then◌else◌}
 use Rattle.rules.specs.declared.Gate.{Gate}
 use Rattle.rules.specs.declared.Answer.{Answer}
 use Rattle.table.specs.View.{table_of, Known}
-use Rattle.std.specs.Prelude.{Some}
+use Rattle.std.specs.Prelude.{Some, None}
 use Rattle.std.specs.Bool.{then_some}
 use Rattle.std.specs.Cmp.Lexicographic.{pointwise}
 use Rattle.std.proofs.lemmas.Bool.Decides.{Decides-eqb}
@@ -38,12 +38,24 @@ strips_begins xs ls b e =
 
 module _ {xs ys zs : List ℕ} {r : ℕ} (p : Put 0 xs ys r zs) (room : r ≤ length ys) (ls : List ℕ) where
   -- what was put is held against the lines
-  pub put-begins : (b : Bool) → b ≡ pointwise eqb (take r zs) (take (length (take r zs)) ls) → b ≡ begins xs ls
-  put-begins b e = starts_begins (take r zs) ls b e ∙ ap (λ (l : List ℕ). begins l ls) (put_front p room)
+  pub put-begins : (b : Bool) → b ≡ begins (take r zs) ls → b ≡ begins xs ls
+  put-begins b e = e ∙ ap (λ (l : List ℕ). begins l ls) (put_front p room)
+
+  pub says_yes : (b : Bool) → b ≡ begins (take r zs) ls → b ≡ true → Some r ≡ size_if (begins xs ls) xs
+  says_yes b e h =
+      let size : r ≡ length xs = omega (arith, p.next) in
+      ap Some size ∙ ap (λ (c : Bool). size_if c xs) (sym h ∙ put-begins b e)
+
+  pub says_not : (b : Bool) → b ≡ begins (take r zs) ls → b ≡ false → None ≡ size_if (begins xs ls) xs
+  says_not b e h = ap (λ (c : Bool). size_if c xs) (sym h ∙ put-begins b e)
+
+  -- the lines start with it
+  pub put-starts : (b : Bool) → b ≡ pointwise eqb (take r zs) (take (length (take r zs)) ls) → b ≡ begins xs ls
+  put-starts b e = put-begins b (starts_begins (take r zs) ls b e)
 
   -- how long it is
   pub says_size : (b : Bool) → b ≡ pointwise eqb (take r zs) (take (length (take r zs)) ls) → then_some b r ≡ size_if (begins xs ls) xs
-  says_size b e = go b ∙ ap (λ (c : Bool). size_if c xs) (put-begins b e)
+  says_size b e = go b ∙ ap (λ (c : Bool). size_if c xs) (put-starts b e)
     where
       go : (c : Bool) → then_some c r ≡ size_if c xs
       go true = let size : r ≡ length xs = omega (arith, p.next) in ap Some size

@@ -190,6 +190,10 @@ pub size_none : (b : Bool) (xs : List ℕ) → None ≡ size_if b xs → b ≡ f
 size_none true xs e = absurd (none-some (length xs) e)
 size_none false xs e = refl
 
+-- so it is of a printed line
+pub size_zero : (b : Bool) (number : ℕ) (a : Answer) → size_if b (line_of number a) ≡ None → b ≡ false
+size_zero b number a e = size_none b (line_of number a) (sym e)
+
 pub size-some : (b : Bool) (xs : List ℕ) (long : ℕ) → Some long ≡ size_if b xs → (b ≡ true) × (long ≡ length xs)
 size-some true xs long e = (refl, same_Some long (length xs) e)
 size-some false xs long e = absurd (none-some long (sym e))

@@ -14,6 +14,7 @@ use judge::Judged;
 use lines::LINE_LONG;
 use replies::five_of;
 use rules::{Answer, Refusal};
+use table::columns::SETTINGS_LONG;
 use tables::Tables;
 use trace::Opened;
 
@@ -87,7 +88,15 @@ fn judge_opened(
             refusal: 0,
         };
     };
-    open_tables(trace, opened, tables);
+    let mut settings = [0u64; SETTINGS_LONG];
+    tables.gate = open_tables(
+        trace,
+        opened,
+        &mut settings,
+        &mut tables.guests,
+        &mut tables.waiting,
+        &mut tables.flight,
+    );
     let at = body(opened.version, opened.guests as usize);
     events::judge_events(opened.version, &trace[at..], tables, rest, text)
 }

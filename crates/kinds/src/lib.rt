@@ -1,55 +1,34 @@
-// One kind of tag of one guest: how far apart its tags stand, where a tag may stand, and what the next number is. Functions for this repository's own crates.
+// One kind of tag of one guest: how far apart its tags stand, where a tag may stand, and what the next number is. A kind is told by the column of its setting:
+// RESERVATION, LIMIT or SHARES; its tags and its next numbers stand in the same order. Functions for this repository's own crates.
 #![tactic(auto)]
 
 ghost use Rattle.std.specs.Prelude.{◌≡◌, ◌*◌, ◌≤◌, length};
 ghost use Rattle.lists.specs.Words.{below};
 ghost use Rattle.table.specs.Columns.{SHARES, guest_wide, most_guests};
 ghost use Rattle.entries.specs.Kinds.{passes, ends, gap_of, near_of, ends_at};
-ghost use Rattle.kinds.specs.Kind.{column_of};
 
-use table::columns::{GUEST_WIDE, LIMIT, MOST_GUESTS, RESERVATION, RNEXT, SHARES};
+use table::columns::{GUEST_WIDE, LIMIT, MOST_GUESTS, RESERVATION, RNEXT};
 use tags::{CEILING, Down, Rounding, Up};
 
 // The most that an idle guest's next number may be: the ceiling plus 64,000,000,000.
 const IDLE: u64 = CEILING + 64000000000;
 
-// A kind of tag.
-#[derive(Clone, Copy)]
-pub enum Kind {
-    Reservation,
-    Limit,
-    Shares,
-}
-
-// The column of a kind's setting; its tags and its next numbers stand in the same order.
-pub fn column_of(kind: Kind) -> usize
-    ensures { (result ≡ column_of kind) × (result ≤ SHARES) }
-{
-    match kind {
-        Kind::Reservation => RESERVATION,
-        Kind::Limit => LIMIT,
-        Kind::Shares => SHARES,
-    }
-}
-
 // How far apart the tags of a kind stand at cost 1, by the guest's setting of that kind; 0 where the guest lacks it.
-pub fn gap_of(kind: Kind, n: u64) -> u64
-    ensures { result ≡ gap_of (column_of kind) n }
+pub fn gap_of(kind: usize, n: u64) -> u64
+    ensures { result ≡ gap_of kind n }
 {
-    match kind {
-        Kind::Limit => Up::spacing(n),
-        Kind::Reservation | Kind::Shares => Down::spacing(n),
+    if kind == LIMIT {
+        Up::spacing(n)
+    } else {
+        Down::spacing(n)
     }
 }
 
 // What the next tag of a kind keeps of the distance that the next number keeps: all of it, but reservation tags have only not to fall.
-pub fn near_of(kind: Kind, distance: u64) -> u64
-    ensures { result ≡ near_of (column_of kind) distance }
+pub fn near_of(kind: usize, distance: u64) -> u64
+    ensures { result ≡ near_of kind distance }
 {
-    match kind {
-        Kind::Reservation => 0,
-        Kind::Limit | Kind::Shares => distance,
-    }
+    if kind == RESERVATION { 0 } else { distance }
 }
 
 // A tag may stand where the one before it asks for at least `low`; of a kind that the guest lacks it is 0.
@@ -74,15 +53,14 @@ fn is_end(setting: u64, floor: u64, next: u64) -> bool
 }
 
 // The next number of every guest, of one kind, is right.
-pub fn all_end(guests: &[u64], known: usize, kind: Kind, floors: &[u64; MOST_GUESTS]) -> bool
-    requires { (known ≤ most_guests) × (known * guest_wide ≤ length guests.now) }
-    ensures { result ≡ below known (ends_at guests.now (column_of kind) floors.now) }
+pub fn all_end(guests: &[u64], known: usize, kind: usize, floors: &[u64; MOST_GUESTS]) -> bool
+    requires { (known ≤ most_guests) × (known * guest_wide ≤ length guests.now) × (kind ≤ SHARES) }
+    ensures { result ≡ below known (ends_at guests.now kind floors.now) }
 {
-    let column = column_of(kind);
     for g in 0..known {
         let from = g * GUEST_WIDE;
-        let setting = guests[from + column];
-        let next = guests[from + (RNEXT + column)];
+        let setting = guests[from + kind];
+        let next = guests[from + (RNEXT + kind)];
         if !is_end(setting, floors[g], next) {
             return false;
         }

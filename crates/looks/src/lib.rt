@@ -3,11 +3,11 @@
 
 ghost use Rattle.std.specs.Prelude.{◌≡◌, ℕ, ◌+◌, ◌*◌, ◌<◌, ◌≤◌, ◌&&◌, ltb, length, nat_le, nat_lt, slice_index, if◌then◌else◌};
 ghost use Rattle.rules.specs.Numbers.{ceiling};
-ghost use Rattle.table.specs.Columns.{RESERVATION, guest_wide, RTAG, LTAG, STAG, waiting_wide, most_guests, guest_at};
-ghost use Rattle.walks.specs.Walks.{Counts};
+ghost use Rattle.table.specs.Columns.{RESERVATION, GUEST, guest_wide, RTAG, LTAG, STAG, waiting_wide, most_guests, guest_at};
+ghost use Rattle.walks.specs.Walks.{Owned, Counts};
 ghost use Rattle.looks.specs.InLine.{Passed};
 
-use table::columns::{GUEST, GUEST_WIDE, LTAG, RESERVATION, RTAG, STAG, WAITING_WIDE};
+use table::columns::{GUEST, GUEST_WIDE, LTAG, RESERVATION, RTAG, STAG};
 use tags::PAST;
 use walks::queue::Queue;
 
@@ -59,13 +59,13 @@ pub fn open_tag(waiting: &[u64], at: usize, time: u64) -> u64
 }
 
 // Before the first row: nothing, with bounds that each tag which counts is below. The first one is one above the time, so that one test says due and smaller.
-pub fn nothing_yet(queue: Queue) -> Best
-    ensures { let q = queue.entry in result ≡ record { first = q.count * waiting_wide; soonest = q.time + 1; spare = q.count * waiting_wide; smallest = ceiling + 1 } }
+pub fn nothing_yet(used: usize, time: u64) -> Best
+    requires { time ≤ ceiling }
+    ensures { result ≡ record { first = used; soonest = time + 1; spare = used; smallest = ceiling + 1 } }
 {
-    let used = queue.count * WAITING_WIDE;
     Best {
         first: used,
-        soonest: queue.time + 1,
+        soonest: time + 1,
         spare: used,
         smallest: PAST,
     }
@@ -74,9 +74,9 @@ pub fn nothing_yet(queue: Queue) -> Best
 // Looks at the row that begins at `at`, for both phases. `latest` is the latest limit tag that the reservation phase lets pass: rules 1 and 2 differ in
 // nothing else.
 pub fn look(queue: Queue, at: usize, latest: u64, best: Best) -> Best
-    requires begins { (row : ℕ) × (row < queue.count) × (at ≡ row * waiting_wide) }
-    requires latest_le_ceiling { latest ≤ ceiling }
-    ensures { let q = queue.entry in (row : ℕ) → at ≡ row * waiting_wide → row < q.count → Passed q.guests.now q.waiting.now q.known q.count q.time latest row best → Passed q.guests.now q.waiting.now q.known q.count q.time latest (row + 1) result }
+    requires waiting_wide_in_bounds { (at + waiting_wide ≤ length queue.waiting.now) × (slice_index queue.waiting.now (at + GUEST) * guest_wide + guest_wide ≤ length queue.guests.now) × (slice_index queue.waiting.now (at + GUEST) ≤ most_guests) }
+    requires time_le_ceiling { (queue.time ≤ ceiling) × (latest ≤ ceiling) }
+    ensures { let q = queue.entry in (known count row : ℕ) → at ≡ row * waiting_wide → row < count → Owned q.waiting.now count known → Passed q.guests.now q.waiting.now known count q.time latest row best → Passed q.guests.now q.waiting.now known count q.time latest (row + 1) result }
 {
     let guest = queue.waiting[at + GUEST] as usize;
     let mut first = best.first;

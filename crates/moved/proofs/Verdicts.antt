@@ -20,10 +20,12 @@ use Rattle.trace.specs.Header.{body, header_tests_for, header_by, header_for}
 use Rattle.trace.specs.Answers.{event_bytes, reads_of}
 use Rattle.trace.proofs.HeaderLaws.{opened_for}
 use Rattle.moved.specs.Result.{moved_to}
-use Rattle.moved.specs.Moves.{bad_in, cut_in, reads_in, plain, body_tests, move_tests, event_in, event_number, event_at, moved_shown, refused_by, room_for, answer_by, room_by}
-use Rattle.moved.specs.Judging.{Headed}
+use Rattle.moved.specs.Moves.{first_that, is_bad, is_dear, bad_in, dear_in, cut_in, reads_in, plain, body_tests, move_tests, event_in, event_number, event_at, moved_shown, refused_by, room_for, answer_by, room_by}
+use Rattle.moved.specs.Judging.{Surveyed as Surveys, Headed}
 use Rattle.moved.specs.declared.Stopped.{Stopped}
-use Rattle.std.specs.Prelude.{Ok, Err}
+use Rattle.std.specs.Prelude.{Ok, Err, Option}
+use Rattle.std.specs.declared.num.NonZeroU64.{NonZeroU64}
+use Rattle.trace.specs.Event.{Read}
 use Rattle.trace.specs.declared.Opened.{Opened}
 
 -- TESTS BEHIND TESTS
@@ -109,6 +111,27 @@ rest_is v n r bs h at e =
     take_all (length bs - at) (drop at bs) (omega (arith, length-drop at bs))
     ∙ ap (λ (k : ℕ). drop k bs) e
     ∙ (λ i. drop (body (h.version_is i) (h.guests_is i)) bs)
+
+-- the events were looked at: the first bad one, and where there is none, the first arrival of another cost; 0 where none is bad, or of another cost
+pub record Surveyed (rs : List Read) (bad dear : ℕ) : Type 0 where
+  pub bad_is : bad ≡ first_that is_bad 0 rs
+  pub dear_is : bad ≡ 0 → dear ≡ first_that is_dear 0 rs
+
+-- a survey that finds none bad tells this
+pub surveyed_good : (rs : List Read) (dear : Option NonZeroU64) → Surveys rs (Ok dear) → Surveyed rs 0 (event_number dear)
+surveyed_good rs dear s = record { bad_is = sym s.0; dear_is = λ _. s.1 }
+
+-- and so does one that is refused
+pub surveyed_bad : (rs : List Read) (s : Stopped) (dear : ℕ) → Surveys rs (Err s) → Surveyed rs (event_number s.event) dear
+surveyed_bad rs s dear x = record { bad_is = x.2; dear_is = λ z. absurd (omega (arith, x.1, z)) }
+
+-- what a survey of them says
+module _ (v n r : ℕ) (bs : List ℕ) (h : Headed v n r bs) (at : ℕ) (e : at ≡ body v n) (bad dear : ℕ) (s : Surveyed (reads_of v (take (length bs - at) (drop at bs))) bad dear) where
+  pub bad_is : bad ≡ bad_in bs
+  bad_is = s.bad_is ∙ (λ i. first_that is_bad 0 (reads_of (h.version_is i) (rest_is v n r bs h at e i)))
+
+  pub dear_is : bad ≡ 0 → dear ≡ dear_in bs
+  dear_is z = s.dear_is z ∙ (λ i. first_that is_dear 0 (reads_of (h.version_is i) (rest_is v n r bs h at e i)))
 
 -- the events, as they are read from there
 module _ (v n r : ℕ) (bs : List ℕ) (h : Headed v n r bs) (at : ℕ) (e : at ≡ body v n) where

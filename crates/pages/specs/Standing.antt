@@ -7,7 +7,7 @@ use Rattle.table.specs.View.{Known}
 use Rattle.book.specs.Page.{Page}
 use Rattle.book.specs.Balance.{Balanced}
 use Rattle.tally.specs.Columns.{ARRIVALS, COMPLETIONS, RESERVED, WEIGHED, figures_wide, figure_at}
-use Rattle.tally.specs.Kept.{figures_of, Kept}
+use Rattle.tally.specs.Kept.{figures_of, page_of, Kept}
 use Rattle.port.specs.Tape.{Tape, Holds}
 use Rattle.stream.specs.Outcome.{MOST, May, Ran, Last}
 use Rattle.stream.specs.declared.End.{End}
@@ -20,6 +20,10 @@ Listed end n = Ran sheet_of MOST end n
 -- the most bytes of a guest's line: eleven numbers of twenty digits, ten spaces, byte 10
 abbrev pub SHEETLINE : ℕ
 SHEETLINE = 231
+
+-- where the reading stands: the trace's version, the bytes that are left, and the page that the lent numbers show
+abbrev pub stand_of : (version : ℕ) → List ℕ → Gate → (gs ws fs bk fg : List ℕ) → Stand
+stand_of v bs g gs ws fs bk fg = record { version = v; bytes = bs; page = page_of g gs ws fs bk fg }
 
 -- the lent numbers are known, after at most n events
 pub record Firm (n : ℕ) (g : Gate) (gs ws fs bk fg : List ℕ) : Type 0 where

@@ -10,10 +10,17 @@ use native.Mathlib.Numerals.{add-one}
 use native.Mathlib.Omega.{arith}
 use lib.ListN.{length, get_or, set, length-set, replicate, length-replicate, get_or-replicate}
 use lib.Seq.{get_or-set_same, get_or-set_other}
+use lib.Dec.{eqb}
 use borrow.Author.Tests.{eq-eqb, ne_eqb}
 use Rattle.lists.specs.Tab.{lt_or_le, eq_or_not}
+use Rattle.lists.specs.Lines.{whether}
 use Rattle.table.specs.Columns.{most_depth, most_capacity}
-use Rattle.pairs.specs.Chains.{last_before, bucket_at}
+use Rattle.pairs.specs.Names.{bucket_of}
+
+-- 1 + the largest place before i whose bucket is b, or 0
+unfoldable pub last_before : (ℕ → ℕ) → ℕ → ℕ → ℕ
+last_before at b zero = zero
+last_before at b (suc i) = whether (eqb (at i) b) (suc i) (last_before at b i)
 
 -- of two different numbers one is below the other
 other : (k j : ℕ) → (k ≡ j → ⊥) → (k < j) ⊎ (j < k)
@@ -102,8 +109,9 @@ linked-next at heads links i b v u s l m e f g =
 
 -- A WALK along the chain of place i: `next` is 1 + the place to look at, or 0
 module _ (guest id : ℕ → ℕ) where
-  abbrev at : ℕ → ℕ
-  at = bucket_at guest id
+  -- the bucket of place k
+  abbrev pub bucket_at : ℕ → ℕ
+  bucket_at k = bucket_of (guest k) (id k)
 
   -- no two different places before n have one name
   abbrev pub Apart : ℕ → Type 0
@@ -112,36 +120,36 @@ module _ (guest id : ℕ → ℕ) where
   -- where a walk from place i to the places of its bucket stands: every place of the name of i from `next` on was passed
   pub record Passed (i next : ℕ) : Type 0 where
     pub low : next ≤ i
-    pub here : (k : ℕ) → next ≡ suc k → at k ≡ at i
+    pub here : (k : ℕ) → next ≡ suc k → bucket_at k ≡ bucket_at i
     pub differ : (k : ℕ) → next ≤ k → k < i → guest k ≡ guest i → id k ≡ id i → ⊥
 
   -- one name has one bucket
-  pub same_bucket : (k i : ℕ) → guest k ≡ guest i → id k ≡ id i → at k ≡ at i
+  pub same_bucket : (k i : ℕ) → guest k ≡ guest i → id k ≡ id i → bucket_at k ≡ bucket_at i
   same_bucket k i e f = rw (e, f)
 
   -- it starts at the latest place of the bucket
-  pub passed_start : (i next : ℕ) → next ≡ last_before at (at i) i → Passed i next
+  pub passed_start : (i next : ℕ) → next ≡ last_before bucket_at (bucket_at i) i → Passed i next
   passed_start i next e =
       record {
-        low = omega (arith, last_le at (at i) i);
-        here = λ k q. last_is at (at i) i k (sym e ∙ q);
-        differ = λ k h l g d. last_none at (at i) i k (omega arith) l (same_bucket k i g d);
+        low = omega (arith, last_le bucket_at (bucket_at i) i);
+        here = λ k q. last_is bucket_at (bucket_at i) i k (sym e ∙ q);
+        differ = λ k h l g d. last_none bucket_at (bucket_at i) i k (omega arith) l (same_bucket k i g d);
       }
 
   -- a place of another name is passed
-  pub passed-next : (i next j more : ℕ) → Passed i next → next ≡ suc j → (guest j ≡ guest i → id j ≡ id i → ⊥) → more ≡ last_before at (at j) j → Passed i more
+  pub passed-next : (i next j more : ℕ) → Passed i next → next ≡ suc j → (guest j ≡ guest i → id j ≡ id i → ⊥) → more ≡ last_before bucket_at (bucket_at j) j → Passed i more
   passed-next i next j more s q apart e =
-      let le = last_le at (at j) j in
+      let le = last_le bucket_at (bucket_at j) j in
       let low : next ≤ i = s.low in
       record {
         low = omega arith;
-        here = λ k r. last_is at (at j) j k (sym e ∙ r) ∙ s.here j q;
+        here = λ k r. last_is bucket_at (bucket_at j) j k (sym e ∙ r) ∙ s.here j q;
         differ = λ k h l g d.
             ⊎_elim
             (λ z. apart (ap guest (sym z) ∙ g) (ap id (sym z) ∙ d))
             (λ z.
             ⊎_elim
-            (λ m. last_none at (at j) j k (omega arith) m (same_bucket k i g d ∙ sym (s.here j q)))
+            (λ m. last_none bucket_at (bucket_at j) j k (omega arith) m (same_bucket k i g d ∙ sym (s.here j q)))
             (λ m. s.differ k (omega arith) l g d)
             (other k j z))
             (eq_or_not k j);
@@ -154,6 +162,10 @@ module _ (guest id : ℕ → ℕ) where
       (λ z. f k (omega arith) (rw z at g) (rw z at q))
       (λ z. d a k (omega arith) m g q)
       (eq_or_not a i)
+
+  -- so it is at the walk's end
+  pub passed-end : (i next : ℕ) → Passed i next → next ≤ 0 → Apart i → Apart (i + 1)
+  passed-end i next s e d = apart_next i d (λ k l. s.differ k (omega arith) l)
 
 -- FEW requests: marks of the buckets that earlier places are of
 

@@ -10,7 +10,7 @@ use lib.ListN.{length, get_or, length-append, length-map, get_or-append, get_or-
 use lib.Seq.{get_or-append-add}
 use borrow.Author.Tests.{eq-eqb, eqb-true, lt-ltb, le-ltb}
 use Rattle.lists.specs.Words.{below}
-use Rattle.lists.specs.WordsLaws.{join, place_not, below_at, at-below}
+use Rattle.lists.specs.WordsLaws.{join, both, place_not, below_at, at-below}
 use Rattle.lists.specs.Tab.{lt_or_le}
 use Rattle.lists.specs.RowsLaws.{row-at, length-rows}
 use Rattle.rules.specs.Tables.{name, same, lacks}
@@ -37,6 +37,10 @@ not_both a b c d h = go (eqb a b) refl (eqb c d) refl
 -- two names that a test finds different
 pub both_differ : (a b c d : ℕ) → (eqb a b && eqb c d) ≡ false → a ≡ b → c ≡ d → ⊥
 both_differ a b c d h e f = false≢true (sym h ∙ join (eq-eqb a b e) (eq-eqb c d f))
+
+-- and two that it finds alike
+pub both_same : (a b c d : ℕ) → (eqb a b && eqb c d) ≡ true → (a ≡ b) × (c ≡ d)
+both_same a b c d h = let (e, f) = both (eqb a b) (eqb c d) h in (eqb-true a b e, eqb-true c d f)
 
 -- not one guest and one id
 same_not : (a b : Flight) → (a.guest ≡ b.guest → a.id ≡ b.id → ⊥) → not (same a b) ≡ true

@@ -5,7 +5,6 @@ ghost use Rattle.std.specs.Prelude.{◌≡◌, ◌+◌, ◌<◌};
 ghost use Rattle.lists.specs.Words.{below};
 ghost use Rattle.rules.specs.Sound.{distinct};
 ghost use Rattle.pairs.specs.Names.{Rooms, names_of, part_at, other_at, bucket_of};
-ghost use Rattle.pairs.specs.Chains.{bucket_at, Led};
 
 use table::columns::{FLIGHT_WIDE, GUEST, ID, MOST_CAPACITY, MOST_DEPTH, WAITING_WIDE};
 
@@ -82,32 +81,6 @@ fn few_once(waiting: &[u64], count: usize, flight: &[u64], sent: usize) -> bool
     true
 }
 
-// No earlier request has the name of request k: a walk along the earlier ones of its bucket only, from `first` on, as the links lead.
-fn is_new_along(
-    waiting: &[u64],
-    count: usize,
-    flight: &[u64],
-    sent: usize,
-    links: &[u16; PLACES],
-    first: u16,
-    k: usize,
-) -> bool
-    requires rooms { Rooms waiting.now count flight.now sent × (k < count + sent) }
-    requires led { Led (bucket_at (part_at waiting.now count flight.now 0) (part_at waiting.now count flight.now 1)) links.now k first }
-    ensures { result ≡ below k (other_at waiting.now count flight.now k) }
-{
-    let name = name_at(waiting, count, flight, sent, k);
-    let mut next = usize::from(first);
-    while 0 < next {
-        let j = next - 1;
-        if name_at(waiting, count, flight, sent, j) == name {
-            return false;
-        }
-        next = usize::from(links[j]);
-    }
-    true
-}
-
 // No request has the name of an earlier one, where many are. Each is held beside the earlier ones of its bucket only: heads[b] is 1 + the latest place
 // of bucket b, links[k] 1 + the one before place k in its bucket.
 fn many_once(waiting: &[u64], count: usize, flight: &[u64], sent: usize) -> bool
@@ -117,16 +90,25 @@ fn many_once(waiting: &[u64], count: usize, flight: &[u64], sent: usize) -> bool
     // 0 stands for no place: an Option<u16> would take twice the memory, and this test half as long again.
     let mut heads = [0u16; 4096];
     let mut links = [0u16; PLACES];
-    for i in 0..count + sent {
-        let b = bucket(name_at(waiting, count, flight, sent, i));
+    let total = count + sent;
+    let mut once = true;
+    'pairs: for i in 0..total {
+        let name = name_at(waiting, count, flight, sent, i);
+        let b = bucket(name);
         let first = heads[b];
-        if !is_new_along(waiting, count, flight, sent, &links, first, i) {
-            return false;
+        let mut next = usize::from(first);
+        while 0 < next {
+            let j = next - 1;
+            if name_at(waiting, count, flight, sent, j) == name {
+                once = false;
+                break 'pairs;
+            }
+            next = usize::from(links[j]);
         }
         links[i] = first;
         heads[b] = (i + 1) as u16;
     }
-    true
+    once
 }
 
 // No request has the name of an earlier one.

@@ -1,13 +1,13 @@
 // The walk of the choice: the request that each phase would send. It reads and changes nothing. Functions for this repository's own crates.
 #![tactic(auto)]
 
-ghost use Rattle.std.specs.Prelude.{◌≡◌, ◌&&◌, ◌≤◌, ◌<◌, leb, length};
+ghost use Rattle.std.specs.Prelude.{◌≡◌, ◌&&◌, ◌*◌, ◌≤◌, ◌<◌, leb, length};
 ghost use Rattle.rules.specs.Numbers.{ceiling};
 ghost use Rattle.rules.specs.Tables.{Request, settings_of};
 ghost use Rattle.rules.specs.Choice.{due_at};
-ghost use Rattle.table.specs.Columns.{most_guests};
+ghost use Rattle.table.specs.Columns.{guest_wide, waiting_wide, most_guests, most_capacity};
 ghost use Rattle.table.specs.View.{guests_of, waiting_of};
-ghost use Rattle.walks.specs.Walks.{Picks, place_in};
+ghost use Rattle.walks.specs.Walks.{Picks, Owned, Rising, SharesFit, place_in};
 ghost use Rattle.walks.specs.Unseen.{bit_of, Marked};
 ghost use Rattle.looks.specs.InLine.{Passed};
 ghost use Rattle.picks.specs.Collected.{Collected};
@@ -28,10 +28,12 @@ pub struct Firsts {
 
 // Looks at every row.
 fn every(queue: Queue, latest: u64) -> Best
-    requires { latest ≤ ceiling }
+    requires count_le_most_capacity { (queue.count ≤ most_capacity) × (queue.count * waiting_wide ≤ length queue.waiting.now) × (queue.known ≤ most_guests) × (queue.known * guest_wide ≤ length queue.guests.now) }
+    requires owned { Owned queue.waiting.now queue.count queue.known }
+    requires time_le_ceiling { (queue.time ≤ ceiling) × (latest ≤ ceiling) }
     ensures { let q = queue.entry in Passed q.guests.now q.waiting.now q.known q.count q.time latest q.count result }
 {
-    let mut best = nothing_yet(queue);
+    let mut best = nothing_yet(queue.count * WAITING_WIDE, queue.time);
     for place in 0..queue.count {
         best = look(queue, place * WAITING_WIDE, latest, best);
     }
@@ -57,7 +59,8 @@ fn with_bit(seen: u64, guest: u64) -> u64
 // Collects where the first row of each guest begins, and how many these are. It writes down every row and keeps what stood first, so that nothing branches
 // on whether a guest was seen; and it ends, and reads no further, once every guest was.
 fn collect(queue: Queue, rows: &mut [u16]) -> usize
-    requires { queue.known ≤ length rows.old }
+    requires count_le_most_capacity { (queue.count ≤ most_capacity) × (queue.count * waiting_wide ≤ length queue.waiting.now) × (queue.known ≤ most_guests) × (queue.known ≤ length rows.old) }
+    requires owned { Owned queue.waiting.now queue.count queue.known }
     ensures { (result ≤ queue.entry.known) × Collected queue.entry.waiting.now rows.new result queue.entry.count }
 {
     let mut seen: u64 = 0;
@@ -78,11 +81,13 @@ fn collect(queue: Queue, rows: &mut [u16]) -> usize
 
 // Looks at the rows that are collected: within a guest no later tag is smaller.
 fn among(queue: Queue, rows: &[u16], latest: u64) -> Best
+    requires count_le_most_capacity { (queue.count ≤ most_capacity) × (queue.count * waiting_wide ≤ length queue.waiting.now) × (queue.known ≤ most_guests) × (queue.known * guest_wide ≤ length queue.guests.now) }
+    requires owned { Owned queue.waiting.now queue.count queue.known × Rising queue.waiting.now queue.count }
     requires collected { Collected queue.waiting.now rows.now (length rows.now) queue.count }
-    requires latest_le_ceiling { latest ≤ ceiling }
+    requires time_le_ceiling { (queue.time ≤ ceiling) × (latest ≤ ceiling) }
     ensures { let q = queue.entry in Passed q.guests.now q.waiting.now q.known q.count q.time latest q.count result }
 {
-    let mut best = nothing_yet(queue);
+    let mut best = nothing_yet(queue.count * WAITING_WIDE, queue.time);
     for at in rows {
         best = look(queue, *at as usize, latest, best);
     }
@@ -113,7 +118,9 @@ fn firsts_at(best: Best, used: usize) -> Firsts
 // What each phase would send, in one walk for both. Where few wait it looks at every row, else at the first row of each guest. Rows are told by where their
 // numbers begin.
 pub fn first_in_line(queue: Queue, latest: u64) -> Firsts
-    requires { latest ≤ ceiling }
+    requires count_le_most_capacity { (queue.count ≤ most_capacity) × (queue.count * waiting_wide ≤ length queue.waiting.now) × (queue.known ≤ most_guests) × (queue.known * guest_wide ≤ length queue.guests.now) }
+    requires owned { Owned queue.waiting.now queue.count queue.known × Rising queue.waiting.now queue.count × SharesFit queue.waiting.now queue.count }
+    requires time_le_ceiling { (queue.time ≤ ceiling) × (latest ≤ ceiling) }
     ensures picks { let q = queue.entry in Picks (λ r. due_at (settings_of (guests_of q.guests.now q.known) r) q.time r && leb r.ltag latest) Request.rtag (waiting_of q.waiting.now q.count) result.due }
     ensures picks_2 { let q = queue.entry in Picks (λ r. leb r.ltag q.time) Request.stag (waiting_of q.waiting.now q.count) result.open }
 {

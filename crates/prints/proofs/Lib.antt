@@ -1,2 +1,3 @@
 pub mod Stands
 pub mod Pumping
+pub mod ByTurns

@@ -3,7 +3,7 @@
 #![tactic(auto)]
 
 ghost use Rattle.std.specs.Prelude.{◌≡◌, ◌+◌, ◌^◌, ◌≤◌, ◌<◌, length, take, drop};
-ghost use Rattle.tables.specs.Tables.{AreKnown};
+ghost use Rattle.table.specs.View.{Known};
 ghost use Rattle.trace.specs.Printed.{lines, cut, printed};
 ghost use Rattle.feed.specs.Promise.{place_of};
 ghost use Rattle.stream.specs.Outcome.{Next, Last};
@@ -12,15 +12,16 @@ ghost use Rattle.prints.specs.Standing.{Decided, Went, Rests, Follows};
 use crate::output::emit;
 use buffers::{BUFFER_LONG, LINES_LONG, put_cut, take_in};
 use port::{Moved, Streams};
+use rules::Gate;
 use std::ops::ControlFlow;
 use stream::End;
-use tables::Tables;
 
 pub mod output; // lines are handed on to be written
 
-// How many bytes are left at the front after a turn, the number of the last event, and whether all lines were written.
+// The gate after a turn, how many bytes are left at the front, the number of the last event, and whether all lines were written.
 #[derive(Drop)]
 pub struct Stand {
+    pub gate: Gate,
     pub rest: usize,
     pub number: u64,
     pub written: bool,
@@ -32,21 +33,27 @@ pub fn turn(
     buffer: &mut [u8; BUFFER_LONG],
     have: usize,
     number: u64,
-    tables: &mut Tables,
+    gate: Gate,
+    guests: &mut [u64],
+    waiting: &mut [u64],
+    flight: &mut [u64],
     out: &mut [u8; LINES_LONG],
     streams: &mut Streams,
     log: &mut u64,
 ) -> Stand
     requires have_in_bounds { (have ≤ 4096) × (number + have < 2 ^ 64) }
-    requires known { AreKnown tables.old }
-    requires next { Next printed log.old (lines (place_of version (take have buffer.old) number tables.old)) }
-    ensures went { Went result.written (place_of version (take have buffer.old) number tables.old) (place_of version (take result.rest buffer.new) result.number tables.new) log.old log.new }
-    ensures known_2 { AreKnown tables.new }
+    requires known { Known gate guests.old waiting.old flight.old }
+    requires next { Next printed log.old (lines (place_of version (take have buffer.old) number gate guests.old waiting.old flight.old)) }
+    ensures went { Went result.written (place_of version (take have buffer.old) number gate guests.old waiting.old flight.old) (place_of version (take result.rest buffer.new) result.number result.gate guests.new waiting.new flight.new) log.old log.new }
+    ensures known_2 { Known result.gate guests.new waiting.new flight.new }
     ensures rest_bound { (result.rest < 14) × (result.rest ≤ length buffer.new) }
 {
-    let taken = take_in(version, buffer, have, number, tables, out);
+    let taken = take_in(
+        version, buffer, have, number, gate, guests, waiting, flight, out,
+    );
     let written = emit(out, taken.bytes, streams, log);
     Stand {
+        gate: taken.gate,
         rest: taken.rest,
         number: taken.number,
         written,

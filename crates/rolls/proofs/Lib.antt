@@ -1,4 +1,5 @@
 pub mod Going
 pub mod Pumping
+pub mod ByTurns
 pub mod Shown
 pub mod Staged

@@ -6,6 +6,7 @@ use mathlib.Core.List.{List, [], ◌++◌, append_assoc, append-nil}
 use native.Mathlib.Omega.{arith}
 use lib.ListN.{length, take, length-append}
 use lib.Seq.{length-take-le}
+use Rattle.rules.specs.declared.Gate.{Gate}
 use Rattle.table.proofs.Facts.{facts}
 use Rattle.tally.specs.Kept.{figures_of}
 use Rattle.port.specs.Tape.{Tape, Holds}
@@ -15,9 +16,7 @@ use Rattle.port.specs.declared.Moved.TheVariants.{Bytes, Nothing, Failed}
 use Rattle.stream.specs.Outcome.{MOST, Right}
 use Rattle.stream.specs.declared.End.TheVariants.{Unread, Unended}
 use Rattle.pages.specs.Sheet.{figures_lines, Stand, onward, closing, sheet_of}
-use Rattle.pages.specs.Standing.{Listed, more, Standing, Closes}
-use Rattle.rolls.specs.Ledger.{IsFirm, stand_of}
-use Rattle.rolls.specs.declared.ledger.Ledger.{Ledger}
+use Rattle.pages.specs.Standing.{Listed, stand_of, Firm, more, Standing, Closes}
 use Rattle.pages.proofs.Splitting.{closing-onward, closing_few}
 use Rattle.pages.proofs.Fairness.{fair-onward, fair_owing}
 
@@ -41,23 +40,23 @@ pub turned : {e : Bool} {n : ℕ} {s q : Stand} → q ≡ onward s → Standing 
 turned {e} {n} {s} here a = subst (λ (x : Stand). Standing e n x) (sym here) (onwards s a)
 
 -- AT THE END the lines of the figures are all that is to be written
-pub closes : (n m v : ℕ) (bs : List ℕ) (l : Ledger) → IsFirm m l → Standing true n (stand_of v bs l) → length bs < 14 → Closes n l.tables.gate.guests l.figures
-closes n m v bs l k a few =
-    let t = l.tables in
-    let s = stand_of v bs l in
+pub closes : (n m v : ℕ) (bs : List ℕ) (g : Gate) (gs ws fs bk fg : List ℕ) → Firm m g gs ws fs bk fg → Standing true n (stand_of v bs g gs ws fs bk fg) → length bs < 14
+    → Closes n g.guests fg
+closes n m v bs g gs ws fs bk fg k a few =
+    let s = stand_of v bs g gs ws fs bk fg in
     record {
-      few = (facts t.gate t.guests t.waiting t.flight k.known).counts.guest-count.1;
+      few = (facts g gs ws fs k.known).counts.guest-count.1;
       room = k.kept.figures_room;
-      owing = fair_owing t.gate t.guests t.waiting t.flight l.book l.figures a.fair;
+      owing = fair_owing g gs ws fs bk fg a.fair;
       last = record {
         tape = a.tape;
         held = a.held;
         lacks = λ later may.
             a.stands later may
-            ∙ ap (λ (x : List ℕ). closing (more s x)) (may a.mark)
-            ∙ ap (λ (x : List ℕ). closing (stand_of v x l)) (append-nil bs)
+            ∙ ap (λ (l : List ℕ). closing (more s l)) (may a.mark)
+            ∙ ap (λ (l : List ℕ). closing (stand_of v l g gs ws fs bk fg)) (append-nil bs)
             ∙ closing_few s few
-            ∙ ap (λ (x : List ℕ). x ++ figures_lines 0 (figures_of l.figures t.gate.guests)) (sym a.wrote);
+            ∙ ap (λ (l : List ℕ). l ++ figures_lines 0 (figures_of fg g.guests)) (sym a.wrote);
       };
     }
 

@@ -8,10 +8,8 @@ ghost use Rattle.windows.specs.Window.{spare, Window};
 ghost use Rattle.trace.specs.Event.{event_of, events_of, whole};
 ghost use Rattle.tally.specs.Kept.{page_of};
 ghost use Rattle.pages.specs.Sheet.{read, page_after, onward};
-ghost use Rattle.pages.specs.Standing.{Listed, Firm, Standing, Closes};
-ghost use Rattle.rolls.specs.Ledger.{page_in, IsFirm, stand_of};
+ghost use Rattle.pages.specs.Standing.{Listed, stand_of, Firm, Standing, Closes};
 
-use crate::ledger::Ledger;
 use buffers::{BUFFER_LONG, TURNS};
 use index::{INDEX_WIDE, MOST_WALKED};
 use pages::output::last;
@@ -19,7 +17,7 @@ use pages::put_guests;
 use port::{Moved, Streams};
 use rules::Gate;
 use stream::End;
-use table::columns::{WAITING_LONG, WAITING_WIDE};
+use table::columns::WAITING_WIDE;
 use windows::{After, Ended, WINDOW_LONG};
 
 pub mod ledger; // what a sheet is made from
@@ -137,77 +135,110 @@ fn turn_in(
     Ended { gate, start }
 }
 
-// All whole events of the bytes turn the page, on the waiting table as it stands: so few wait that each event walks them.
-fn turn_walked(version: u64, bytes: &[u8], number: u64, ledger: &mut Ledger)
+// All whole events of the bytes turn the page, on the waiting table as it is lent: so few wait that each event walks them.
+fn turn_walked(
+    version: u64,
+    bytes: &[u8],
+    number: u64,
+    first: Gate,
+    guests: &mut [u64],
+    waiting: &mut [u64],
+    flight: &mut [u64],
+    book: &mut [u64],
+    figures: &mut [u64],
+) -> Gate
     requires bytes_bound { number + length bytes.now < 2 ^ 64 }
-    requires firm { IsFirm number ledger.old }
-    ensures page_after { page_in ledger.new ≡ page_after (page_in ledger.old) (events_of version (whole bytes.now) bytes.now) }
-    ensures firm_2 { IsFirm (number + whole bytes.now) ledger.new }
+    requires firm { Firm number first guests.old waiting.old flight.old book.old figures.old }
+    ensures figures_after { page_of result guests.new waiting.new flight.new book.new figures.new ≡ page_after (page_of first guests.old waiting.old flight.old book.old figures.old) (events_of version (whole bytes.now) bytes.now) }
+    ensures firm_2 { Firm (number + whole bytes.now) result guests.new waiting.new flight.new book.new figures.new }
 {
-    let tables = &mut ledger.tables;
+    let size = waiting.len();
     let turned = turn_in(
         version,
         bytes,
         number,
-        tables.gate,
-        &mut tables.guests,
-        &mut tables.waiting,
-        WAITING_LONG,
-        &mut tables.flight,
-        &mut ledger.book,
-        &mut ledger.figures,
+        first,
+        guests,
+        waiting,
+        size,
+        flight,
+        book,
+        figures,
         &mut [],
     );
-    tables.gate = turned.gate;
+    turned.gate
 }
 
 // All whole events of the bytes turn the page, on a copy of the waiting table in a window; one walk builds the index of its rows for all of them.
-fn turn_beside(version: u64, bytes: &[u8], number: u64, ledger: &mut Ledger)
+fn turn_beside(
+    version: u64,
+    bytes: &[u8],
+    number: u64,
+    first: Gate,
+    guests: &mut [u64],
+    waiting: &mut [u64],
+    flight: &mut [u64],
+    book: &mut [u64],
+    figures: &mut [u64],
+) -> Gate
     requires bytes_bound { number + length bytes.now < 2 ^ 64 }
-    requires firm { IsFirm number ledger.old }
-    ensures page_after { page_in ledger.new ≡ page_after (page_in ledger.old) (events_of version (whole bytes.now) bytes.now) }
-    ensures firm_2 { IsFirm (number + whole bytes.now) ledger.new }
+    requires firm { Firm number first guests.old waiting.old flight.old book.old figures.old }
+    ensures figures_after { page_of result guests.new waiting.new flight.new book.new figures.new ≡ page_after (page_of first guests.old waiting.old flight.old book.old figures.old) (events_of version (whole bytes.now) bytes.now) }
+    ensures firm_2 { Firm (number + whole bytes.now) result guests.new waiting.new flight.new book.new figures.new }
 {
-    let tables = &mut ledger.tables;
-    let size = tables.gate.setup.capacity as usize * WAITING_WIDE;
-    let rows = tables.gate.waiting as usize;
+    let size = first.setup.capacity as usize * WAITING_WIDE;
+    let rows = first.waiting as usize;
     let mut window = [0u64; WINDOW_LONG];
     let mut index = [0u16; INDEX_WIDE];
-    windows::open(&tables.waiting, size, rows, &mut window, &mut index);
+    windows::open(waiting, size, rows, &mut window, &mut index);
     let turned = turn_in(
         version,
         bytes,
         number,
-        tables.gate,
-        &mut tables.guests,
+        first,
+        guests,
         &mut window,
         size,
-        &mut tables.flight,
-        &mut ledger.book,
-        &mut ledger.figures,
+        flight,
+        book,
+        figures,
         &mut index,
     );
-    windows::close(&window, turned.start, size, &mut tables.waiting);
-    tables.gate = turned.gate;
+    windows::close(&window, turned.start, size, waiting);
+    turned.gate
 }
 
 // All whole events of the bytes turn the page: with an index of the waiting rows, unless so few wait that they are as well walked.
-fn turn_all(version: u64, bytes: &[u8], number: u64, ledger: &mut Ledger)
+fn turn_all(
+    version: u64,
+    bytes: &[u8],
+    number: u64,
+    first: Gate,
+    guests: &mut [u64],
+    waiting: &mut [u64],
+    flight: &mut [u64],
+    book: &mut [u64],
+    figures: &mut [u64],
+) -> Gate
     requires bytes_bound { number + length bytes.now < 2 ^ 64 }
-    requires firm { IsFirm number ledger.old }
-    ensures page_after { page_in ledger.new ≡ page_after (page_in ledger.old) (events_of version (whole bytes.now) bytes.now) }
-    ensures firm_2 { IsFirm (number + whole bytes.now) ledger.new }
+    requires firm { Firm number first guests.old waiting.old flight.old book.old figures.old }
+    ensures figures_after { page_of result guests.new waiting.new flight.new book.new figures.new ≡ page_after (page_of first guests.old waiting.old flight.old book.old figures.old) (events_of version (whole bytes.now) bytes.now) }
+    ensures firm_2 { Firm (number + whole bytes.now) result guests.new waiting.new flight.new book.new figures.new }
 {
-    if ledger.tables.gate.waiting as usize <= MOST_WALKED {
-        turn_walked(version, bytes, number, ledger);
-    } else {
-        turn_beside(version, bytes, number, ledger);
+    if first.waiting as usize <= MOST_WALKED {
+        return turn_walked(
+            version, bytes, number, first, guests, waiting, flight, book, figures,
+        );
     }
+    turn_beside(
+        version, bytes, number, first, guests, waiting, flight, book, figures,
+    )
 }
 
-// How many bytes are left at the front after a turn, and how many events there were so far.
+// The gate after a turn, how many bytes are left at the front, and how many events there were so far.
 #[derive(Drop)]
 pub struct Turn {
+    pub gate: Gate,
     pub rest: usize,
     pub number: u64,
 }
@@ -218,34 +249,46 @@ fn take_in(
     buffer: &mut [u8; BUFFER_LONG],
     have: usize,
     number: u64,
-    ledger: &mut Ledger,
+    gate: Gate,
+    guests: &mut [u64],
+    waiting: &mut [u64],
+    flight: &mut [u64],
+    book: &mut [u64],
+    figures: &mut [u64],
 ) -> Turn
     requires have_in_bounds { (have ≤ 4096) × (number + have < 2 ^ 64) }
-    requires firm { IsFirm number ledger.old }
-    ensures stand_after { stand_of version (take result.rest buffer.new) ledger.new ≡ onward (stand_of version (take have buffer.old) ledger.old) }
-    ensures firm_2 { IsFirm result.number ledger.new }
+    requires firm { Firm number gate guests.old waiting.old flight.old book.old figures.old }
+    ensures figures_after { stand_of version (take result.rest buffer.new) result.gate guests.new waiting.new flight.new book.new figures.new ≡ onward (stand_of version (take have buffer.old) gate guests.old waiting.old flight.old book.old figures.old) }
+    ensures firm_2 { Firm result.number result.gate guests.new waiting.new flight.new book.new figures.new }
     ensures rest_bound { (result.rest < 14) × (result.number ≤ number + have) }
 {
-    turn_all(version, &buffer[..have], number, ledger);
+    let after = turn_all(
+        version,
+        &buffer[..have],
+        number,
+        gate,
+        guests,
+        waiting,
+        flight,
+        book,
+        figures,
+    );
     let events = have / 14;
     buffer.copy_within(events * 14..have, 0);
     Turn {
+        gate: after,
         rest: have - events * 14,
         number: number + events as u64,
     }
 }
 
-// Writes the lines of all guests.
-fn finish(ledger: &Ledger, streams: &mut Streams, log: &mut u64) -> End
-    requires { Closes log.old ledger.now.tables.gate.guests ledger.now.figures }
+// Writes the lines of the first `known` guests.
+fn finish(known: u64, figures: &[u64], streams: &mut Streams, log: &mut u64) -> End
+    requires { Closes log.old known figures.now }
     ensures { Listed result log.new }
 {
     let mut out = [0u8; 20480];
-    let n = put_guests(
-        &mut out,
-        ledger.tables.gate.guests as usize,
-        &ledger.figures,
-    );
+    let n = put_guests(&mut out, known as usize, figures);
     last(&out, n, streams, log)
 }
 
@@ -254,17 +297,24 @@ fn close(
     version: u64,
     buffer: &mut [u8; BUFFER_LONG],
     have: usize,
-    ledger: &mut Ledger,
+    opened: Gate,
+    guests: &mut [u64],
+    waiting: &mut [u64],
+    flight: &mut [u64],
+    book: &mut [u64],
+    figures: &mut [u64],
     streams: &mut Streams,
     log: &mut u64,
 ) -> End
     requires have_in_bounds { have ≤ 4096 }
-    requires firm { IsFirm 0 ledger.old }
-    requires standing { Standing true log.old (stand_of version (take have buffer.old) ledger.old) }
+    requires firm { Firm 0 opened guests.old waiting.old flight.old book.old figures.old }
+    requires standing { Standing true log.old (stand_of version (take have buffer.old) opened guests.old waiting.old flight.old book.old figures.old) }
     ensures { Listed result log.new }
 {
-    take_in(version, buffer, have, 0, ledger);
-    finish(ledger, streams, log)
+    let turn = take_in(
+        version, buffer, have, 0, opened, guests, waiting, flight, book, figures,
+    );
+    finish(turn.gate.guests, figures, streams, log)
 }
 
 // Turns the page by the events of an input that may go on, until no more bytes come, and writes the sheet.
@@ -272,24 +322,33 @@ fn pump(
     version: u64,
     buffer: &mut [u8; BUFFER_LONG],
     first: usize,
-    ledger: &mut Ledger,
+    opened: Gate,
+    guests: &mut [u64],
+    waiting: &mut [u64],
+    flight: &mut [u64],
+    book: &mut [u64],
+    figures: &mut [u64],
     streams: &mut Streams,
     log: &mut u64,
 ) -> End
     requires first_in_bounds { first ≤ 4096 }
-    requires firm { IsFirm 0 ledger.old }
-    requires standing { Standing false log.old (stand_of version (take first buffer.old) ledger.old) }
+    requires firm { Firm 0 opened guests.old waiting.old flight.old book.old figures.old }
+    requires standing { Standing false log.old (stand_of version (take first buffer.old) opened guests.old waiting.old flight.old book.old figures.old) }
     ensures { Listed result log.new }
 {
+    let mut gate = opened;
     let mut have = first;
     let mut done: u64 = 0;
     for _turn in 0..TURNS {
-        let turn = take_in(version, buffer, have, done, ledger);
+        let turn = take_in(
+            version, buffer, have, done, gate, guests, waiting, flight, book, figures,
+        );
+        gate = turn.gate;
         done = turn.number;
         have = turn.rest;
         match stream::refill(buffer, have, streams, log) {
             Moved::Bytes(more) => have += more,
-            Moved::Nothing => return finish(ledger, streams, log),
+            Moved::Nothing => return finish(gate.guests, figures, streams, log),
             Moved::Failed => return End::Unread,
         }
     }
@@ -302,17 +361,26 @@ pub fn run(
     version: u64,
     buffer: &mut [u8; BUFFER_LONG],
     first: usize,
-    ledger: &mut Ledger,
+    opened: Gate,
+    guests: &mut [u64],
+    waiting: &mut [u64],
+    flight: &mut [u64],
+    book: &mut [u64],
+    figures: &mut [u64],
     streams: &mut Streams,
     log: &mut u64,
 ) -> End
     requires first_in_bounds { first ≤ 4096 }
-    requires firm { IsFirm 0 ledger.old }
-    requires standing { Standing ended log.old (stand_of version (take first buffer.old) ledger.old) }
+    requires firm { Firm 0 opened guests.old waiting.old flight.old book.old figures.old }
+    requires standing { Standing ended log.old (stand_of version (take first buffer.old) opened guests.old waiting.old flight.old book.old figures.old) }
     ensures { Listed result log.new }
 {
     if ended {
-        return close(version, buffer, first, ledger, streams, log);
+        return close(
+            version, buffer, first, opened, guests, waiting, flight, book, figures, streams, log,
+        );
     }
-    pump(version, buffer, first, ledger, streams, log)
+    pump(
+        version, buffer, first, opened, guests, waiting, flight, book, figures, streams, log,
+    )
 }

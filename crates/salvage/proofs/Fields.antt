@@ -17,7 +17,7 @@ use Rattle.trace.specs.Event.{kind_in, upper_in, event_from, event_of, Read}
 use Rattle.trace.proofs.EventLaws.{event_same, event_take}
 use Rattle.moved.specs.Moves.{is_bad}
 use Rattle.salvage.specs.Fates.{farthest, from_last, by_time, by_read, fate_of, reason_in, Fate, Last, reason_number}
-use Rattle.std.specs.Prelude.{Some, None, Ok, Err}
+use Rattle.std.specs.Prelude.{Some as One, None, Ok, Err}
 use Rattle.salvage.specs.declared.Reason.TheVariants.{Bad, Above, Cut, Behind, Ahead}
 use Rattle.salvage.specs.declared.Reason.{Reason}
 
@@ -25,7 +25,7 @@ use Rattle.salvage.specs.declared.Reason.{Reason}
 
 -- the time that was read, or another number where the event is bad
 abbrev moment_or : ℕ → Read → ℕ
-moment_or d (Some e) = moment e
+moment_or d (One e) = moment e
 moment_or d None = d
 
 -- is that of the bytes
@@ -35,9 +35,9 @@ moment_from k u g i t = go (eqb k 0) (eqb k 1 && eqb u 0) (eqb k 2 && eqb u 0 &&
   where
     go : (a b c : Bool)
         → moment_or t
-        (if a then Some (Arrival (record { guest = g; id = i; cost = u + 1; delta = 1; rho = 1 }) t)
-        else if b then Some (Completion (record { guest = g; id = i }) t)
-        else if c then Some (Tick t)
+        (if a then One (Arrival (record { guest = g; id = i; cost = u + 1; delta = 1; rho = 1 }) t)
+        else if b then One (Completion (record { guest = g; id = i }) t)
+        else if c then One (Tick t)
         else None)
         ≡ t
     go true b c = refl
@@ -51,7 +51,7 @@ moment-of v bs = moment_from (kind_in v (byte_at bs 0)) (upper_in v (byte_at bs 
 
 -- by what was read and its time
 by_read_lem : (l : Last) (d : ℕ) (r : Read) → by_read l r ≡ (if is_bad r then Err Bad else by_time l (moment_or d r))
-by_read_lem l d (Some e) = refl
+by_read_lem l d (One e) = refl
 by_read_lem l d None = refl
 
 -- BY THE FIELDS: the reasons in their order
@@ -72,6 +72,18 @@ reason_some Behind = omega arith
 reason_some Ahead = omega arith
 reason_some Cut = omega arith
 
+-- so it is in what becomes of an event
+abbrev pub Some : Fate → Type 0
+Some (Ok t) = Unit {0}
+Some (Err r) = 0 < reason_number r
+
+pub some : (v : ℕ) (l : Last) (bs : List ℕ) → Some (fate_of v l bs)
+some v l bs = go (fate_of v l bs)
+  where
+    go : (f : Fate) → Some f
+    go (Ok t) = tt
+    go (Err r) = reason_some r
+
 -- where it is none, the event is kept
 pub kept_by : (f : Fate) → reason_in f ≡ 0 → (t : ℕ) × (f ≡ Ok t)
 kept_by (Ok t) e = (t, refl)
@@ -90,7 +102,7 @@ time_in (Err r) = 0
 kept_last : (l : Last) (u t : ℕ) → from_last l u ≡ Ok t → u ≡ t
 unfolding time_in
 kept_last None u t e = ap time_in e
-kept_last (Some w) u t e = ap time_in (kept_peel (ltb (w + farthest) u) Ahead (Ok u) t (kept_peel (ltb u w) Behind _ t e))
+kept_last (One w) u t e = ap time_in (kept_peel (ltb (w + farthest) u) Ahead (Ok u) t (kept_peel (ltb u w) Behind _ t e))
 
 pub kept_time : (v : ℕ) (l : Last) (bs : List ℕ) (t : ℕ) → fate_of v l bs ≡ Ok t → eight_at bs 6 ≡ t
 kept_time v l bs t e =

@@ -23,11 +23,11 @@ use Rattle.rules.proofs.Spacings.{fair_is}
 use Rattle.rules.proofs.Picks.{Goes}
 use Rattle.rules.proofs.ChoiceSound.{sent_first}
 use Rattle.rules.specs.declared.Gate.{Gate}
-use Rattle.table.specs.Columns.{guest_wide, waiting_wide, flight_wide, most_depth, RESERVATION, guest_at}
+use Rattle.table.specs.Columns.{guest_wide, waiting_wide, flight_wide, most_guests, most_capacity, most_depth, RESERVATION, guest_at}
 use Rattle.table.specs.View.{guest_form, request_form, guests_of, table_of, Known}
 use Rattle.walks.specs.LeastLaws.{least_ext, open_by_tag}
 use Rattle.moves.specs.Moves.{Lawful, Unreserved, gone}
-use Rattle.walks.specs.Walks.{Picks, Queued}
+use Rattle.walks.specs.Walks.{Picks, Owned, Rising, SharesFit}
 use Rattle.table.proofs.Facts.{Facts, facts, rows_ask, row_is, guest_is}
 use Rattle.sends.specs.Firsts.{FirstOf}
 use Rattle.sends.proofs.Rising.{rising-rows}
@@ -42,22 +42,15 @@ module _ (g : Gate) (gs ws fs : List ℕ) (k : Known g gs ws fs) where
   f : Facts g gs ws fs
   f = facts g gs ws fs k
 
-  -- the requests that wait are as the walks are lent them
-  pub queued : Queued ws g.waiting gs g.guests g.time
-  queued =
-      record {
-        few = (rows_ask g gs ws fs k).0;
-        room = (rows_ask g gs ws fs k).1;
-        few_guests = f.counts.guest-count.1;
-        guest_room = k.guest_room;
-        early = f.timed;
-        owned = f.owners;
-        rising = rising-rows g gs ws fs k;
-        shares_fit = λ j h. omega (arith, (f.lawfuls j h).share, ap Request.stag (row_is g gs ws fs k j h));
-        limits_fit = λ j h. omega (arith, (f.lawfuls j h).limit, ap Request.ltag (row_is g gs ws fs k j h));
-      }
+  -- what the walk asks
+  pub line_asks : ((g.waiting ≤ most_capacity) × (g.waiting * waiting_wide ≤ length ws) × (g.guests ≤ most_guests) × (g.guests * guest_wide ≤ length gs))
+      × ((Owned ws g.waiting g.guests × Rising ws g.waiting × SharesFit ws g.waiting) × (g.time ≤ ceiling))
+  line_asks = (
+    ((rows_ask g gs ws fs k).0, (rows_ask g gs ws fs k).1, f.counts.guest-count.1, k.guest_room),
+    ((f.owners, rising-rows g gs ws fs k, λ j h. omega (arith, (f.lawfuls j h).share, ap Request.stag (row_is g gs ws fs k j h))), f.timed),
+  )
 
-  -- the latest limit tag that the reservation phase lets pass is at most the ceiling
+  -- and of the latest limit tag that the reservation phase lets pass
   pub latest_asks : (latest : ℕ) → latest ≡ (if eqb g.setup.rule 2 then g.time else ceiling) → latest ≤ ceiling
   latest_asks latest e = go (eqb g.setup.rule 2) e
     where

@@ -14,17 +14,19 @@ use Rattle.lists.specs.Tab.{tab}
 use Rattle.lists.specs.Lines.{lines_of}
 use Rattle.lists.specs.Rows.{rows_of}
 use Rattle.lists.specs.RowsLaws.{length-rows}
+use Rattle.rules.specs.Numbers.{ceiling}
 use Rattle.rules.specs.Tables.{Request, Table, reserved, limited, settings_of}
 use Rattle.rules.specs.declared.Settings.{Settings}
 use Rattle.rules.specs.Choice.{room}
 use Rattle.rules.specs.Chosen.{blank, at}
 use Rattle.rules.specs.Waking.{ready_at, ready_in, wake}
 use Rattle.rules.specs.declared.Gate.{Gate}
-use Rattle.table.specs.Columns.{waiting_wide, GUEST, RTAG, LTAG, STAG}
+use Rattle.table.specs.Columns.{guest_wide, waiting_wide, GUEST, RTAG, LTAG, STAG, most_guests, most_capacity}
 use Rattle.table.specs.View.{request_form, flight_form, guests_of, waiting_of, table_of, Known}
-use Rattle.walks.specs.Walks.{Queued, ready_by, ready_under, ready_by_tag}
+use Rattle.table.proofs.Facts.{facts, row_is}
+use Rattle.walks.specs.Walks.{Owned, Rising, LimitsFit, ready_by, ready_under, ready_by_tag}
 use Rattle.index.specs.Index.{Even}
-use Rattle.sends.proofs.Phases.{limit_zero}
+use Rattle.sends.proofs.Phases.{line_asks, limit_zero}
 
 -- where an unlimited guest's limit tags are 0, the limit is told by the tag
 ready_by_tag_lem : (rule : ℕ) (s : Settings) (q : Request) → (limited s ≡ false → q.ltag ≡ 0) → ready_under rule s.reservation q.rtag q.ltag ≡ ready_at rule s q
@@ -53,6 +55,15 @@ none_left (q ∷ l) h = absurd (omega arith)
 -- THE WALK, of a gate that some flight table makes known
 
 module _ (g : Gate) (gs ws : List ℕ) (k : (fs : List ℕ) × Known g gs ws fs) where
+  -- what it asks
+  pub wake_asks : 0 < g.waiting
+      → ((0 < g.waiting) × (g.waiting ≤ most_capacity) × (g.waiting * waiting_wide ≤ length ws) × (g.guests ≤ most_guests) × (g.guests * guest_wide ≤ length gs))
+      × ((Owned ws g.waiting g.guests × Rising ws g.waiting × LimitsFit ws g.waiting) × (g.time ≤ ceiling))
+  wake_asks some =
+      let l = line_asks g gs ws k.0 k.1 in
+      let f = facts g gs ws k.0 k.1 in
+      ((some, l.0.0, l.0.1, l.0.2, l.0.3), ((l.1.0.0, l.1.0.1, λ j h. omega (arith, (f.lawfuls j h).limit, ap Request.ltag (row_is g gs ws k.0 k.1 j h))), l.1.1))
+
   -- whatever is in flight
   module _ (fs : List ℕ) where
     abbrev t : Table
@@ -86,19 +97,12 @@ module _ (n : ℕ) (ws vs : List ℕ) (e : Even ws vs) where
   unfolding rows_of lines_of
   rows-even = λ i. map request_form.read (tab n (λ k. tab waiting_wide (λ j. sym (e (k * waiting_wide + j)) i)))
 
-  -- and they are as the walks are lent them
-  pub even_queued : {gs : List ℕ} {known time : ℕ} → Queued ws n gs known time → n * waiting_wide ≤ length vs → Queued vs n gs known time
-  even_queued q room =
-      record {
-        few = q.few;
-        room = room;
-        few_guests = q.few_guests;
-        guest_room = q.guest_room;
-        early = q.early;
-        owned = λ k h. rw (sym (e (k * waiting_wide + GUEST))) (q.owned k h);
-        rising = λ j k l h own.
-            let r = q.rising j k l h (e (j * waiting_wide + GUEST) ∙ own ∙ sym (e (k * waiting_wide + GUEST))) in
-            rw (sym (e (j * waiting_wide + RTAG)), sym (e (k * waiting_wide + RTAG)), sym (e (j * waiting_wide + LTAG)), sym (e (k * waiting_wide + LTAG)), sym (e (j * waiting_wide + STAG)), sym (e (k * waiting_wide + STAG))) r;
-        shares_fit = λ k h. rw (sym (e (k * waiting_wide + STAG))) (q.shares_fit k h);
-        limits_fit = λ k h. rw (sym (e (k * waiting_wide + LTAG))) (q.limits_fit k h);
-      }
+  -- and all that the walk asks of the rows
+  pub even_asks : {m : ℕ} → Owned ws n m × Rising ws n × LimitsFit ws n → Owned vs n m × Rising vs n × LimitsFit vs n
+  even_asks a = (
+    λ k h. rw (sym (e (k * waiting_wide + GUEST))) (a.0 k h),
+    λ j k l h own.
+        let r = a.1 j k l h (e (j * waiting_wide + GUEST) ∙ own ∙ sym (e (k * waiting_wide + GUEST))) in
+        rw (sym (e (j * waiting_wide + RTAG)), sym (e (k * waiting_wide + RTAG)), sym (e (j * waiting_wide + LTAG)), sym (e (k * waiting_wide + LTAG)), sym (e (j * waiting_wide + STAG)), sym (e (k * waiting_wide + STAG))) r,
+    λ k h. rw (sym (e (k * waiting_wide + LTAG))) (a.2 k h),
+  )

@@ -13,7 +13,7 @@ ghost use Rattle.rules.specs.Waking.{wake as wake_at};
 ghost use Rattle.table.specs.Columns.{guest_wide, waiting_wide, flight_wide, most_guests, most_capacity};
 ghost use Rattle.table.specs.View.{guests_of, waiting_of, table_of, Known};
 ghost use Rattle.table.specs.Does.{Leaves};
-ghost use Rattle.walks.specs.Walks.{ready_by_tag};
+ghost use Rattle.walks.specs.Walks.{Owned, Rising, LimitsFit, ready_by_tag};
 ghost use Rattle.moves.specs.Moves.{gone, joined, Named, Blank, fall_of, next_dropped, tags_dropped, Lawful, Unreserved};
 ghost use Rattle.index.specs.Index.{owner_of, Head, Beside, Even, stood, stands, Snug};
 ghost use Rattle.sends.specs.Firsts.{FirstOf};
@@ -161,7 +161,9 @@ pub fn latest_limit(rule: u64, time: u64) -> u64
 // The time, now or later, from which the first of the waiting requests could go: by the first rows of the guests where there is an index, and more rows
 // than are as well walked.
 fn soonest(queue: Queue, rule: u64, index: &[u16]) -> u64
-    requires count_nonzero { 0 < queue.count }
+    requires count_nonzero { (0 < queue.count) × (queue.count ≤ most_capacity) × (queue.count * waiting_wide ≤ length queue.waiting.now) × (queue.known ≤ most_guests) × (queue.known * guest_wide ≤ length queue.guests.now) }
+    requires owned { Owned queue.waiting.now queue.count queue.known × Rising queue.waiting.now queue.count × LimitsFit queue.waiting.now queue.count }
+    requires time_le_ceiling { queue.time ≤ ceiling }
     requires beside { Beside queue.waiting.now index.now queue.count }
     ensures { result ≡ max queue.entry.time (lowest (map (ready_by_tag rule (guests_of queue.entry.guests.now queue.entry.known)) (waiting_of queue.entry.waiting.now queue.entry.count))) }
 {

@@ -16,6 +16,7 @@ use port::Streams;
 use rolls::ledger::Ledger;
 use rules::Refusal;
 use stream::{End, ReadFailed};
+use table::columns::SETTINGS_LONG;
 use trace::Opened;
 
 // Makes the arrays, each for the largest settings, runs the trace on them, and says on standard error where a read or a write failed.
@@ -86,8 +87,31 @@ fn follow(
     requires first { First log.old (take have buffer.old) }
     ensures { Listed result log.new }
 {
-    let rest = begin::begin(buffer, have, opened, &mut ledger.tables);
+    let mut settings = [0u64; SETTINGS_LONG];
+    let begun = begin::begin(
+        buffer,
+        have,
+        opened,
+        &mut settings,
+        &mut ledger.tables.guests,
+        &mut ledger.tables.waiting,
+        &mut ledger.tables.flight,
+    );
+    ledger.tables.gate = begun.gate;
     ledger.figures.fill(0);
     let ended = have < BUFFER_LONG;
-    rolls::run(ended, opened.version, buffer, rest, ledger, streams, log)
+    rolls::run(
+        ended,
+        opened.version,
+        buffer,
+        begun.rest,
+        ledger.tables.gate,
+        &mut ledger.tables.guests,
+        &mut ledger.tables.waiting,
+        &mut ledger.tables.flight,
+        &mut ledger.book,
+        &mut ledger.figures,
+        streams,
+        log,
+    )
 }

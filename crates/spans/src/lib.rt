@@ -5,14 +5,14 @@
 ghost use Rattle.std.specs.Prelude.{◌≡◌, map, ◌-◌, ◌*◌, ◌≤◌, ◌<◌, length};
 ghost use Rattle.lists.specs.Words.{lowest};
 ghost use Rattle.rules.specs.Tables.{Request};
-ghost use Rattle.table.specs.Columns.{waiting_wide};
+ghost use Rattle.table.specs.Columns.{waiting_wide, most_guests, most_capacity};
 ghost use Rattle.table.specs.View.{waiting_of};
+ghost use Rattle.walks.specs.Walks.{Owned, Rising};
 ghost use Rattle.walks.specs.Survey.{tag_of, highest};
 ghost use Rattle.index.specs.Index.{Indexed};
 
 use index::LASTS;
 use table::columns::{STAG, WAITING_WIDE};
-use walks::queue::Queue;
 use walks::survey::Span;
 
 // The share tag of the row whose place is written as `number`.
@@ -24,21 +24,23 @@ fn share_of(waiting: &[u64], number: usize) -> u64
 }
 
 // The ends of the share tags waiting: walks::survey::ends, by the rows that the index tells.
-pub fn ends(queue: Queue, index: &[u16]) -> Span
-    requires { Indexed queue.waiting.now index.now queue.count }
-    ensures { let w = waiting_of queue.entry.waiting.now queue.entry.count in (result.least ≡ lowest (map Request.stag w)) × (result.most ≡ highest (map Request.stag w)) }
+pub fn ends(waiting: &[u64], count: usize, known: usize, index: &[u16]) -> Span
+    requires count_le_most_capacity { (count ≤ most_capacity) × (count * waiting_wide ≤ length waiting.now) × (known ≤ most_guests) }
+    requires owned { Owned waiting.now count known × Rising waiting.now count }
+    requires indexed { Indexed waiting.now index.now count }
+    ensures { (result.least ≡ lowest (map Request.stag (waiting_of waiting.now count))) × (result.most ≡ highest (map Request.stag (waiting_of waiting.now count))) }
 {
-    if queue.count == 0 {
+    if count == 0 {
         return Span { least: 0, most: 0 };
     }
-    let mut least = queue.waiting[STAG];
+    let mut least = waiting[STAG];
     let mut most = least;
-    for g in 0..queue.known {
+    for g in 0..known {
         let first = index[g] as usize;
         let last = index[LASTS + g] as usize;
         if 0 < first {
-            least = least.min(share_of(queue.waiting, first));
-            most = most.max(share_of(queue.waiting, last));
+            least = least.min(share_of(waiting, first));
+            most = most.max(share_of(waiting, last));
         }
     }
     Span { least, most }

@@ -40,6 +40,10 @@ module _ (k n m r : ℕ) (bs : List ℕ) (w : Moved) (p : Goes (written (take k 
       stops : {v : Moved} → w ≡ v → Holds r (took v (drop k bs) (written (take k bs) t))
       stops e = subst (λ (x : Moved). Holds r (took x (drop k bs) (written (take k bs) t))) e (behind _ (p t h))
 
+  -- a write failed
+  pub emits_fails : (w ≡ Failed) → Emits false bs n r
+  emits_fails e t h = (k, subst (λ (x : Moved). Holds r (took x (drop k bs) (written (take k bs) t))) e (behind _ (p t h)))
+
 -- all of them
 pub emits_all : (k n m : ℕ) (bs : List ℕ) → length bs ≤ k → Goes (written (take k bs)) n m → Emits true bs n m
 emits_all k n m bs full p t h = subst (λ (l : List ℕ). Holds m (written l t)) (take_all k bs full) (p t h)

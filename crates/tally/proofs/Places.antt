@@ -1,5 +1,6 @@
 -- The place of a name in a list of names, and among the notes. Assumes nothing.
-use Rattle.std.proofs.Common.{◌≡◌, ℕ, zero, suc, ◌<◌, ◌≤◌, true, false, List, [], ◌∷◌, map, length, get_or, sym, refl, ap, ◌∙◌, arith, eq-eqb}
+use Rattle.std.proofs.Common.{◌≡◌, ℕ, zero, suc, ◌<◌, ◌≤◌, true, false, eqb, List, [], ◌∷◌, map, length, get_or, sym, refl, ap, ◌∙◌, arith, eq-eqb, ne_eqb}
+use mathlib.Core.Bool.{and-false}
 use lib.ListN.{length-map}
 use Rattle.lists.specs.Tab.{length-tab, get_or-tab, map-tab}
 use Rattle.rules.specs.Tables.{same}
@@ -42,6 +43,14 @@ module _ (bk : List ℕ) (count g i : ℕ) where
 
   none : (k : ℕ) → k ≤ count → NoneBefore bk g i k → (j : ℕ) → j < k → same (named g i) (get_or names j (named 0 0)) ≡ false
   none k h n j l = ap (same (named g i)) (at j (omega arith)) ∙ n j l
+
+  -- another id
+  pub not_id : (k : ℕ) → (note_at bk k ID ≡ i → ⊥) → same (named g i) (called (entry_at bk k)) ≡ false
+  not_id k d = rw (ne_eqb i (note_at bk k ID) (λ e. d (sym e))) (and-false (eqb g (note_at bk k GUEST)))
+
+  -- another guest's
+  pub not_guest : (k : ℕ) → (note_at bk k GUEST ≡ g → ⊥) → same (named g i) (called (entry_at bk k)) ≡ false
+  not_guest k d = rw (ne_eqb g (note_at bk k GUEST) (λ e. d (sym e)))
 
   -- the first note of this name is found
   pub found_at : (k : ℕ) → k < count → note_at bk k GUEST ≡ g → note_at bk k ID ≡ i → NoneBefore bk g i k → found_in (named g i) bk count ≡ k

@@ -3,9 +3,10 @@
 
 ghost use Rattle.std.specs.Prelude.{◌≡◌, map, ◌+◌, ◌*◌, ◌≤◌, ◌<◌, max, length, get_or};
 ghost use Rattle.lists.specs.Words.{lowest};
-ghost use Rattle.table.specs.Columns.{RESERVATION, guest_wide, RTAG, LTAG, waiting_wide, most_guests, guest_at};
+ghost use Rattle.rules.specs.Numbers.{ceiling};
+ghost use Rattle.table.specs.Columns.{RESERVATION, guest_wide, RTAG, LTAG, waiting_wide, most_guests, most_capacity, guest_at};
 ghost use Rattle.table.specs.View.{guests_of, waiting_of};
-ghost use Rattle.walks.specs.Walks.{ready_by, ready_under, ready_by_tag};
+ghost use Rattle.walks.specs.Walks.{Owned, Rising, LimitsFit, ready_by, ready_under, ready_by_tag};
 
 use table::columns::{GUEST, GUEST_WIDE, LTAG, MOST_GUESTS, RESERVATION, RTAG, WAITING_WIDE};
 use tags::PAST;
@@ -44,7 +45,9 @@ pub fn ready_under(rule: u64, waiting: &[u64], at: usize, guests: &[u64], guest:
 // The time, now or later, from which the first of the waiting requests could go. Only the first row of each guest is looked at: within a guest no
 // later tag is smaller. Where one could go now, no further row is, nor once no guest is left whose first row is unseen.
 pub fn soonest(queue: Queue, rule: u64) -> u64
-    requires { 0 < queue.count }
+    requires count_nonzero { (0 < queue.count) × (queue.count ≤ most_capacity) × (queue.count * waiting_wide ≤ length queue.waiting.now) × (queue.known ≤ most_guests) × (queue.known * guest_wide ≤ length queue.guests.now) }
+    requires owned { Owned queue.waiting.now queue.count queue.known × Rising queue.waiting.now queue.count × LimitsFit queue.waiting.now queue.count }
+    requires time_le_ceiling { queue.time ≤ ceiling }
     ensures { result ≡ max queue.entry.time (lowest (map (ready_by_tag rule (guests_of queue.entry.guests.now queue.entry.known)) (waiting_of queue.entry.waiting.now queue.entry.count))) }
 {
     let mut seen = [false; MOST_GUESTS];

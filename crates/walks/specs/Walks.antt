@@ -1,5 +1,5 @@
 -- What the walks over the lent rows answer: the place of the request that the choice picks, and the place of a name in flight.
-use Rattle.std.specs.Prelude.{ℕ, ◌*◌, ◌≤◌, ◌<◌, ◌/◌, min, ◌≡◌, Bool, true, false, List, ltb, eqb, length, if◌then◌else◌, Some, None, Option}
+use Rattle.std.specs.Prelude.{ℕ, ◌≤◌, ◌<◌, ◌/◌, min, ◌≡◌, Bool, true, false, List, ltb, eqb, length, if◌then◌else◌, Some, None, Option}
 use Rattle.lists.specs.Words.{without}
 use Rattle.lists.specs.Tab.{remove_at}
 use Rattle.rules.specs.Numbers.{ceiling}
@@ -8,7 +8,7 @@ use Rattle.rules.specs.declared.Guest.{Guest}
 use Rattle.rules.specs.declared.Flight.{Flight}
 use Rattle.rules.specs.Choice.{Pick, nobody, picked, least}
 use Rattle.rules.specs.Chosen.{at}
-use Rattle.table.specs.Columns.{GUEST, RTAG, LTAG, STAG, guest_wide, waiting_wide, most_guests, most_capacity, waiting_at}
+use Rattle.table.specs.Columns.{GUEST, RTAG, LTAG, STAG, waiting_wide, waiting_at}
 
 -- every waiting request's guest is one of the first n
 abbrev pub Owned : List ℕ → (count n : ℕ) → Type 0
@@ -26,18 +26,6 @@ SharesFit ws count = (k : ℕ) → k < count → waiting_at ws k STAG ≤ ceilin
 -- every limit tag is at most the ceiling
 abbrev pub LimitsFit : List ℕ → (count : ℕ) → Type 0
 LimitsFit ws count = (k : ℕ) → k < count → waiting_at ws k LTAG ≤ ceiling
-
--- the first `count` rows of a waiting table, of the first `known` guests of a guest table, at a time, as a sound table has them
-pub record Queued (ws : List ℕ) (count : ℕ) (gs : List ℕ) (known time : ℕ) : Type 0 where
-  pub few : count ≤ most_capacity
-  pub room : count * waiting_wide ≤ length ws
-  pub few_guests : known ≤ most_guests
-  pub guest_room : known * guest_wide ≤ length gs
-  pub early : time ≤ ceiling
-  pub owned : Owned ws count known
-  pub rising : Rising ws count
-  pub shares_fit : SharesFit ws count
-  pub limits_fit : LimitsFit ws count
 
 -- the time from which a request could go under rule 1, by its guest's reservation and its tags, where an unlimited guest's limit tags are 0
 unfoldable pub ready_by : (reservation rtag ltag : ℕ) → ℕ

@@ -1,7 +1,7 @@
 // The requests that wait at a gate, as the walks over them are lent them.
-ghost use Rattle.walks.specs.Walks.{Queued};
 
-// The first `count` rows of the waiting table, of the first `known` guests of the guest table, at a time: as a sound table has them.
+// The first `count` rows of the waiting table, of the first `known` guests of the guest table, at a time. It promises nothing of them: each walk says
+// what it asks.
 #[derive(Clone, Copy)]
 pub struct Queue<'a> {
     pub waiting: &'a [u64],
@@ -9,5 +9,4 @@ pub struct Queue<'a> {
     pub guests: &'a [u64],
     pub known: usize,
     pub time: u64,
-    pub ghost sound: { Queued waiting.now count guests.now known time },
 }

@@ -6,7 +6,6 @@ ghost use Rattle.table.specs.Columns.{waiting_wide, most_capacity};
 ghost use Rattle.table.specs.View.{waiting_of};
 ghost use Rattle.walks.specs.Survey.{own_of, highest};
 
-use super::queue::Queue;
 use table::columns::{GUEST, ID, STAG, WAITING_WIDE};
 
 // The guest has this id waiting; has something else waiting; has nothing waiting.
@@ -44,16 +43,17 @@ pub fn own_rows(waiting: &[u64], count: usize, guest: u64, id: u64) -> Own
 }
 
 // The ends of the share tags waiting.
-pub fn ends(queue: Queue) -> Span
-    ensures { let w = waiting_of queue.entry.waiting.now queue.entry.count in (result.least ≡ lowest (map Request.stag w)) × (result.most ≡ highest (map Request.stag w)) }
+pub fn ends(waiting: &[u64], count: usize) -> Span
+    requires { (count ≤ most_capacity) × (count * waiting_wide ≤ length waiting.now) }
+    ensures { (result.least ≡ lowest (map Request.stag (waiting_of waiting.now count))) × (result.most ≡ highest (map Request.stag (waiting_of waiting.now count))) }
 {
-    if queue.count == 0 {
+    if count == 0 {
         return Span { least: 0, most: 0 };
     }
-    let mut least = queue.waiting[STAG];
+    let mut least = waiting[STAG];
     let mut most = least;
-    for row in 1..queue.count {
-        let tag = queue.waiting[row * WAITING_WIDE + STAG];
+    for row in 1..count {
+        let tag = waiting[row * WAITING_WIDE + STAG];
         least = least.min(tag);
         most = most.max(tag);
     }

@@ -1,3 +1,4 @@
+pub mod Copied
 pub mod Longer
 pub mod Staged
 pub mod Windows

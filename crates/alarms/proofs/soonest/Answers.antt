@@ -8,7 +8,7 @@ use Rattle.alarms.proofs.soonest.Goals.{then-number-gt0+else-ready-queue, else-n
 pub loop-g-init : goal.loop-g-init
 loop-g-init c =
     let a = c.args.queue in
-    woken_start a.guests.now a.waiting.now a.known a.count a.time c.args.rule a.sound.early
+    woken_start a.guests.now a.waiting.now a.known a.count a.time c.args.rule c.requires.time_le_ceiling
 
 pub overflow_cast-number : goal.overflow_cast-number
 overflow_cast-number c = omega (arith, c.type_inv.index c.loop-g.g)
@@ -27,7 +27,7 @@ returns-then-ready-queue c =
     let s = c.loop-g in
     let a = c.args.queue in
     let r = row_here (c.requires.indexed.first s.g (omega arith)) c.if-number-gt0.true in
-    woken_now a.guests.now a.waiting.now a.known a.count a.time c.args.rule s.invariant a.sound.owned a.sound.rising r.0 r.1 c.ready_under-ready.ensures c.if-ready-queue.true
+    woken_now a.guests.now a.waiting.now a.known a.count a.time c.args.rule s.invariant c.requires.owned.0 c.requires.owned.1 r.0 r.1 c.ready_under-ready.ensures c.if-ready-queue.true
 
 pub loop-g-preserved : goal.loop-g-preserved
 loop-g-preserved c =
@@ -36,11 +36,11 @@ loop-g-preserved c =
     let leads = c.requires.indexed.first s.g (omega arith) in
     elim c.if-number-gt0.branch [
       | then-number-gt0+else-ready-queue v ↦ let r = row_here leads v.if-number-gt0.true in
-          rw v.first-is (woken_next a.guests.now a.waiting.now a.known a.count a.time c.args.rule s.invariant a.sound.owned a.sound.rising r.0 r.1 v.ready_under-ready.ensures v.if-ready-queue.false _ (omega arith))
+          rw v.first-is (woken_next a.guests.now a.waiting.now a.known a.count a.time c.args.rule s.invariant c.requires.owned.0 c.requires.owned.1 r.0 r.1 v.ready_under-ready.ensures v.if-ready-queue.false _ (omega arith))
       | else-number-gt0 v ↦ rw v.first-is (woken_none a.guests.now a.waiting.now a.known a.count a.time c.args.rule s.invariant (leads.none (omega (arith, v.if-number-gt0.false))))
     ]
 
 pub returns : goal.returns
 returns c =
     let a = c.args.queue in
-    woken_end a.guests.now a.waiting.now a.known a.count a.time c.args.rule c.loop-g.invariant (omega arith) c.requires.count_nonzero a.sound.owned a.sound.limits_fit
+    woken_end a.guests.now a.waiting.now a.known a.count a.time c.args.rule c.loop-g.invariant (omega arith) c.requires.count_nonzero.0 c.requires.owned.0 c.requires.owned.2

@@ -36,7 +36,7 @@ returns c =
     let z = sizes bs a.opened p.buffer_value in
     let s = c.copy_within in
     let b = c.body-start in
-    let o = c.open_tables in record {
+    let o = c.open_tables-gate in record {
       begins = record {
         bytes = ap (take (a.have - b.result)) s.ensures.after
             ∙ shift_front a.buffer.now b.result a.have (omega (arith, z.whole, l, b.ensures)) p.have_in_bounds

@@ -31,6 +31,6 @@ returns c =
     let front : take (a.have - f.result.events * 14) s.new.self ≡ drop (whole bs * 14) bs = ap (take (a.have - f.result.events * 14)) s.ensures.after
     ∙ shift_front a.buffer.now (f.result.events * 14) a.have (omega (arith, n, l)) p.have_in_bounds.0
     ∙ ap (λ (k : ℕ). drop (k * 14) bs) n in record {
-      turned = turned a.tables.now p.known a.version bs a.number a.out.now _ _ f.result.events f.result.bytes f.ensures n _ front _ (ap (λ (k : ℕ). a.number + k) n);
+      turned = turned a.gate a.guests.now a.waiting.now a.flight.now p.known a.version bs a.number a.out.now _ _ _ _ _ f.result.events f.result.bytes f.ensures n _ front _ (ap (λ (k : ℕ). a.number + k) n);
       rest_bound = (omega (arith, n, l), omega (arith, n, l, s.ensures.len, p.have_in_bounds.0));
     }

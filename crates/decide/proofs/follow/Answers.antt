@@ -11,11 +11,12 @@ use Rattle.stream.proofs.Outcomes.{next_unwritten}
 use Rattle.decide.proofs.Heading.{title_next, title_standing}
 use Rattle.decide.proofs.follow.Goals as goal
 
-pub begin-rest-requires : goal.begin-rest-requires
-begin-rest-requires c =
+pub begin-begun-requires : goal.begin-begun-requires
+begin-begun-requires c =
     let p = c.requires in record {
       have_in_bounds = omega (arith, p.have_in_bounds);
       buffer_value = p.buffer_value;
+      largest = record { settings = omega arith; guests = omega arith; waiting = omega arith; flight = omega arith };
     }
 
 pub title-requires : goal.title-requires
@@ -37,7 +38,7 @@ pub run-requires : goal.run-requires
 run-requires c =
     let a = c.args in
     let p = c.requires in
-    let b = c.begin-rest in
+    let b = c.begin-begun in
     let t = c.title in
     let bs = take a.have a.buffer.now in
     let l : length bs ≡ a.have = length-take-le a.have a.buffer.now (omega (arith, p.have_in_bounds)) in record {

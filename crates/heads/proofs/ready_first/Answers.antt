@@ -17,10 +17,10 @@ pub overflow_cast-number : goal.overflow_cast-number
 overflow_cast-number c = omega (arith, c.type_inv.index c.args.guest)
 
 pub overflow_mul-at : goal.overflow_mul-at
-overflow_mul-at c = omega (arith, (row_here (c.requires.indexed.first c.args.guest (omega arith)) (omega (arith, c.if-number-eq0.false))).0)
+overflow_mul-at c = omega (arith, (row_here (c.requires.by_index.3.first c.args.guest c.requires.guest_lt_most_guests.0) (omega (arith, c.if-number-eq0.false))).0)
 
 pub bounds-queue-at : goal.bounds-queue-at
-bounds-queue-at c = omega (arith, (row_here (c.requires.indexed.first c.args.guest (omega arith)) (omega (arith, c.if-number-eq0.false))).0)
+bounds-queue-at c = omega (arith, (row_here (c.requires.by_index.3.first c.args.guest c.requires.guest_lt_most_guests.0) (omega (arith, c.if-number-eq0.false))).0)
 
 pub returns-then-queue-at-2 : goal.returns-then-queue-at-2
 returns-then-queue-at-2 c = record {

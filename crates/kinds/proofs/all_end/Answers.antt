@@ -11,18 +11,17 @@ pub returns-then-not-is_end : goal.returns-then-not-is_end
 returns-then-not-is_end c =
     let a = c.args in
     let s = c.loop-g in
-    rw (← c.column_of-column.ensures.0)
-    (sym (below_fails (ends_at a.guests.now c.column_of-column.result a.floors.now) a.known s.g c.loop-g-test.true (sym c.is_end.ensures ∙ not-true _ (ap not c.if-not-is_end.true))))
+    sym (below_fails (ends_at a.guests.now a.kind a.floors.now) a.known s.g c.loop-g-test.true (sym c.is_end.ensures ∙ not-true _ (ap not c.if-not-is_end.true)))
 
 pub loop-g-preserved : goal.loop-g-preserved
 loop-g-preserved c =
     let a = c.args in
     let s = c.loop-g in
-    below_next (ends_at a.guests.now c.column_of-column.result a.floors.now) s.g (sym c.is_end.ensures ∙ not-false _ (ap not c.if-not-is_end.false)) s.invariant
+    below_next (ends_at a.guests.now a.kind a.floors.now) s.g (sym c.is_end.ensures ∙ not-false _ (ap not c.if-not-is_end.false)) s.invariant
 
 pub returns : goal.returns
 returns c =
     let a = c.args in
     let s = c.loop-g in
     let e : s.g ≡ a.known = omega arith in
-    rw (← c.column_of-column.ensures.0) (sym (rw e at s.invariant))
+    sym (rw e at s.invariant)

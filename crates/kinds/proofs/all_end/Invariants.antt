@@ -6,4 +6,4 @@ use Rattle.entries.specs.Kinds.{ends_at}
 use Rattle.kinds.proofs.all_end.Given as goal
 
 abbrev pub invariant-loop-g : goal.invariant-loop-g
-invariant-loop-g l = below l.g (ends_at l.guests l.column l.floors) ≡ true
+invariant-loop-g l = below l.g (ends_at l.guests l.kind l.floors) ≡ true

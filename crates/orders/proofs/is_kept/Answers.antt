@@ -17,8 +17,8 @@ use Rattle.orders.proofs.is_kept.Goals.{then-floor-eq0, else-floor-eq0}
 pub loop-i-init : goal.loop-i-init
 loop-i-init c =
     let a = c.args in
-    let few = c.requires.few in
-    (walk_start a.guests.now a.known a.waiting.now a.count c.column_of-column.result few, gaps_start (gap_at a.guests.now c.column_of-column.result) a.known few)
+    let few = c.requires.0.few in
+    (walk_start a.guests.now a.known a.waiting.now a.count a.kind few, gaps_start (gap_at a.guests.now a.kind) a.known few)
 
 -- A TURN of the loop, at the row of one request
 module _ (gs : List ℕ) (known : ℕ) (ws : List ℕ) (count kind : ℕ) (p : Tested gs known ws count × (kind ≤ SHARES)) (row : ℕ) (here : row < count) where
@@ -76,120 +76,122 @@ module _ (gs : List ℕ) (known : ℕ) (ws : List ℕ) (count kind : ℕ) (p : T
 
 pub offset_bounds-floors-g : goal.offset_bounds-floors-g
 offset_bounds-floors-g c =
-    omega (arith, low c.args.guests.now c.args.known c.args.waiting.now c.args.count c.column_of-column.result (c.requires, c.column_of-column.ensures.1) c.loop-i.i c.loop-i-test.true)
+    omega (arith, low c.args.guests.now c.args.known c.args.waiting.now c.args.count c.args.kind c.requires c.loop-i.i c.loop-i-test.true)
 
 pub bounds-floors-g : goal.bounds-floors-g
 bounds-floors-g c =
-    omega (arith, low c.args.guests.now c.args.known c.args.waiting.now c.args.count c.column_of-column.result (c.requires, c.column_of-column.ensures.1) c.loop-i.i c.loop-i-test.true)
+    omega (arith, low c.args.guests.now c.args.known c.args.waiting.now c.args.count c.args.kind c.requires c.loop-i.i c.loop-i-test.true)
 
 pub overflow_mul-g : goal.overflow_mul-g
 overflow_mul-g c =
-    omega (arith, low c.args.guests.now c.args.known c.args.waiting.now c.args.count c.column_of-column.result (c.requires, c.column_of-column.ensures.1) c.loop-i.i c.loop-i-test.true)
+    omega (arith, low c.args.guests.now c.args.known c.args.waiting.now c.args.count c.args.kind c.requires c.loop-i.i c.loop-i-test.true)
 
 pub overflow_add-g-then-floor-eq0 : goal.overflow_add-g-then-floor-eq0
 overflow_add-g-then-floor-eq0 c =
-    omega (arith, low c.args.guests.now c.args.known c.args.waiting.now c.args.count c.column_of-column.result (c.requires, c.column_of-column.ensures.1) c.loop-i.i c.loop-i-test.true, c.column_of-column.ensures.1)
+    omega (arith, low c.args.guests.now c.args.known c.args.waiting.now c.args.count c.args.kind c.requires c.loop-i.i c.loop-i-test.true, c.requires.1)
 
 pub offset_bounds-guests-g : goal.offset_bounds-guests-g
 offset_bounds-guests-g c =
-    omega (arith, low c.args.guests.now c.args.known c.args.waiting.now c.args.count c.column_of-column.result (c.requires, c.column_of-column.ensures.1) c.loop-i.i c.loop-i-test.true, c.column_of-column.ensures.1)
+    omega (arith, low c.args.guests.now c.args.known c.args.waiting.now c.args.count c.args.kind c.requires c.loop-i.i c.loop-i-test.true, c.requires.1)
 
 pub bounds-guests-g : goal.bounds-guests-g
 bounds-guests-g c =
-    omega (arith, there c.args.guests.now c.args.known c.args.waiting.now c.args.count c.column_of-column.result (c.requires, c.column_of-column.ensures.1) c.loop-i.i c.loop-i-test.true, c.requires.guest_room, c.column_of-column.ensures.1)
+    omega (arith, there c.args.guests.now c.args.known c.args.waiting.now c.args.count c.args.kind c.requires c.loop-i.i c.loop-i-test.true, c.requires.0.guest_room, c.requires.1)
 
 pub offset_bounds-gaps-g : goal.offset_bounds-gaps-g
 offset_bounds-gaps-g c =
-    omega (arith, low c.args.guests.now c.args.known c.args.waiting.now c.args.count c.column_of-column.result (c.requires, c.column_of-column.ensures.1) c.loop-i.i c.loop-i-test.true)
+    omega (arith, low c.args.guests.now c.args.known c.args.waiting.now c.args.count c.args.kind c.requires c.loop-i.i c.loop-i-test.true)
 
 pub bounds-gaps-g : goal.bounds-gaps-g
 bounds-gaps-g c =
-    omega (arith, low c.args.guests.now c.args.known c.args.waiting.now c.args.count c.column_of-column.result (c.requires, c.column_of-column.ensures.1) c.loop-i.i c.loop-i-test.true, c.loop-i.invariant.1.long)
+    omega (arith, low c.args.guests.now c.args.known c.args.waiting.now c.args.count c.args.kind c.requires c.loop-i.i c.loop-i-test.true, c.loop-i.invariant.1.long)
 
 pub offset_bounds-gaps-g-in-loop-i : goal.offset_bounds-gaps-g-in-loop-i
 offset_bounds-gaps-g-in-loop-i c =
-    omega (arith, low c.args.guests.now c.args.known c.args.waiting.now c.args.count c.column_of-column.result (c.requires, c.column_of-column.ensures.1) c.loop-i.i c.loop-i-test.true)
+    omega (arith, low c.args.guests.now c.args.known c.args.waiting.now c.args.count c.args.kind c.requires c.loop-i.i c.loop-i-test.true)
 
 pub bounds-gaps-g-in-loop-i : goal.bounds-gaps-g-in-loop-i
 bounds-gaps-g-in-loop-i c =
-    let told : (v : ℕ) → Gaps (gap_at c.args.guests.now c.column_of-column.result) c.args.known c.if-floor-eq0.gaps (set c.loop-i.floors (waiting_at c.args.waiting.now c.loop-i.i GUEST) v) = elim c.if-floor-eq0.branch [
-      | then-floor-eq0 w ↦ took c.args.guests.now c.args.known c.args.waiting.now c.args.count c.column_of-column.result (c.requires, c.column_of-column.ensures.1) c.loop-i.i c.loop-i-test.true c.loop-i.lows c.loop-i.floors c.loop-i.gaps c.loop-i.invariant _ _ w.gaps-is (rw (← c.column_of-column.ensures.0) at w.gap_of.ensures)
-      | else-floor-eq0 w ↦ left c.args.guests.now c.args.known c.args.waiting.now c.args.count c.column_of-column.result (c.requires, c.column_of-column.ensures.1) c.loop-i.i c.loop-i-test.true c.loop-i.lows c.loop-i.floors c.loop-i.gaps c.loop-i.invariant _ w.gaps-is w.if-floor-eq0.false
+    let told : (v : ℕ) → Gaps (gap_at c.args.guests.now c.args.kind) c.args.known c.if-floor-eq0.gaps (set c.loop-i.floors (waiting_at c.args.waiting.now c.loop-i.i GUEST) v) = elim c.if-floor-eq0.branch [
+      | then-floor-eq0 w ↦ took c.args.guests.now c.args.known c.args.waiting.now c.args.count c.args.kind c.requires c.loop-i.i c.loop-i-test.true c.loop-i.lows c.loop-i.floors c.loop-i.gaps c.loop-i.invariant _ _ w.gaps-is w.gap_of.ensures
+      | else-floor-eq0 w ↦ left c.args.guests.now c.args.known c.args.waiting.now c.args.count c.args.kind c.requires c.loop-i.i c.loop-i-test.true c.loop-i.lows c.loop-i.floors c.loop-i.gaps c.loop-i.invariant _ w.gaps-is w.if-floor-eq0.false
     ] in
-    omega (arith, low c.args.guests.now c.args.known c.args.waiting.now c.args.count c.column_of-column.result (c.requires, c.column_of-column.ensures.1) c.loop-i.i c.loop-i-test.true, (told 0).long)
+    omega (arith, low c.args.guests.now c.args.known c.args.waiting.now c.args.count c.args.kind c.requires c.loop-i.i c.loop-i-test.true, (told 0).long)
 
 pub offset_bounds-lows-g : goal.offset_bounds-lows-g
 offset_bounds-lows-g c =
-    omega (arith, low c.args.guests.now c.args.known c.args.waiting.now c.args.count c.column_of-column.result (c.requires, c.column_of-column.ensures.1) c.loop-i.i c.loop-i-test.true)
+    omega (arith, low c.args.guests.now c.args.known c.args.waiting.now c.args.count c.args.kind c.requires c.loop-i.i c.loop-i-test.true)
 
 pub bounds-lows-g : goal.bounds-lows-g
 bounds-lows-g c =
-    omega (arith, low c.args.guests.now c.args.known c.args.waiting.now c.args.count c.column_of-column.result (c.requires, c.column_of-column.ensures.1) c.loop-i.i c.loop-i-test.true, c.loop-i.invariant.0.low_long)
+    omega (arith, low c.args.guests.now c.args.known c.args.waiting.now c.args.count c.args.kind c.requires c.loop-i.i c.loop-i-test.true, c.loop-i.invariant.0.low_long)
 
 pub returns-then-not-is_passed : goal.returns-then-not-is_passed
 returns-then-not-is_passed c =
-    let told : (v : ℕ) → Gaps (gap_at c.args.guests.now c.column_of-column.result) c.args.known c.if-floor-eq0.gaps (set c.loop-i.floors (waiting_at c.args.waiting.now c.loop-i.i GUEST) v) = elim c.if-floor-eq0.branch [
-      | then-floor-eq0 w ↦ took c.args.guests.now c.args.known c.args.waiting.now c.args.count c.column_of-column.result (c.requires, c.column_of-column.ensures.1) c.loop-i.i c.loop-i-test.true c.loop-i.lows c.loop-i.floors c.loop-i.gaps c.loop-i.invariant _ _ w.gaps-is (rw (← c.column_of-column.ensures.0) at w.gap_of.ensures)
-      | else-floor-eq0 w ↦ left c.args.guests.now c.args.known c.args.waiting.now c.args.count c.column_of-column.result (c.requires, c.column_of-column.ensures.1) c.loop-i.i c.loop-i-test.true c.loop-i.lows c.loop-i.floors c.loop-i.gaps c.loop-i.invariant _ w.gaps-is w.if-floor-eq0.false
+    let told : (v : ℕ) → Gaps (gap_at c.args.guests.now c.args.kind) c.args.known c.if-floor-eq0.gaps (set c.loop-i.floors (waiting_at c.args.waiting.now c.loop-i.i GUEST) v) = elim c.if-floor-eq0.branch [
+      | then-floor-eq0 w ↦ took c.args.guests.now c.args.known c.args.waiting.now c.args.count c.args.kind c.requires c.loop-i.i c.loop-i-test.true c.loop-i.lows c.loop-i.floors c.loop-i.gaps c.loop-i.invariant _ _ w.gaps-is w.gap_of.ensures
+      | else-floor-eq0 w ↦ left c.args.guests.now c.args.known c.args.waiting.now c.args.count c.args.kind c.requires c.loop-i.i c.loop-i-test.true c.loop-i.lows c.loop-i.floors c.loop-i.gaps c.loop-i.invariant _ w.gaps-is w.if-floor-eq0.false
     ] in
-    rw (← c.column_of-column.ensures.0)
-    (sym (kind_fails c.args.guests.now c.args.known c.args.waiting.now c.args.count c.requires c.column_of-column.result c.column_of-column.ensures.1 c.loop-i.lows c.loop-i.floors c.loop-i.i c.loop-i.invariant.0 c.loop-i-test.true (sym (same_test c.args.guests.now c.args.known c.args.waiting.now c.args.count c.column_of-column.result (c.requires, c.column_of-column.ensures.1) c.loop-i.i c.loop-i-test.true c.loop-i.lows c.loop-i.floors c.loop-i.gaps c.loop-i.invariant c.if-floor-eq0.gaps told _ c.is_passed.ensures) ∙ c.if-not-is_passed.true)))
+    sym (kind_fails c.args.guests.now c.args.known c.args.waiting.now c.args.count c.requires.0 c.args.kind c.requires.1 c.loop-i.lows c.loop-i.floors c.loop-i.i c.loop-i.invariant.0 c.loop-i-test.true (sym (same_test c.args.guests.now c.args.known c.args.waiting.now c.args.count c.args.kind c.requires c.loop-i.i c.loop-i-test.true c.loop-i.lows c.loop-i.floors c.loop-i.gaps c.loop-i.invariant c.if-floor-eq0.gaps told _ c.is_passed.ensures) ∙ c.if-not-is_passed.true))
 
 pub overflow_mul-distance : goal.overflow_mul-distance
 overflow_mul-distance c =
-    let told : (v : ℕ) → Gaps (gap_at c.args.guests.now c.column_of-column.result) c.args.known c.if-floor-eq0.gaps (set c.loop-i.floors (waiting_at c.args.waiting.now c.loop-i.i GUEST) v) = elim c.if-floor-eq0.branch [
-      | then-floor-eq0 w ↦ took c.args.guests.now c.args.known c.args.waiting.now c.args.count c.column_of-column.result (c.requires, c.column_of-column.ensures.1) c.loop-i.i c.loop-i-test.true c.loop-i.lows c.loop-i.floors c.loop-i.gaps c.loop-i.invariant _ _ w.gaps-is (rw (← c.column_of-column.ensures.0) at w.gap_of.ensures)
-      | else-floor-eq0 w ↦ left c.args.guests.now c.args.known c.args.waiting.now c.args.count c.column_of-column.result (c.requires, c.column_of-column.ensures.1) c.loop-i.i c.loop-i-test.true c.loop-i.lows c.loop-i.floors c.loop-i.gaps c.loop-i.invariant _ w.gaps-is w.if-floor-eq0.false
+    let told : (v : ℕ) → Gaps (gap_at c.args.guests.now c.args.kind) c.args.known c.if-floor-eq0.gaps (set c.loop-i.floors (waiting_at c.args.waiting.now c.loop-i.i GUEST) v) = elim c.if-floor-eq0.branch [
+      | then-floor-eq0 w ↦ took c.args.guests.now c.args.known c.args.waiting.now c.args.count c.args.kind c.requires c.loop-i.i c.loop-i-test.true c.loop-i.lows c.loop-i.floors c.loop-i.gaps c.loop-i.invariant _ _ w.gaps-is w.gap_of.ensures
+      | else-floor-eq0 w ↦ left c.args.guests.now c.args.known c.args.waiting.now c.args.count c.args.kind c.requires c.loop-i.i c.loop-i-test.true c.loop-i.lows c.loop-i.floors c.loop-i.gaps c.loop-i.invariant _ w.gaps-is w.if-floor-eq0.false
     ] in
-    omega (arith, far-is c.args.guests.now c.args.known c.args.waiting.now c.args.count c.column_of-column.result (c.requires, c.column_of-column.ensures.1) c.loop-i.i c.loop-i-test.true c.loop-i.lows c.loop-i.floors c.loop-i.gaps c.loop-i.invariant c.if-floor-eq0.gaps told, far-fits c.args.guests.now c.args.known c.args.waiting.now c.args.count c.column_of-column.result (c.requires, c.column_of-column.ensures.1) c.loop-i.i c.loop-i-test.true c.loop-i.lows c.loop-i.floors c.loop-i.gaps c.loop-i.invariant)
+    omega (arith, far-is c.args.guests.now c.args.known c.args.waiting.now c.args.count c.args.kind c.requires c.loop-i.i c.loop-i-test.true c.loop-i.lows c.loop-i.floors c.loop-i.gaps c.loop-i.invariant c.if-floor-eq0.gaps told, far-fits c.args.guests.now c.args.known c.args.waiting.now c.args.count c.args.kind c.requires c.loop-i.i c.loop-i-test.true c.loop-i.lows c.loop-i.floors c.loop-i.gaps c.loop-i.invariant)
 
 pub overflow_add-floors : goal.overflow_add-floors
 overflow_add-floors c =
-    let told : (v : ℕ) → Gaps (gap_at c.args.guests.now c.column_of-column.result) c.args.known c.if-floor-eq0.gaps (set c.loop-i.floors (waiting_at c.args.waiting.now c.loop-i.i GUEST) v) = elim c.if-floor-eq0.branch [
-      | then-floor-eq0 w ↦ took c.args.guests.now c.args.known c.args.waiting.now c.args.count c.column_of-column.result (c.requires, c.column_of-column.ensures.1) c.loop-i.i c.loop-i-test.true c.loop-i.lows c.loop-i.floors c.loop-i.gaps c.loop-i.invariant _ _ w.gaps-is (rw (← c.column_of-column.ensures.0) at w.gap_of.ensures)
-      | else-floor-eq0 w ↦ left c.args.guests.now c.args.known c.args.waiting.now c.args.count c.column_of-column.result (c.requires, c.column_of-column.ensures.1) c.loop-i.i c.loop-i-test.true c.loop-i.lows c.loop-i.floors c.loop-i.gaps c.loop-i.invariant _ w.gaps-is w.if-floor-eq0.false
+    let told : (v : ℕ) → Gaps (gap_at c.args.guests.now c.args.kind) c.args.known c.if-floor-eq0.gaps (set c.loop-i.floors (waiting_at c.args.waiting.now c.loop-i.i GUEST) v) = elim c.if-floor-eq0.branch [
+      | then-floor-eq0 w ↦ took c.args.guests.now c.args.known c.args.waiting.now c.args.count c.args.kind c.requires c.loop-i.i c.loop-i-test.true c.loop-i.lows c.loop-i.floors c.loop-i.gaps c.loop-i.invariant _ _ w.gaps-is w.gap_of.ensures
+      | else-floor-eq0 w ↦ left c.args.guests.now c.args.known c.args.waiting.now c.args.count c.args.kind c.requires c.loop-i.i c.loop-i-test.true c.loop-i.lows c.loop-i.floors c.loop-i.gaps c.loop-i.invariant _ w.gaps-is w.if-floor-eq0.false
     ] in
-    omega (arith, far-is c.args.guests.now c.args.known c.args.waiting.now c.args.count c.column_of-column.result (c.requires, c.column_of-column.ensures.1) c.loop-i.i c.loop-i-test.true c.loop-i.lows c.loop-i.floors c.loop-i.gaps c.loop-i.invariant c.if-floor-eq0.gaps told, far-fits c.args.guests.now c.args.known c.args.waiting.now c.args.count c.column_of-column.result (c.requires, c.column_of-column.ensures.1) c.loop-i.i c.loop-i-test.true c.loop-i.lows c.loop-i.floors c.loop-i.gaps c.loop-i.invariant, tag_fits c.args.guests.now c.args.known c.args.waiting.now c.args.count c.column_of-column.result (c.requires, c.column_of-column.ensures.1) c.loop-i.i c.loop-i-test.true)
+    omega (arith, far-is c.args.guests.now c.args.known c.args.waiting.now c.args.count c.args.kind c.requires c.loop-i.i c.loop-i-test.true c.loop-i.lows c.loop-i.floors c.loop-i.gaps c.loop-i.invariant c.if-floor-eq0.gaps told, far-fits c.args.guests.now c.args.known c.args.waiting.now c.args.count c.args.kind c.requires c.loop-i.i c.loop-i-test.true c.loop-i.lows c.loop-i.floors c.loop-i.gaps c.loop-i.invariant, tag_fits c.args.guests.now c.args.known c.args.waiting.now c.args.count c.args.kind c.requires c.loop-i.i c.loop-i-test.true)
 
 pub offset_bounds-floors-g-in-loop-i : goal.offset_bounds-floors-g-in-loop-i
 offset_bounds-floors-g-in-loop-i c =
-    omega (arith, low c.args.guests.now c.args.known c.args.waiting.now c.args.count c.column_of-column.result (c.requires, c.column_of-column.ensures.1) c.loop-i.i c.loop-i-test.true)
+    omega (arith, low c.args.guests.now c.args.known c.args.waiting.now c.args.count c.args.kind c.requires c.loop-i.i c.loop-i-test.true)
 
 pub bounds-floors-g-in-loop-i : goal.bounds-floors-g-in-loop-i
 bounds-floors-g-in-loop-i c =
-    omega (arith, low c.args.guests.now c.args.known c.args.waiting.now c.args.count c.column_of-column.result (c.requires, c.column_of-column.ensures.1) c.loop-i.i c.loop-i-test.true, c.loop-i.invariant.0.long)
+    omega (arith, low c.args.guests.now c.args.known c.args.waiting.now c.args.count c.args.kind c.requires c.loop-i.i c.loop-i-test.true, c.loop-i.invariant.0.long)
 
 pub overflow_add-lows : goal.overflow_add-lows
 overflow_add-lows c =
-    let told : (v : ℕ) → Gaps (gap_at c.args.guests.now c.column_of-column.result) c.args.known c.if-floor-eq0.gaps (set c.loop-i.floors (waiting_at c.args.waiting.now c.loop-i.i GUEST) v) = elim c.if-floor-eq0.branch [
-      | then-floor-eq0 w ↦ took c.args.guests.now c.args.known c.args.waiting.now c.args.count c.column_of-column.result (c.requires, c.column_of-column.ensures.1) c.loop-i.i c.loop-i-test.true c.loop-i.lows c.loop-i.floors c.loop-i.gaps c.loop-i.invariant _ _ w.gaps-is (rw (← c.column_of-column.ensures.0) at w.gap_of.ensures)
-      | else-floor-eq0 w ↦ left c.args.guests.now c.args.known c.args.waiting.now c.args.count c.column_of-column.result (c.requires, c.column_of-column.ensures.1) c.loop-i.i c.loop-i-test.true c.loop-i.lows c.loop-i.floors c.loop-i.gaps c.loop-i.invariant _ w.gaps-is w.if-floor-eq0.false
+    let told : (v : ℕ) → Gaps (gap_at c.args.guests.now c.args.kind) c.args.known c.if-floor-eq0.gaps (set c.loop-i.floors (waiting_at c.args.waiting.now c.loop-i.i GUEST) v) = elim c.if-floor-eq0.branch [
+      | then-floor-eq0 w ↦ took c.args.guests.now c.args.known c.args.waiting.now c.args.count c.args.kind c.requires c.loop-i.i c.loop-i-test.true c.loop-i.lows c.loop-i.floors c.loop-i.gaps c.loop-i.invariant _ _ w.gaps-is w.gap_of.ensures
+      | else-floor-eq0 w ↦ left c.args.guests.now c.args.known c.args.waiting.now c.args.count c.args.kind c.requires c.loop-i.i c.loop-i-test.true c.loop-i.lows c.loop-i.floors c.loop-i.gaps c.loop-i.invariant _ w.gaps-is w.if-floor-eq0.false
     ] in
-    omega (arith, near-is c.args.guests.now c.args.known c.args.waiting.now c.args.count c.column_of-column.result (c.requires, c.column_of-column.ensures.1) c.loop-i.i c.loop-i-test.true c.loop-i.lows c.loop-i.floors c.loop-i.gaps c.loop-i.invariant c.if-floor-eq0.gaps told _ (rw (← c.column_of-column.ensures.0) at c.near_of.ensures), near-low c.column_of-column.result (far c.args.guests.now c.args.known c.args.waiting.now c.args.count c.column_of-column.result (c.requires, c.column_of-column.ensures.1) c.loop-i.i c.loop-i-test.true), far-fits c.args.guests.now c.args.known c.args.waiting.now c.args.count c.column_of-column.result (c.requires, c.column_of-column.ensures.1) c.loop-i.i c.loop-i-test.true c.loop-i.lows c.loop-i.floors c.loop-i.gaps c.loop-i.invariant, tag_fits c.args.guests.now c.args.known c.args.waiting.now c.args.count c.column_of-column.result (c.requires, c.column_of-column.ensures.1) c.loop-i.i c.loop-i-test.true)
+    omega (arith, near-is c.args.guests.now c.args.known c.args.waiting.now c.args.count c.args.kind c.requires c.loop-i.i c.loop-i-test.true c.loop-i.lows c.loop-i.floors c.loop-i.gaps c.loop-i.invariant c.if-floor-eq0.gaps told _ c.near_of.ensures, near-low c.args.kind (far c.args.guests.now c.args.known c.args.waiting.now c.args.count c.args.kind c.requires c.loop-i.i c.loop-i-test.true), far-fits c.args.guests.now c.args.known c.args.waiting.now c.args.count c.args.kind c.requires c.loop-i.i c.loop-i-test.true c.loop-i.lows c.loop-i.floors c.loop-i.gaps c.loop-i.invariant, tag_fits c.args.guests.now c.args.known c.args.waiting.now c.args.count c.args.kind c.requires c.loop-i.i c.loop-i-test.true)
 
 pub offset_bounds-lows-g-in-loop-i : goal.offset_bounds-lows-g-in-loop-i
 offset_bounds-lows-g-in-loop-i c =
-    omega (arith, low c.args.guests.now c.args.known c.args.waiting.now c.args.count c.column_of-column.result (c.requires, c.column_of-column.ensures.1) c.loop-i.i c.loop-i-test.true)
+    omega (arith, low c.args.guests.now c.args.known c.args.waiting.now c.args.count c.args.kind c.requires c.loop-i.i c.loop-i-test.true)
 
 pub bounds-lows-g-in-loop-i : goal.bounds-lows-g-in-loop-i
 bounds-lows-g-in-loop-i c =
-    omega (arith, low c.args.guests.now c.args.known c.args.waiting.now c.args.count c.column_of-column.result (c.requires, c.column_of-column.ensures.1) c.loop-i.i c.loop-i-test.true, c.loop-i.invariant.0.low_long)
+    omega (arith, low c.args.guests.now c.args.known c.args.waiting.now c.args.count c.args.kind c.requires c.loop-i.i c.loop-i-test.true, c.loop-i.invariant.0.low_long)
 
 pub loop-i-preserved : goal.loop-i-preserved
 loop-i-preserved c =
-    let told : (v : ℕ) → Gaps (gap_at c.args.guests.now c.column_of-column.result) c.args.known c.if-floor-eq0.gaps (set c.loop-i.floors (waiting_at c.args.waiting.now c.loop-i.i GUEST) v) = elim c.if-floor-eq0.branch [
-      | then-floor-eq0 w ↦ took c.args.guests.now c.args.known c.args.waiting.now c.args.count c.column_of-column.result (c.requires, c.column_of-column.ensures.1) c.loop-i.i c.loop-i-test.true c.loop-i.lows c.loop-i.floors c.loop-i.gaps c.loop-i.invariant _ _ w.gaps-is (rw (← c.column_of-column.ensures.0) at w.gap_of.ensures)
-      | else-floor-eq0 w ↦ left c.args.guests.now c.args.known c.args.waiting.now c.args.count c.column_of-column.result (c.requires, c.column_of-column.ensures.1) c.loop-i.i c.loop-i-test.true c.loop-i.lows c.loop-i.floors c.loop-i.gaps c.loop-i.invariant _ w.gaps-is w.if-floor-eq0.false
+    let told : (v : ℕ) → Gaps (gap_at c.args.guests.now c.args.kind) c.args.known c.if-floor-eq0.gaps (set c.loop-i.floors (waiting_at c.args.waiting.now c.loop-i.i GUEST) v) = elim c.if-floor-eq0.branch [
+      | then-floor-eq0 w ↦ took c.args.guests.now c.args.known c.args.waiting.now c.args.count c.args.kind c.requires c.loop-i.i c.loop-i-test.true c.loop-i.lows c.loop-i.floors c.loop-i.gaps c.loop-i.invariant _ _ w.gaps-is w.gap_of.ensures
+      | else-floor-eq0 w ↦ left c.args.guests.now c.args.known c.args.waiting.now c.args.count c.args.kind c.requires c.loop-i.i c.loop-i-test.true c.loop-i.lows c.loop-i.floors c.loop-i.gaps c.loop-i.invariant _ w.gaps-is w.if-floor-eq0.false
     ] in (
-      kind-next c.args.guests.now c.args.known c.args.waiting.now c.args.count c.requires c.column_of-column.result c.column_of-column.ensures.1 c.loop-i.lows c.loop-i.floors c.loop-i.i c.loop-i.invariant.0 c.loop-i-test.true _ _ (sym (same_test c.args.guests.now c.args.known c.args.waiting.now c.args.count c.column_of-column.result (c.requires, c.column_of-column.ensures.1) c.loop-i.i c.loop-i-test.true c.loop-i.lows c.loop-i.floors c.loop-i.gaps c.loop-i.invariant c.if-floor-eq0.gaps told _ c.is_passed.ensures) ∙ c.if-not-is_passed.false)
-          (ap (tag c.args.guests.now c.args.known c.args.waiting.now c.args.count c.column_of-column.result (c.requires, c.column_of-column.ensures.1) c.loop-i.i c.loop-i-test.true +◌) (near-is c.args.guests.now c.args.known c.args.waiting.now c.args.count c.column_of-column.result (c.requires, c.column_of-column.ensures.1) c.loop-i.i c.loop-i-test.true c.loop-i.lows c.loop-i.floors c.loop-i.gaps c.loop-i.invariant c.if-floor-eq0.gaps told _ (rw (← c.column_of-column.ensures.0) at c.near_of.ensures))) (ap (tag c.args.guests.now c.args.known c.args.waiting.now c.args.count c.column_of-column.result (c.requires, c.column_of-column.ensures.1) c.loop-i.i c.loop-i-test.true +◌) (far-is c.args.guests.now c.args.known c.args.waiting.now c.args.count c.column_of-column.result (c.requires, c.column_of-column.ensures.1) c.loop-i.i c.loop-i-test.true c.loop-i.lows c.loop-i.floors c.loop-i.gaps c.loop-i.invariant c.if-floor-eq0.gaps told)),
+      kind-next c.args.guests.now c.args.known c.args.waiting.now c.args.count c.requires.0 c.args.kind c.requires.1 c.loop-i.lows c.loop-i.floors c.loop-i.i c.loop-i.invariant.0 c.loop-i-test.true _ _ (sym (same_test c.args.guests.now c.args.known c.args.waiting.now c.args.count c.args.kind c.requires c.loop-i.i c.loop-i-test.true c.loop-i.lows c.loop-i.floors c.loop-i.gaps c.loop-i.invariant c.if-floor-eq0.gaps told _ c.is_passed.ensures) ∙ c.if-not-is_passed.false)
+          (ap (tag c.args.guests.now c.args.known c.args.waiting.now c.args.count c.args.kind c.requires c.loop-i.i c.loop-i-test.true +◌) (near-is c.args.guests.now c.args.known c.args.waiting.now c.args.count c.args.kind c.requires c.loop-i.i c.loop-i-test.true c.loop-i.lows c.loop-i.floors c.loop-i.gaps c.loop-i.invariant c.if-floor-eq0.gaps told _ c.near_of.ensures)) (ap (tag c.args.guests.now c.args.known c.args.waiting.now c.args.count c.args.kind c.requires c.loop-i.i c.loop-i-test.true +◌) (far-is c.args.guests.now c.args.known c.args.waiting.now c.args.count c.args.kind c.requires c.loop-i.i c.loop-i-test.true c.loop-i.lows c.loop-i.floors c.loop-i.gaps c.loop-i.invariant c.if-floor-eq0.gaps told)),
       told _,
     )
+
+pub all_end-requires : goal.all_end-requires
+all_end-requires c =
+    let p = c.requires in
+    (p.0.few, p.0.guest_room, p.1)
 
 pub returns : goal.returns
 returns c =
     let s = c.loop-i in
     let a = c.args in
-    rw (← c.column_of-column.ensures.0)
-    ((rw (← c.column_of-column.ensures.0) at c.all_end.ensures)
-    ∙ kind-ends a.guests.now a.known a.waiting.now a.count c.requires c.column_of-column.result c.column_of-column.ensures.1 s.lows s.floors s.i s.invariant.0 c.loop-i-test.false)
+    c.all_end.ensures ∙ kind-ends a.guests.now a.known a.waiting.now a.count c.requires.0 a.kind c.requires.1 s.lows s.floors s.i s.invariant.0 c.loop-i-test.false

@@ -5,4 +5,4 @@ use Rattle.orders.proofs.is_kept.Given as goal
 
 abbrev pub invariant-loop-i : goal.invariant-loop-i
 invariant-loop-i l =
-    Walked l.guests l.known l.waiting l.count l.column l.lows l.floors l.i × Gaps (gap_at l.guests l.column) l.known l.gaps l.floors
+    Walked l.guests l.known l.waiting l.count l.kind l.lows l.floors l.i × Gaps (gap_at l.guests l.kind) l.known l.gaps l.floors

@@ -8,8 +8,7 @@ use borrow.Author.Tests.{not-true, not-false}
 use borrow.Author.Rules.{rules}
 use Rattle.pairs.specs.Names.{part_at}
 use Rattle.pairs.proofs.Places.{names-none, names_old, names-new}
-use Rattle.pairs.specs.Chains.{bucket_at}
-use Rattle.pairs.proofs.Buckets.{same_bucket, apart_next, seen_start, seen_next}
+use Rattle.pairs.proofs.Buckets.{bucket_at, same_bucket, apart_next, seen_start, seen_next}
 use Rattle.pairs.proofs.few_once.Goals as goal
 use Rattle.pairs.proofs.few_once.Goals.{else-seen-b-via-then-seen-b+else-not-is_new, else-seen-b-via-else-seen-b}
 

@@ -1,8 +1,7 @@
 -- No two of the places passed have one name, and their buckets are marked.
 use Prim.Native.Nat.{◌%◌}
 use Rattle.pairs.specs.Names.{part_at}
-use Rattle.pairs.specs.Chains.{bucket_at}
-use Rattle.pairs.proofs.Buckets.{Apart, Seen}
+use Rattle.pairs.proofs.Buckets.{bucket_at, Apart, Seen}
 use Rattle.pairs.proofs.few_once.Given as goal
 
 abbrev pub invariant-loop-i : goal.invariant-loop-i

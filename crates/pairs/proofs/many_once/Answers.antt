@@ -1,47 +1,83 @@
--- No two of the places passed have one name, and the arrays link the places of each bucket.
-use Prim.Native.Nat.{ℕ}
+-- Outer loop: no two of the places passed have one name, and the arrays link the places of each bucket. Inner loop: no place of the bucket that was
+-- passed has the name.
+use Prim.Native.Nat.{ℕ, ◌≤◌, ◌-◌}
 use mathlib.Core.Path.{◌≡◌, refl, ap, sym, ◌∙◌}
-use mathlib.Core.Bool.{not}
 use native.Mathlib.Nat.{not-suc-le-zero}
 use native.Mathlib.Omega.{arith}
-use borrow.Author.Tests.{not-true, not-false}
 use Rattle.pairs.specs.Names.{part_at}
-use Rattle.pairs.specs.Chains.{last_before, bucket_at}
-use Rattle.pairs.proofs.Places.{names-none, names_old, names-new}
-use Rattle.pairs.proofs.Buckets.{linked-start, linked-next, apart_next}
+use Rattle.pairs.proofs.Places.{names_hit, names-none, both_same, both_differ}
+use Rattle.pairs.proofs.Buckets.{last_before, last_le, bucket_at, linked-start, linked-next, passed_start, passed-next, passed-end}
 use Rattle.pairs.proofs.many_once.Goals as goal
 
-pub loop-i-init : goal.loop-i-init
-loop-i-init c = (linked-start _, λ i j l. absurd (not-suc-le-zero l))
+pub pairs-init : goal.pairs-init
+pairs-init c = (linked-start _, λ i j l. absurd (not-suc-le-zero l), refl)
 
-pub is_new_along-requires-clause-led : goal.is_new_along-requires-clause-led
-is_new_along-requires-clause-led c =
-    let o = c.loop-i in
-    let a = c.args in
-    let at = bucket_at (part_at a.waiting.now a.count a.flight.now 0) (part_at a.waiting.now a.count a.flight.now 1) in
-    let e : c.bucket-b.result ≡ at o.i = rw (c.name_at.ensures.0, c.name_at.ensures.1) at c.bucket-b.ensures.0 in
-    record { start = o.invariant.0.head c.bucket-b.result c.bucket-b.ensures.1 ∙ ap (λ (b : ℕ). last_before at b o.i) e; link = o.invariant.0.link }
-
-pub returns-then-not-is_new_along : goal.returns-then-not-is_new_along
-returns-then-not-is_new_along c =
-    let o = c.loop-i in
-    let a = c.args in
-    sym (names_old a.waiting.now a.count a.flight.now a.sent o.i c.loop-i-test.true (sym c.is_new_along.ensures ∙ not-true _ (ap not c.if-not-is_new_along.true)))
-
-pub loop-i-preserved : goal.loop-i-preserved
-loop-i-preserved c =
-    let o = c.loop-i in
+pub loop-next-init : goal.loop-next-init
+loop-next-init c =
+    let o = c.pairs in
     let a = c.args in
     let guest = part_at a.waiting.now a.count a.flight.now 0 in
     let id = part_at a.waiting.now a.count a.flight.now 1 in
-    let e : c.bucket-b.result ≡ bucket_at guest id o.i = rw (c.name_at.ensures.0, c.name_at.ensures.1) at c.bucket-b.ensures.0 in
-    let fresh = names-new a.waiting.now a.count a.flight.now a.sent o.i (sym c.is_new_along.ensures ∙ not-false _ (ap not c.if-not-is_new_along.false)) in (
+    let e : c.bucket-b.result ≡ bucket_at guest id o.i = rw (c.name_at-name.ensures.0, c.name_at-name.ensures.1) at c.bucket-b.ensures.0 in
+    let first : c.from-next.result ≡ last_before (bucket_at guest id) (bucket_at guest id o.i) o.i =
+    c.from-next.ensures ∙ o.invariant.0.head c.bucket-b.result c.bucket-b.ensures.1 ∙ ap (λ (b : ℕ). last_before (bucket_at guest id) b o.i) e
+    in
+    (passed_start guest id o.i c.from-next.result first, o.invariant.2)
+
+pub loop-next-smaller : goal.loop-next-smaller
+loop-next-smaller c =
+    let o = c.pairs in
+    let a = c.args in
+    let guest = part_at a.waiting.now a.count a.flight.now 0 in
+    let id = part_at a.waiting.now a.count a.flight.now 1 in
+    let s = c.loop-next in
+    let low : s.next ≤ o.i = s.invariant.0.low in
+    let more : c.from-next-in-loop-next.result ≡ last_before (bucket_at guest id) (bucket_at guest id (s.next - 1)) (s.next - 1) =
+    c.from-next-in-loop-next.ensures ∙ o.invariant.0.link (s.next - 1) (omega (arith, low, c.loop-next-test.true))
+    in
+    omega (arith, more, last_le (bucket_at guest id) (bucket_at guest id (s.next - 1)) (s.next - 1))
+
+pub loop-next-preserved : goal.loop-next-preserved
+loop-next-preserved c =
+    let o = c.pairs in
+    let a = c.args in
+    let guest = part_at a.waiting.now a.count a.flight.now 0 in
+    let id = part_at a.waiting.now a.count a.flight.now 1 in
+    let s = c.loop-next in
+    let low : s.next ≤ o.i = s.invariant.0.low in
+    let more : c.from-next-in-loop-next.result ≡ last_before (bucket_at guest id) (bucket_at guest id (s.next - 1)) (s.next - 1) =
+    c.from-next-in-loop-next.ensures ∙ o.invariant.0.link (s.next - 1) (omega (arith, low, c.loop-next-test.true))
+    in
+    let same = rw (c.name_at.ensures.0, c.name_at.ensures.1, c.name_at-name.ensures.0, c.name_at-name.ensures.1) at c.eq.ensures in
+    let other = both_differ _ _ _ _ (sym same ∙ c.if-eq.false) in
+    let j = s.next - 1 in
+    (passed-next guest id o.i s.next j c.from-next-in-loop-next.result s.invariant.0 (omega (arith, c.loop-next-test.true)) other more, s.invariant.1)
+
+pub pairs-preserved : goal.pairs-preserved
+pairs-preserved c =
+    let o = c.pairs in
+    let a = c.args in
+    let guest = part_at a.waiting.now a.count a.flight.now 0 in
+    let id = part_at a.waiting.now a.count a.flight.now 1 in
+    let e : c.bucket-b.result ≡ bucket_at guest id o.i = rw (c.name_at-name.ensures.0, c.name_at-name.ensures.1) at c.bucket-b.ensures.0 in
+    let s = c.loop-next in (
       linked-next (bucket_at guest id) o.heads o.links o.i c.bucket-b.result _ _ o.invariant.0 (omega arith) c.bucket-b.ensures.1 e refl refl,
-      apart_next guest id o.i o.invariant.1 fresh,
+      passed-end guest id o.i s.next s.invariant.0 c.loop-next-test.false o.invariant.1,
+      s.invariant.1,
     )
 
-pub returns : goal.returns
-returns c =
-    let s = c.loop-i in
+pub returns-after-pairs : goal.returns-after-pairs
+returns-after-pairs c =
+    let s = c.pairs in
     let a = c.args in
-    sym (names-none a.waiting.now a.count a.flight.now a.sent (λ i j l. s.invariant.1 i j (omega arith)))
+    s.invariant.2 ∙ sym (names-none a.waiting.now a.count a.flight.now a.sent (λ i j l. s.invariant.1 i j (omega arith)))
+
+pub returns-then-eq : goal.returns-then-eq
+returns-then-eq c =
+    let s = c.loop-next in
+    let o = c.pairs in
+    let a = c.args in
+    let low : s.next ≤ o.i = s.invariant.0.low in
+    let same = rw (c.name_at.ensures.0, c.name_at.ensures.1, c.name_at-name.ensures.0, c.name_at-name.ensures.1) at c.eq.ensures in
+    let one = both_same _ _ _ _ (sym same ∙ c.if-eq.true) in
+    sym (names_hit a.waiting.now a.count a.flight.now a.sent (s.next - 1) o.i (omega (arith, low, c.loop-next-test.true)) c.pairs-test.true one.0 one.1)

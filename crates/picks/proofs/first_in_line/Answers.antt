@@ -8,8 +8,8 @@ pub returns-then-queue-le-FEW : goal.returns-then-queue-le-FEW
 returns-then-queue-le-FEW c =
     let a = c.args.queue in
     let e = c.every-best.ensures in record {
-      picks = rw c.firsts_at.ensures.0 (passed-due a.guests.now a.waiting.now a.known a.count a.time c.args.latest e a.sound.owned);
-      picks_2 = rw c.firsts_at.ensures.1 (passed_open a.guests.now a.waiting.now a.known a.count a.time c.args.latest e a.sound.shares_fit);
+      picks = rw c.firsts_at.ensures.0 (passed-due a.guests.now a.waiting.now a.known a.count a.time c.args.latest e c.requires.owned.0);
+      picks_2 = rw c.firsts_at.ensures.1 (passed_open a.guests.now a.waiting.now a.known a.count a.time c.args.latest e c.requires.owned.2);
     }
 
 pub among-best-requires-clause-collected : goal.among-best-requires-clause-collected
@@ -20,6 +20,6 @@ pub returns : goal.returns
 returns c =
     let a = c.args.queue in
     let e = c.among-best.ensures in record {
-      picks = rw c.firsts_at-2.ensures.0 (passed-due a.guests.now a.waiting.now a.known a.count a.time c.args.latest e a.sound.owned);
-      picks_2 = rw c.firsts_at-2.ensures.1 (passed_open a.guests.now a.waiting.now a.known a.count a.time c.args.latest e a.sound.shares_fit);
+      picks = rw c.firsts_at-2.ensures.0 (passed-due a.guests.now a.waiting.now a.known a.count a.time c.args.latest e c.requires.owned.0);
+      picks_2 = rw c.firsts_at-2.ensures.1 (passed_open a.guests.now a.waiting.now a.known a.count a.time c.args.latest e c.requires.owned.2);
     }

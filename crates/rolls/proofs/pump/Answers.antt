@@ -7,7 +7,7 @@ use lib.Seq.{take-add}
 use Rattle.port.specs.Moves.{Goes, brought}
 use Rattle.port.specs.declared.Moved.{Moved}
 use Rattle.stream.proofs.Emitting.{within}
-use Rattle.rolls.specs.Ledger.{stand_of}
+use Rattle.pages.specs.Standing.{stand_of}
 use Rattle.rolls.proofs.Pumping.{turned, closes, read_none, read_failed, Pumping, pumps, pumped_out}
 use Rattle.rolls.proofs.pump.Goals as goal
 
@@ -31,15 +31,15 @@ pub finish-requires : goal.finish-requires
 finish-requires c =
     let t = c.take_in-turn in
     let r = c.refill in
-    closes _ t.result.number _ (take t.result.rest t.new.buffer) t.new.ledger t.ensures.firm_2
-    (read_none _ _ _ r.result (drop t.result.rest r.new.buffer) r.ensures.goes (turned t.ensures.stand_after c.loop-turn.invariant.3.standing) c.in-Nothing.is)
+    closes _ t.result.number _ (take t.result.rest t.new.buffer) t.result.gate _ _ _ _ _ t.ensures.firm_2
+    (read_none _ _ _ r.result (drop t.result.rest r.new.buffer) r.ensures.goes (turned t.ensures.figures_after c.loop-turn.invariant.3.standing) c.in-Nothing.is)
     (omega (arith, length-take t.result.rest t.new.buffer, t.ensures.rest_bound.0))
 
 pub returns-in-Failed : goal.returns-in-Failed
 returns-in-Failed c =
     let t = c.take_in-turn in
     let r = c.refill in
-    read_failed _ _ _ r.result (drop t.result.rest r.new.buffer) r.ensures.goes (turned t.ensures.stand_after c.loop-turn.invariant.3.standing) c.in-Failed.is
+    read_failed _ _ _ r.result (drop t.result.rest r.new.buffer) r.ensures.goes (turned t.ensures.figures_after c.loop-turn.invariant.3.standing) c.in-Failed.is
 
 pub loop-turn-preserved : goal.loop-turn-preserved
 loop-turn-preserved c =
@@ -53,9 +53,9 @@ loop-turn-preserved c =
       omega (arith, w.1, t.ensures.rest_bound.0),
       omega (arith, t.ensures.rest_bound.1, l.invariant.0, l.invariant.1),
       t.ensures.firm_2,
-      subst (λ (x : List ℕ). Pumping r.new.log (stand_of c.args.version x t.new.ledger) (l._turn + 1))
+      subst (λ (x : List ℕ). Pumping r.new.log (stand_of c.args.version x t.result.gate t.new.guests t.new.waiting t.new.flight t.new.book t.new.figures) (l._turn + 1))
           (ap (λ (x : List ℕ). x ++ take k (drop rest cs)) (sym r.ensures.buffer_unchanged) ∙ sym (take-add rest k cs))
-          (pumps l.log r.new.log _ _ l._turn t.ensures.stand_after (drop rest cs) k
+          (pumps l.log r.new.log _ _ l._turn t.ensures.figures_after (drop rest cs) k
           (subst (λ (x : Moved). Goes (brought x (drop rest cs)) l.log r.new.log) c.in-Bytes.is r.ensures.goes)
           w.0 (omega (arith, w.1, length-drop rest cs, t.ensures.rest_bound.0)) l.invariant.3),
     )

@@ -7,8 +7,7 @@ use Rattle.lists.specs.Words.{lowest}
 use Rattle.rules.specs.Tables.{Request}
 use Rattle.table.specs.View.{guests_of}
 use Rattle.walks.specs.Walks.{ready_by_tag}
-use Rattle.sends.proofs.Wakes.{wake-full, wake_dry, wake-found, rows-even, even_queued}
-use Rattle.sends.proofs.Phases.{queued}
+use Rattle.sends.proofs.Wakes.{wake_asks, wake-full, wake_dry, wake-found, rows-even, even_asks}
 use Rattle.sends.proofs.wake_of.Goals as goal
 
 pub returns-then-gate : goal.returns-then-gate
@@ -20,10 +19,16 @@ pub returns-then-gate-eq0 : goal.returns-then-gate-eq0
 returns-then-gate-eq0 c =
     λ ws fs es known even. wake_dry c.args.gate c.args.guests.now ws (fs, known) es c.if-gate-eq0.true
 
-pub invariant_of-queue : goal.invariant_of-queue
-invariant_of-queue c =
+pub soonest-requires : goal.soonest-requires
+soonest-requires c =
     let p = c.requires.by_index in
-    record { sound = even_queued c.args.gate.waiting p.0 c.args.waiting.now p.3 (queued c.args.gate c.args.guests.now p.0 p.1 p.2) c.requires.waiting_wide_in_bounds.0 }
+    let some : 0 < c.args.gate.waiting = omega arith in
+    let a = wake_asks c.args.gate c.args.guests.now p.0 (p.1, p.2) some in record {
+      count_nonzero = (a.0.0, a.0.1, c.requires.waiting_wide_in_bounds.0, a.0.3, a.0.4);
+      owned = even_asks c.args.gate.waiting p.0 c.args.waiting.now p.3 a.1.0;
+      time_le_ceiling = a.1.1;
+      beside = c.requires.waiting_wide_in_bounds.1;
+    }
 
 pub returns : goal.returns
 returns c =

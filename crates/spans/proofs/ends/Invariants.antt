@@ -3,4 +3,4 @@ use Rattle.spans.specs.Spanned.{Spanned}
 use Rattle.spans.proofs.ends.Given as goal
 
 abbrev pub invariant-loop-g : goal.invariant-loop-g
-invariant-loop-g l = Spanned l.queue.waiting.now l.queue.count l.g l.least l.most
+invariant-loop-g l = Spanned l.waiting l.count l.g l.least l.most

@@ -4,7 +4,7 @@ use mathlib.Core.Bool.{true}
 use native.Mathlib.Omega.{arith}
 use Rattle.enter.proofs.ArriveReturns.{tags_ask, stamp_passes, move_passes, ready_enters, placeable}
 use Rattle.enter.proofs.Settles.{ends_fit, settle_asks, settled_guests, settled-waiting, move_past, move_within}
-use Rattle.enter.proofs.Besides.{last_asks, beside_settled}
+use Rattle.enter.proofs.Besides.{ends_ask, last_asks, beside_settled}
 use Rattle.enter.proofs.arrive.arrive_idle.Goals as goal
 
 pub tags_of-stamp-requires : goal.tags_of-stamp-requires
@@ -19,7 +19,8 @@ returns-then-not-fits c =
     }
 
 pub ends-span-requires : goal.ends-span-requires
-ends-span-requires c = record { known = (c.args.flight.now, c.requires.known); beside = c.requires.beside }
+ends-span-requires c =
+    let b = ends_ask c.args.gate c.args.guests.now c.args.waiting.now c.args.flight.now c.requires.known c.requires.beside in record { count_le_most_capacity = b.0; owned = b.1.0; beside = b.1.1 }
 
 pub overflow_add-most : goal.overflow_add-most
 overflow_add-most c =

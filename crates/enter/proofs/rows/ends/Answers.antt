@@ -1,16 +1,14 @@
 -- `rows::ends` meets its contract: either way finds the same. Assumes nothing.
-use Rattle.sends.proofs.Phases.{queued}
 use Rattle.enter.proofs.rows.ends.Goals as goal
 
-pub invariant_of-queue : goal.invariant_of-queue
-invariant_of-queue c =
-    let a = c.args in
-    record { sound = queued a.gate a.guests.now a.waiting.now c.requires.known.0 c.requires.known.1 }
+pub ends-requires : goal.ends-requires
+ends-requires c = (c.requires.count_le_most_capacity.0, c.requires.count_le_most_capacity.1)
 
-pub invariant_of-queue-2 : goal.invariant_of-queue-2
-invariant_of-queue-2 c =
-    let a = c.args in
-    record { sound = queued a.gate a.guests.now a.waiting.now c.requires.known.0 c.requires.known.1 }
+pub returns-then-is_walked : goal.returns-then-is_walked
+returns-then-is_walked c = c.ends.ensures
 
 pub ends-requires-2 : goal.ends-requires-2
-ends-requires-2 c = c.requires.beside (c.is_walked.ensures c.if-is_walked.false)
+ends-requires-2 c = record { count_le_most_capacity = c.requires.count_le_most_capacity; owned = c.requires.owned; indexed = c.requires.beside (c.is_walked.ensures c.if-is_walked.false) }
+
+pub returns : goal.returns
+returns c = c.ends-2.ensures

@@ -6,4 +6,4 @@ use Rattle.walks.specs.SurveyLaws.{tags}
 use Rattle.walks.proofs.survey.ends.Given as goal
 
 abbrev pub invariant-loop-row : goal.invariant-loop-row
-invariant-loop-row l = (l.least ≡ lowest (tags l.queue.waiting.now l.row)) × (l.most ≡ highest (tags l.queue.waiting.now l.row))
+invariant-loop-row l = (l.least ≡ lowest (tags l.waiting l.row)) × (l.most ≡ highest (tags l.waiting l.row))
