@@ -126,11 +126,14 @@ def closed_pipe(check, trace, first, **more):
     running = check.run(output=writes, **more)
     os.close(writes)
     feeder = threading.Thread(target=feed, args=(running.stdin, trace))
-    feeder.start()
     output = b""
-    while len(output) < first:
-        output += os.read(reads, first - len(output))
-    os.close(reads)
+    if first == 0:
+        os.close(reads)  # before it is handed a byte: a short run could write its line while the reader is still there
+    feeder.start()
+    if first:
+        while len(output) < first:
+            output += os.read(reads, first - len(output))
+        os.close(reads)
     feeder.join(MOST_SECONDS)
     heard = running.stderr.read().decode()
     return output, heard, running.wait(MOST_SECONDS)
