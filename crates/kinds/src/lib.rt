@@ -6,12 +6,32 @@ ghost use Rattle.std.specs.Prelude.{◌≡◌, ◌*◌, ◌≤◌, length};
 ghost use Rattle.lists.specs.Words.{below};
 ghost use Rattle.table.specs.Columns.{SHARES, guest_wide, most_guests};
 ghost use Rattle.entries.specs.Kinds.{passes, ends, gap_of, near_of, ends_at};
+ghost use Rattle.kinds.specs.Kind.{column_of};
 
-use table::columns::{GUEST_WIDE, LIMIT, MOST_GUESTS, RESERVATION, RNEXT};
+use table::columns::{GUEST_WIDE, LIMIT, MOST_GUESTS, RESERVATION, RNEXT, SHARES};
 use tags::{CEILING, Down, Rounding, Up};
 
 // The most that an idle guest's next number may be: the ceiling plus 64,000,000,000.
 const IDLE: u64 = CEILING + 64000000000;
+
+// A kind of tag by its name, for a caller that is given no column.
+#[derive(Clone, Copy)]
+pub enum Kind {
+    Reservation,
+    Limit,
+    Shares,
+}
+
+// The column of a kind's setting; its tags and its next numbers stand in the same order.
+pub fn column_of(kind: Kind) -> usize
+    ensures { (result ≡ column_of kind) × (result ≤ SHARES) }
+{
+    match kind {
+        Kind::Reservation => RESERVATION,
+        Kind::Limit => LIMIT,
+        Kind::Shares => SHARES,
+    }
+}
 
 // How far apart the tags of a kind stand at cost 1, by the guest's setting of that kind; 0 where the guest lacks it.
 pub fn gap_of(kind: usize, n: u64) -> u64
@@ -66,4 +86,17 @@ pub fn all_end(guests: &[u64], known: usize, kind: usize, floors: &[u64; MOST_GU
         }
     }
     true
+}
+
+#[cfg(test)]
+mod tests {
+    use super::*;
+
+    // A setting is its reservation, its limit and its shares, in this order.
+    #[test]
+    fn columns_stand_in_the_order_of_a_setting(rt: HostRuntime) {
+        assert_eq!(rt; column_of(Kind::Reservation), 0);
+        assert_eq!(rt; column_of(Kind::Limit), 1);
+        assert_eq!(rt; column_of(Kind::Shares), 2);
+    }
 }
